@@ -261,7 +261,7 @@ def missing_links(page, line):
 def missing_files(repository, names):
     """Names in a column of files, or that begin a point of a list of files, that are no definitions' file, crate or path."""
     for name in names:
-        if re.fullmatch(WORD, name) and name not in repository.crates and not repository.has_path(DEFINITIONS + name):
+        if re.fullmatch(WORD, name) and name not in repository.crates and not any(repository.has_path(DEFINITIONS + way + name) for way in ("", "*/")):
             yield f"no definitions' file {name}"
 
 

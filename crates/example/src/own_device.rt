@@ -1,10 +1,10 @@
 // A device of one's own, from nothing: a chip in memory, whose erases fill a block with 0xff.
 
 ghost use Rattle.std.specs.Prelude.{◌≡◌, ◌≤◌, ◌<◌, ◌+◌, ◌*◌, length, replicate};
-ghost use Rattle.lfs_model.specs.Blocks.{cut, bytes_after_overwrite_at};
-ghost use Rattle.lfs_model.specs.Conformance.{DoSuccessfulCallsHaveOnlyTheirEffect};
-ghost use Rattle.lfs_model.specs.History.{AreBlocksLeftByNewestCall};
-ghost use Rattle.lfs_device.specs.Bytes.{AreAllNumbersBytes};
+ghost use Rattle.lfs_model.specs.format.Blocks.{cut, overwritten_at};
+ghost use Rattle.lfs_model.specs.crash.Conformance.{CallsConform};
+ghost use Rattle.lfs_model.specs.session.History.{LeftByLatest};
+ghost use Rattle.lfs_device.specs.Bytes.{ElementsAreBytes};
 
 use lfs_device::{BlockDevice, Error, Geometry, Trace};
 use lfs_fs::format;
@@ -17,10 +17,10 @@ struct Chip {
     geometry: Geometry,
     bytes: Vec<u8>,
     trace: Trace,
-    ghost are_bytes: { AreAllNumbersBytes bytes.items },
+    ghost are_bytes: { ElementsAreBytes bytes.items },
     ghost size: { length bytes.items ≡ geometry.block_size * geometry.block_count },
-    ghost newest: { AreBlocksLeftByNewestCall trace.events (cut geometry.block_size geometry.block_count bytes.items) },
-    ghost conforms: { DoSuccessfulCallsHaveOnlyTheirEffect trace.events },
+    ghost newest: { LeftByLatest trace.events (cut geometry.block_size geometry.block_count bytes.items) },
+    ghost conforms: { CallsConform trace.events },
 }
 
 impl Chip {
@@ -31,7 +31,7 @@ impl Chip {
         Ok(Chip {
             geometry,
             bytes,
-            trace: Trace::with_history_chosen_by_proof(&geometry, &()),
+            trace: Trace::with_ghost_history(&geometry, &()),
         })
     }
 
@@ -48,7 +48,7 @@ impl Chip {
 // Writes bytes over those from an offset on.
 fn overwrite_chip_bytes_at_offset(all: &mut Vec<u8>, at: usize, bytes: &[u8])
     requires { at + length bytes.now ≤ length all.old.items }
-    ensures { all.new.items ≡ bytes_after_overwrite_at all.old.items at bytes.now }
+    ensures { all.new.items ≡ overwritten_at all.old.items at bytes.now }
 {
     all[at..at + bytes.len()].copy_from_slice(bytes);
 }
@@ -56,14 +56,14 @@ fn overwrite_chip_bytes_at_offset(all: &mut Vec<u8>, at: usize, bytes: &[u8])
 // Leaves 0xff in so many bytes from an offset on.
 fn fill_with_erased_bytes(all: &mut Vec<u8>, at: usize, len: usize)
     requires { at + len ≤ length all.old.items }
-    ensures filled { all.new.items ≡ bytes_after_overwrite_at all.old.items at (replicate len 255) }
-    ensures are_bytes { AreAllNumbersBytes all.old.items → AreAllNumbersBytes all.new.items }
+    ensures filled { all.new.items ≡ overwritten_at all.old.items at (replicate len 255) }
+    ensures are_bytes { ElementsAreBytes all.old.items → ElementsAreBytes all.new.items }
 {
     all[at..at + len].fill(0xff);
 }
 
 impl BlockDevice for Chip {
-    ghost use Rattle.lfs_model.proofs.Cuts.{HasBlocksOfCountAndSize-cut};
+    ghost use Rattle.lfs_model.proofs.Cuts.{HasBlockSizes-cut};
     ghost use Rattle.lfs_device.specs.ByteLists.{HasBytes-cut};
 
     ghost geometry = { λ d. d.geometry };
@@ -72,7 +72,7 @@ impl BlockDevice for Chip {
 
     ghost history = { λ d. d.trace.events };
 
-    ghost shape = { λ d. HasBlocksOfCountAndSize-cut d.geometry.block_size d.geometry.block_count d.bytes.items d.size };
+    ghost shape = { λ d. HasBlockSizes-cut d.geometry.block_size d.geometry.block_count d.bytes.items d.size };
 
     ghost bytes = { λ d. HasBytes-cut d.geometry.block_size d.geometry.block_count d.bytes.items d.are_bytes };
 
@@ -87,12 +87,12 @@ impl BlockDevice for Chip {
     fn read(&mut self, block: u32, off: u32, buf: &mut [u8]) -> Result<(), Error> {
         let start = self.position(block, off);
         buf.copy_from_slice(&self.bytes[start..start + buf.len()]);
-        self.trace = Trace::with_history_chosen_by_proof(self, &(block, off, buf.len()));
+        self.trace = Trace::with_ghost_history(self, &(block, off, buf.len()));
         Ok(())
     }
 
     fn prog(&mut self, block: u32, off: u32, bytes: &[u8]) -> Result<(), Error> {
-        let trace = Trace::with_history_chosen_by_proof(self, &(block, off, bytes));
+        let trace = Trace::with_ghost_history(self, &(block, off, bytes));
         let start = self.position(block, off);
         overwrite_chip_bytes_at_offset(&mut self.bytes, start, bytes);
         self.trace = trace;
@@ -100,7 +100,7 @@ impl BlockDevice for Chip {
     }
 
     fn erase(&mut self, block: u32) -> Result<(), Error> {
-        let trace = Trace::with_history_chosen_by_proof(self, &block);
+        let trace = Trace::with_ghost_history(self, &block);
         let start = self.position(block, 0);
         fill_with_erased_bytes(&mut self.bytes, start, self.geometry.block_size as usize);
         self.trace = trace;
@@ -116,7 +116,7 @@ impl BlockDevice for Chip {
         {
             return Ok(false);
         }
-        self.trace = Trace::with_history_chosen_by_proof(self, &(block, off, len));
+        self.trace = Trace::with_ghost_history(self, &(block, off, len));
         Ok(true)
     }
 }

@@ -46,7 +46,7 @@ fn read_log_repeatedly(block: &[u8], rounds: u32) -> u64 {
 // Takes the log by its known end `rounds` times, and returns the sum of the ends.
 fn take_log_by_known_end_repeatedly(block: &[u8], rounds: u32) -> u64 {
     let log = Log::read(block);
-    let (end, last) = (log.end(), log.last_tag_of_log());
+    let (end, last) = (log.end(), log.last_log_tag());
     let mut sum = 0u64;
     for _ in 0..rounds {
         sum = sum.wrapping_add(Log::with_known_end(block, end, last).end() as u64);

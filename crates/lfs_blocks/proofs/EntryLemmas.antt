@@ -10,8 +10,8 @@ use Rattle.std.proofs.lemmas.Option.{same_Some}
 use Rattle.std.proofs.lemmas.Map.Keys.{IsDistinct-cons}
 use Rattle.std.proofs.lemmas.Map.Made.{IsDistinct-keys_filter}
 use Rattle.lru.specs.LruCache.{LruCache, lru_cache, promoted, put_entries}
-use Rattle.lfs_model.specs.Cache.{cached_block_limit, cached_bytes_of_block, cache_with_block_first, cache_without_block}
-use Rattle.lfs_blocks.specs.Cache.{HasAtMostEightDistinctBlocks, cached_blocks_view}
+use Rattle.lfs_model.specs.layers.Cache.{cache_limit, cached_bytes, cache_with_block, cache_without_block}
+use Rattle.lfs_blocks.specs.CacheView.{HasAtMostEight, cached_view}
 
 module _ {V : Type 0} (b : ℕ) where
   -- the entries of other blocks
@@ -99,40 +99,40 @@ distinct-take (suc n) (e ∷ es) distinct = (IsAbsent-take e.0 n es distinct.0, 
 
 -- ---- what is shown
 
-pub length-shown : (es : List (ℕ × Vec ℕ Global)) → length (cached_blocks_view es) ≡ length es
+pub length-shown : (es : List (ℕ × Vec ℕ Global)) → length (cached_view es) ≡ length es
 length-shown [] = refl
 length-shown (e ∷ es) = ap suc (length-shown es)
 
-pub cached_bytes_of_block-shown : (es : List (ℕ × Vec ℕ Global)) (b : ℕ) → cached_bytes_of_block (cached_blocks_view es) b ≡ option_map (λ v. v.items) (lookup (nat_eq b) es)
-cached_bytes_of_block-shown [] b = refl
-cached_bytes_of_block-shown (e ∷ es) b = go (nat_eq b e.0) (cached_bytes_of_block-shown es b)
+pub cached_bytes-shown : (es : List (ℕ × Vec ℕ Global)) (b : ℕ) → cached_bytes (cached_view es) b ≡ option_map (λ v. v.items) (lookup (nat_eq b) es)
+cached_bytes-shown [] b = refl
+cached_bytes-shown (e ∷ es) b = go (nat_eq b e.0) (cached_bytes-shown es b)
   where
-    go : (t : Bool) → cached_bytes_of_block (cached_blocks_view es) b ≡ option_map (λ v. v.items) (lookup (nat_eq b) es)
-        → cond t (Some e.1.items) (cached_bytes_of_block (cached_blocks_view es) b) ≡ option_map (λ v. v.items) (cond t (Some e.1) (lookup (nat_eq b) es))
+    go : (t : Bool) → cached_bytes (cached_view es) b ≡ option_map (λ v. v.items) (lookup (nat_eq b) es)
+        → cond t (Some e.1.items) (cached_bytes (cached_view es) b) ≡ option_map (λ v. v.items) (cond t (Some e.1) (lookup (nat_eq b) es))
     go true next = refl
     go false next = next
 
-pub shown-rest : (es : List (ℕ × Vec ℕ Global)) (b : ℕ) → cached_blocks_view (rest b es) ≡ cache_without_block (cached_blocks_view es) b
+pub shown-rest : (es : List (ℕ × Vec ℕ Global)) (b : ℕ) → cached_view (rest b es) ≡ cache_without_block (cached_view es) b
 shown-rest [] b = refl
 shown-rest (e ∷ es) b = go (not (nat_eq b e.0)) (shown-rest es b)
   where
-    go : (t : Bool) → cached_blocks_view (rest b es) ≡ cache_without_block (cached_blocks_view es) b → cached_blocks_view (cond t (e ∷ rest b es) (rest b es)) ≡ cond t ((e.0, e.1.items) ∷ cache_without_block (cached_blocks_view es) b) (cache_without_block (cached_blocks_view es) b)
+    go : (t : Bool) → cached_view (rest b es) ≡ cache_without_block (cached_view es) b → cached_view (cond t (e ∷ rest b es) (rest b es)) ≡ cond t ((e.0, e.1.items) ∷ cache_without_block (cached_view es) b) (cache_without_block (cached_view es) b)
     go true next = ap (λ r. (e.0, e.1.items) ∷ r) next
     go false next = next
 
 -- ---- what is kept
 
-pub HasAtMostEightDistinctBlocks-rest : (recent : LruCache ℕ (Vec ℕ Global)) (b : ℕ) → HasAtMostEightDistinctBlocks recent → HasAtMostEightDistinctBlocks (lru_cache (rest b recent.entries) recent.cap)
-HasAtMostEightDistinctBlocks-rest recent b cache = record {
+pub HasAtMostEight-rest : (recent : LruCache ℕ (Vec ℕ Global)) (b : ℕ) → HasAtMostEight recent → HasAtMostEight (lru_cache (rest b recent.entries) recent.cap)
+HasAtMostEight-rest recent b cache = record {
   capacity = cache.capacity;
   few = omega (arith, cache.few, length-rest-le b recent.entries);
   distinct = IsDistinct-keys_filter nat_eq (λ e. not (nat_eq b e.0)) recent.entries cache.distinct;
 }
 
 -- without a block it is one too
-pub HasAtMostEightDistinctBlocks-none : (recent : LruCache ℕ (Vec ℕ Global)) → HasAtMostEightDistinctBlocks recent → HasAtMostEightDistinctBlocks (lru_cache [] recent.cap)
+pub HasAtMostEight-none : (recent : LruCache ℕ (Vec ℕ Global)) → HasAtMostEight recent → HasAtMostEight (lru_cache [] recent.cap)
 unfolding IsDistinct
-HasAtMostEightDistinctBlocks-none recent cache = record { capacity = cache.capacity; few = omega (arith); distinct = tt }
+HasAtMostEight-none recent cache = record { capacity = cache.capacity; few = omega (arith); distinct = tt }
 
 -- ---- a block that is made the most recent
 
@@ -148,9 +148,9 @@ is_some-option_map : {X Y : Type 0} (f : X → Y) (o : Option X) → is_some (op
 is_some-option_map f None = refl
 is_some-option_map f (Some x) = refl
 
-module _ (recent : LruCache ℕ (Vec ℕ Global)) (b : ℕ) (cache : HasAtMostEightDistinctBlocks recent) where
-  pub is_some-cached : is_some (cached_bytes_of_block (cached_blocks_view recent.entries) b) ≡ is_some (lookup (nat_eq b) recent.entries)
-  is_some-cached = ap is_some (cached_bytes_of_block-shown recent.entries b) ∙ is_some-option_map (λ v. v.items) (lookup (nat_eq b) recent.entries)
+module _ (recent : LruCache ℕ (Vec ℕ Global)) (b : ℕ) (cache : HasAtMostEight recent) where
+  pub is_some-cached : is_some (cached_bytes (cached_view recent.entries) b) ≡ is_some (lookup (nat_eq b) recent.entries)
+  is_some-cached = ap is_some (cached_bytes-shown recent.entries b) ∙ is_some-option_map (λ v. v.items) (lookup (nat_eq b) recent.entries)
 
   -- one that is there
   module _ (v : Vec ℕ Global) (has : lookup (nat_eq b) recent.entries ≡ Some v) where
@@ -159,10 +159,10 @@ module _ (recent : LruCache ℕ (Vec ℕ Global)) (b : ℕ) (cache : HasAtMostEi
         ap (λ o. option_map_or (λ e. e ∷ remove_entry (nat_eq b) recent.entries) o recent.entries) (lookup_entry-lookup b recent.entries v has)
         ∙ ap (λ r. (b, v) ∷ r) (remove_entry-distinct b recent.entries cache.distinct)
 
-    few-found : length ((b, v) ∷ rest b recent.entries) ≤ cached_block_limit
+    few-found : length ((b, v) ∷ rest b recent.entries) ≤ cache_limit
     few-found = omega (arith, length-rest b recent.entries v cache.distinct has, cache.few)
 
-    IsCache-found : HasAtMostEightDistinctBlocks (lru_cache (promoted (nat_eq b) recent.entries) recent.cap)
+    IsCache-found : HasAtMostEight (lru_cache (promoted (nat_eq b) recent.entries) recent.cap)
     IsCache-found = record {
       capacity = cache.capacity;
       few = rw promoted-found few-found;
@@ -170,12 +170,12 @@ module _ (recent : LruCache ℕ (Vec ℕ Global)) (b : ℕ) (cache : HasAtMostEi
           (IsDistinct-keys_filter nat_eq (λ e. not (nat_eq b e.0)) recent.entries cache.distinct));
     }
 
-    shown-found : (other : List ℕ) → cached_blocks_view (promoted (nat_eq b) recent.entries) ≡ cache_with_block_first (cached_blocks_view recent.entries) b (unwrap_or (cached_bytes_of_block (cached_blocks_view recent.entries) b) other)
+    shown-found : (other : List ℕ) → cached_view (promoted (nat_eq b) recent.entries) ≡ cache_with_block (cached_view recent.entries) b (unwrap_or (cached_bytes (cached_view recent.entries) b) other)
     shown-found other =
-        ap cached_blocks_view promoted-found
-        ∙ sym (take_all cached_block_limit (cached_blocks_view ((b, v) ∷ rest b recent.entries)) (omega (arith, few-found, length-shown ((b, v) ∷ rest b recent.entries))))
-        ∙ ap (λ r. take cached_block_limit ((b, v.items) ∷ r)) (shown-rest recent.entries b)
-        ∙ ap (λ o. cache_with_block_first (cached_blocks_view recent.entries) b (unwrap_or o other)) (sym (cached_bytes_of_block-shown recent.entries b ∙ ap (option_map (λ w. w.items)) has))
+        ap cached_view promoted-found
+        ∙ sym (take_all cache_limit (cached_view ((b, v) ∷ rest b recent.entries)) (omega (arith, few-found, length-shown ((b, v) ∷ rest b recent.entries))))
+        ∙ ap (λ r. take cache_limit ((b, v.items) ∷ r)) (shown-rest recent.entries b)
+        ∙ ap (λ o. cache_with_block (cached_view recent.entries) b (unwrap_or o other)) (sym (cached_bytes-shown recent.entries b ∙ ap (option_map (λ w. w.items)) has))
 
   -- one that isn't
   module _ (none : lookup (nat_eq b) recent.entries ≡ None) where
@@ -187,48 +187,48 @@ module _ (recent : LruCache ℕ (Vec ℕ Global)) (b : ℕ) (cache : HasAtMostEi
         ap (λ o. option_map_or (λ e. (e.0, v) ∷ remove_entry (nat_eq b) recent.entries) o ((b, v) ∷ take (recent.cap - 1) recent.entries)) (lookup_entry-none b recent.entries none)
         ∙ ap (λ n. (b, v) ∷ take (n - 1) recent.entries) cache.capacity
 
-    HasAtMostEightDistinctBlocks-new : (v : Vec ℕ Global) → HasAtMostEightDistinctBlocks (lru_cache (put_entries nat_eq recent b v) recent.cap)
-    HasAtMostEightDistinctBlocks-new v = record {
+    HasAtMostEight-new : (v : Vec ℕ Global) → HasAtMostEight (lru_cache (put_entries nat_eq recent b v) recent.cap)
+    HasAtMostEight-new v = record {
       capacity = cache.capacity;
       few = rw (put_entries-none v) (omega (arith, length-take 7 recent.entries));
       distinct = rw (put_entries-none v) (IsDistinct-cons nat_eq b (keys_of (take 7 recent.entries))
           (IsAbsent-take b 7 recent.entries (IsAbsent-lookup b recent.entries none)) (distinct-take 7 recent.entries cache.distinct));
     }
 
-    shown-new : (v : Vec ℕ Global) → cached_blocks_view (put_entries nat_eq recent b v) ≡ cache_with_block_first (cached_blocks_view recent.entries) b v.items
+    shown-new : (v : Vec ℕ Global) → cached_view (put_entries nat_eq recent b v) ≡ cache_with_block (cached_view recent.entries) b v.items
     shown-new v =
-        ap cached_blocks_view (put_entries-none v)
+        ap cached_view (put_entries-none v)
         ∙ ap (λ r. (b, v.items) ∷ r) (sym (take-map (λ (e : ℕ × Vec ℕ Global). (e.0, e.1.items)) 7 recent.entries))
-        ∙ ap (λ es. take cached_block_limit ((b, v.items) ∷ cached_blocks_view es)) (sym (rest-absent b recent.entries (IsAbsent-lookup b recent.entries none)))
-        ∙ ap (λ r. take cached_block_limit ((b, v.items) ∷ r)) (shown-rest recent.entries b)
+        ∙ ap (λ es. take cache_limit ((b, v.items) ∷ cached_view es)) (sym (rest-absent b recent.entries (IsAbsent-lookup b recent.entries none)))
+        ∙ ap (λ r. take cache_limit ((b, v.items) ∷ r)) (shown-rest recent.entries b)
 
   -- after `promote`
-  pub IsCache-promoted : HasAtMostEightDistinctBlocks (lru_cache (promoted (nat_eq b) recent.entries) recent.cap)
+  pub IsCache-promoted : HasAtMostEight (lru_cache (promoted (nat_eq b) recent.entries) recent.cap)
   IsCache-promoted = go (is_some (lookup (nat_eq b) recent.entries)) refl
     where
-      go : (r : Bool) → is_some (lookup (nat_eq b) recent.entries) ≡ r → HasAtMostEightDistinctBlocks (lru_cache (promoted (nat_eq b) recent.entries) recent.cap)
+      go : (r : Bool) → is_some (lookup (nat_eq b) recent.entries) ≡ r → HasAtMostEight (lru_cache (promoted (nat_eq b) recent.entries) recent.cap)
       go true is = let there = found (lookup (nat_eq b) recent.entries) is in IsCache-found there.0 there.1
       go false is = rw (promoted-none (not_found (lookup (nat_eq b) recent.entries) is)) cache
 
   pub shown-promoted : (r : Bool) → r ≡ is_some (lookup (nat_eq b) recent.entries)
-      → OnTrue r ((other : List ℕ) → cached_blocks_view (promoted (nat_eq b) recent.entries) ≡ cache_with_block_first (cached_blocks_view recent.entries) b (unwrap_or (cached_bytes_of_block (cached_blocks_view recent.entries) b) other))
+      → OnTrue r ((other : List ℕ) → cached_view (promoted (nat_eq b) recent.entries) ≡ cache_with_block (cached_view recent.entries) b (unwrap_or (cached_bytes (cached_view recent.entries) b) other))
   shown-promoted true is = let there = found (lookup (nat_eq b) recent.entries) (sym is) in shown-found there.0 there.1
   shown-promoted false is = tt
 
-  pub shown-not_promoted : (r : Bool) → r ≡ is_some (lookup (nat_eq b) recent.entries) → OnFalse r (cached_blocks_view (promoted (nat_eq b) recent.entries) ≡ cached_blocks_view recent.entries)
+  pub shown-not_promoted : (r : Bool) → r ≡ is_some (lookup (nat_eq b) recent.entries) → OnFalse r (cached_view (promoted (nat_eq b) recent.entries) ≡ cached_view recent.entries)
   shown-not_promoted true is = tt
-  shown-not_promoted false is = ap cached_blocks_view (promoted-none (not_found (lookup (nat_eq b) recent.entries) (sym is)))
+  shown-not_promoted false is = ap cached_view (promoted-none (not_found (lookup (nat_eq b) recent.entries) (sym is)))
 
   -- after `add_uncached_block` of a block that isn't there
-  module _ (none : cached_bytes_of_block (cached_blocks_view recent.entries) b ≡ None) (v : Vec ℕ Global) where
+  module _ (none : cached_bytes (cached_view recent.entries) b ≡ None) (v : Vec ℕ Global) where
     lookup-none : lookup (nat_eq b) recent.entries ≡ None
     lookup-none = not_found (lookup (nat_eq b) recent.entries) (sym is_some-cached ∙ ap is_some none)
 
-    pub IsCache-put : HasAtMostEightDistinctBlocks (lru_cache (put_entries nat_eq recent b v) recent.cap)
-    IsCache-put = HasAtMostEightDistinctBlocks-new lookup-none v
+    pub IsCache-put : HasAtMostEight (lru_cache (put_entries nat_eq recent b v) recent.cap)
+    IsCache-put = HasAtMostEight-new lookup-none v
 
-    pub shown-put : cached_blocks_view (put_entries nat_eq recent b v) ≡ cache_with_block_first (cached_blocks_view recent.entries) b v.items
+    pub shown-put : cached_view (put_entries nat_eq recent b v) ≡ cache_with_block (cached_view recent.entries) b v.items
     shown-put = shown-new lookup-none v
 
-pub few-shown : (recent : LruCache ℕ (Vec ℕ Global)) → HasAtMostEightDistinctBlocks recent → length (cached_blocks_view recent.entries) ≤ cached_block_limit
+pub few-shown : (recent : LruCache ℕ (Vec ℕ Global)) → HasAtMostEight recent → length (cached_view recent.entries) ≤ cache_limit
 few-shown recent cache = omega (arith, cache.few, length-shown recent.entries)

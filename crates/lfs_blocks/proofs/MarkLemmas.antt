@@ -5,9 +5,9 @@ use Rattle.std.specs.Int.{bit_at, bit_not, trailing_ones}
 use Rattle.std.proofs.lemmas.Nat.Bits.{and_pow, bit_at-lt, bit_at_or, bit_at_ones, bit_at_ones_above, bit_at-trailing_ones, bit_at_set_same, bit_at_set_other, bit_at_clear_other}
 use Rattle.std.proofs.lemmas.Nat.{one_shl, or_lt, pow_below, pow_pos}
 use mir.Val.{bits}
-use Rattle.lfs_model.specs.BlockSets.BlockState.{Free, InFlight, Used}
+use Rattle.lfs_model.specs.layers.BlockSets.BlockState.{Free, InFlight, Used}
 use Rattle.lfs_blocks.specs.declared.marks.Marks.{Marks}
-use Rattle.lfs_blocks.specs.Marks.{block_state_at_bit}
+use Rattle.lfs_blocks.specs.Marks.{state_at_bit}
 
 masked : (n k : ℕ) → k < 64 → bit_and n (1 * 2 ^ k % 2 ^ 64) ≡ bit_at n k * 2 ^ k
 masked n k lt = ap (bit_and n) (one_shl k 64 lt) ∙ and_pow n k
@@ -31,24 +31,24 @@ bit_at-tested_none n k lt none =
     zero_of (bit_at n k) (2 ^ k) (bit_at-lt n k) (pow_pos k) (sym (masked n k lt) ∙ none)
 
 -- the state by the bits
-pub block_state_at_bit-used : (m : Marks) (k : ℕ) → bit_at m.used k ≡ 1 → block_state_at_bit m k ≡ Used
-block_state_at_bit-used m k used = rw used
+pub state_at_bit-used : (m : Marks) (k : ℕ) → bit_at m.used k ≡ 1 → state_at_bit m k ≡ Used
+state_at_bit-used m k used = rw used
 
-pub block_state_at_bit-in_flight : (m : Marks) (k : ℕ) → bit_at m.used k ≡ 0 → bit_at m.in_flight k ≡ 1 → block_state_at_bit m k ≡ InFlight
-block_state_at_bit-in_flight m k used flying = rw (used, flying)
+pub state_at_bit-in_flight : (m : Marks) (k : ℕ) → bit_at m.used k ≡ 0 → bit_at m.in_flight k ≡ 1 → state_at_bit m k ≡ InFlight
+state_at_bit-in_flight m k used flying = rw (used, flying)
 
-pub block_state_at_bit-free : (m : Marks) (k : ℕ) → bit_at m.used k ≡ 0 → bit_at m.in_flight k ≡ 0 → block_state_at_bit m k ≡ Free
-block_state_at_bit-free m k used flying = rw (used, flying)
+pub state_at_bit-free : (m : Marks) (k : ℕ) → bit_at m.used k ≡ 0 → bit_at m.in_flight k ≡ 0 → state_at_bit m k ≡ Free
+state_at_bit-free m k used flying = rw (used, flying)
 
 -- two marks with the same bits
-pub block_state_at_bit-same : (m n : Marks) (k : ℕ) → bit_at m.used k ≡ bit_at n.used k → bit_at m.in_flight k ≡ bit_at n.in_flight k → block_state_at_bit m k ≡ block_state_at_bit n k
-block_state_at_bit-same m n k used flying = rw (used, flying)
+pub state_at_bit-same : (m n : Marks) (k : ℕ) → bit_at m.used k ≡ bit_at n.used k → bit_at m.in_flight k ≡ bit_at n.in_flight k → state_at_bit m k ≡ state_at_bit n k
+state_at_bit-same m n k used flying = rw (used, flying)
 
 -- a free block has neither bit
-pub bits-free : (m : Marks) (k : ℕ) → block_state_at_bit m k ≡ Free → (bit_at m.used k ≡ 0) × (bit_at m.in_flight k ≡ 0)
+pub bits-free : (m : Marks) (k : ℕ) → state_at_bit m k ≡ Free → (bit_at m.used k ≡ 0) × (bit_at m.in_flight k ≡ 0)
 bits-free m k free =
-    let used : bit_at m.used k ≡ 0 = none_of m.used k (λ one. let e = block_state_at_bit-used m k one in cc) in
-    (used, none_of m.in_flight k (λ one. let e = block_state_at_bit-in_flight m k used one in cc))
+    let used : bit_at m.used k ≡ 0 = none_of m.used k (λ one. let e = state_at_bit-used m k one in cc) in
+    (used, none_of m.in_flight k (λ one. let e = state_at_bit-in_flight m k used one in cc))
 
 -- a bit is set after it was cleared: it is there, and the others are as they were
 pub bit_at-put_same : (n k : ℕ) → k < 64 → bit_at (bit_or (bit_and n (bit_not w64 (1 * 2 ^ k % 2 ^ bits w64))) (1 * 2 ^ k % 2 ^ bits w64)) k ≡ 1
@@ -83,26 +83,26 @@ pub start_le : (m : Marks) (start place : ℕ) → start < 64 → bit_at (taken_
 start_le m start place lt none =
     ⊎_elim (λ before. absurd (taken_before m start place lt before none)) (λ from. from) (cases_lt place start)
 
-pub Free-untaken : (m : Marks) (start place : ℕ) → start < 64 → bit_at (taken_by m start) place ≡ 0 → block_state_at_bit m place ≡ Free
+pub Free-untaken : (m : Marks) (start place : ℕ) → start < 64 → bit_at (taken_by m start) place ≡ 0 → state_at_bit m place ≡ Free
 Free-untaken m start place lt none =
     let from = taken_from m start place lt (start_le m start place lt none) in
-    block_state_at_bit-free m place (omega (arith, from, none)) (omega (arith, from, none))
+    state_at_bit-free m place (omega (arith, from, none)) (omega (arith, from, none))
 
-pub taken-not_free : (m : Marks) (start place : ℕ) → start < 64 → start ≤ place → bit_at (taken_by m start) place ≡ 1 → block_state_at_bit m place ≢ Free
+pub taken-not_free : (m : Marks) (start place : ℕ) → start < 64 → start ≤ place → bit_at (taken_by m start) place ≡ 1 → state_at_bit m place ≢ Free
 taken-not_free m start place lt from one free =
     let clear = bits-free m place free in
     absurd (omega (arith, taken_from m start place lt from, one, clear.0, clear.1))
 
 -- all are taken
-pub not_free-from_full : (m : Marks) (start place : ℕ) → start < 64 → taken_by m start ≡ 2 ^ 64 - 1 → start ≤ place → place < 64 → block_state_at_bit m place ≢ Free
+pub not_free-from_full : (m : Marks) (start place : ℕ) → start < 64 → taken_by m start ≡ 2 ^ 64 - 1 → start ≤ place → place < 64 → state_at_bit m place ≢ Free
 not_free-from_full m start place lt full from within =
     taken-not_free m start place lt from (ap (λ n. bit_at n place) full ∙ bit_at_ones 64 place within)
 
 -- what the lowest 0 is
 pub record IsFirstFree (m : Marks) (start found : ℕ) : Type 0 where
-  pub free : block_state_at_bit m found ≡ Free
+  pub free : state_at_bit m found ≡ Free
   pub within : (start ≤ found) × (found < 64)
-  pub first : (place : ℕ) → start ≤ place → place < found → block_state_at_bit m place ≢ Free
+  pub first : (place : ℕ) → start ≤ place → place < found → state_at_bit m place ≢ Free
 
 taken_below : (m : Marks) (start : ℕ) → m.used < 2 ^ 64 → m.in_flight < 2 ^ 64 → start < 64 → taken_by m start < 2 ^ 64
 taken_below m start used flying lt =

@@ -1,5 +1,5 @@
 pub mod BlockMap
-pub mod Cache
+pub mod CacheView
 pub mod Marks
 pub mod Next
-pub mod Read
+pub mod BlockReads

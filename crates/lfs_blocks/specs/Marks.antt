@@ -1,20 +1,20 @@
 -- What the marks of 64 blocks mean for each.
 use Rattle.std.specs.Prelude.{ℕ, ◌==◌, if◌then◌else◌}
 use Rattle.std.specs.Int.{bit_at}
-use Rattle.lfs_model.specs.BlockSets.{BlockState}
-use Rattle.lfs_model.specs.BlockSets.BlockState.{Free, InFlight, Used}
+use Rattle.lfs_model.specs.layers.BlockSets.{BlockState}
+use Rattle.lfs_model.specs.layers.BlockSets.BlockState.{Free, InFlight, Used}
 use Rattle.lfs_blocks.specs.declared.marks.Marks.{Marks}
 use Rattle.lfs_blocks.specs.declared.marks.BlockUse.{BlockUse}
 use Rattle.lfs_blocks.specs.declared.marks.BlockUse.TheVariants as state
 
-abbrev pub block_state_of_block_use : BlockUse → BlockState
-block_state_of_block_use state.Free = Free
-block_state_of_block_use state.InFlight = InFlight
-block_state_of_block_use state.Used = Used
+abbrev pub use_state : BlockUse → BlockState
+use_state state.Free = Free
+use_state state.InFlight = InFlight
+use_state state.Used = Used
 
 -- the state of the block at a place
-abbrev pub block_state_at_bit : Marks → ℕ → BlockState
-block_state_at_bit marks place =
+abbrev pub state_at_bit : Marks → ℕ → BlockState
+state_at_bit marks place =
     if bit_at marks.used place == 1 then Used
     else if bit_at marks.in_flight place == 1 then InFlight
     else Free

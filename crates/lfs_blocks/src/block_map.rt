@@ -1,9 +1,9 @@
 ghost use Rattle.std.specs.Prelude.{◌≡◌, ◌≤◌, ◌<◌, ◌↔◌, ◌%◌, ℕ, Some, length, replicate, slice_get, slice_set, IsTrue, IfErr, IfNone, IfOk, IfSome};
 ghost use Rattle.std.specs.Bool.{OnFalse, OnTrue};
-ghost use Rattle.lfs_model.specs.BlockSets.{IsBlockFree, IsBlockInFlight, IsBlockMarkedUsedInMap, used_count};
-ghost use Rattle.lfs_model.specs.BlockSets.BlockState.{Free, InFlight, Used};
-ghost use Rattle.lfs_blocks.specs.Marks.{block_state_of_block_use};
-ghost use Rattle.lfs_blocks.specs.Next.{IsNextFreeBlockInCircle};
+ghost use Rattle.lfs_model.specs.layers.BlockSets.{IsFree, IsInFlight, IsUsedBlock, used_count};
+ghost use Rattle.lfs_model.specs.layers.BlockSets.BlockState.{Free, InFlight, Used};
+ghost use Rattle.lfs_blocks.specs.Marks.{use_state};
+ghost use Rattle.lfs_blocks.specs.Next.{IsNextFree};
 
 use crate::marks::{BlockUse, Marks};
 use lfs_device::Error;
@@ -26,14 +26,14 @@ pub struct BlockMap {
 
 impl Model for BlockMap {
     ghost use Rattle.std.specs.Prelude.{List};
-    ghost use Rattle.lfs_model.specs.BlockSets.{BlockState};
-    ghost use Rattle.lfs_blocks.specs.BlockMap.{MarksCoverBlocksAndCountUsed, block_states_of_marks};
+    ghost use Rattle.lfs_model.specs.layers.BlockSets.{BlockState};
+    ghost use Rattle.lfs_blocks.specs.BlockMap.{MarksCountUsed, marks_states};
 
     ghost Value = { List BlockState };
 
-    ghost view = { λ map. block_states_of_marks map.marks.items map.block_count };
+    ghost view = { λ map. marks_states map.marks.items map.block_count };
 
-    ghost invariant = { λ map. MarksCoverBlocksAndCountUsed map.marks.items map.block_count map.used_count };
+    ghost invariant = { λ map. MarksCountUsed map.marks.items map.block_count map.used_count };
 }
 
 impl BlockMap {
@@ -49,7 +49,7 @@ impl BlockMap {
     {
         let marks = Vec::from_elem(
             alloc,
-            Marks::with_all_blocks_free(),
+            Marks::all_free(),
             block_count.div_ceil(64) as usize,
         )?;
         Ok(BlockMap {
@@ -70,7 +70,7 @@ impl BlockMap {
     /// Returns whether a block is used. A block in flight isn't.
     pub fn is_used(&self, block: u32) -> bool
         requires { block < length self.now }
-        ensures { IsTrue result ↔ IsBlockMarkedUsedInMap self.now block }
+        ensures { IsTrue result ↔ IsUsedBlock self.now block }
     {
         self.state(block).is_used()
     }
@@ -78,7 +78,7 @@ impl BlockMap {
     /// Returns whether a block is in flight.
     pub fn is_in_flight(&self, block: u32) -> bool
         requires { block < length self.now }
-        ensures { IsTrue result ↔ IsBlockInFlight self.now block }
+        ensures { IsTrue result ↔ IsInFlight self.now block }
     {
         self.state(block).is_in_flight()
     }
@@ -94,7 +94,7 @@ impl BlockMap {
     /// changes.
     pub fn mark(&mut self, block: u32) -> bool
         requires { block < length self.old }
-        ensures free { IsTrue result ↔ IsBlockFree self.old block }
+        ensures free { IsTrue result ↔ IsFree self.old block }
         ensures marked { OnTrue result (self.new ≡ slice_set self.old block Used) }
         ensures same { OnFalse result (self.new ≡ self.old) }
     {
@@ -109,40 +109,40 @@ impl BlockMap {
     /// exactly where no block is free.
     ///
     /// The search begins after the block that was taken last, or where
-    /// [`set_search_start_to_first_free_from`](BlockMap::set_search_start_to_first_free_from) left it. So the blocks are taken in a circle.
+    /// [`start_search_at`](BlockMap::start_search_at) left it. So the blocks are taken in a circle.
     pub fn take(&mut self) -> Option<u32>
-        ensures was_free { IfSome result (IsBlockFree self.old) }
+        ensures was_free { IfSome result (IsFree self.old) }
         ensures taken { IfSome result (λ block. self.new ≡ slice_set self.old block InFlight) }
-        ensures none { IfNone result ((block : ℕ) → ¬ (IsBlockFree self.old block)) }
+        ensures none { IfNone result ((block : ℕ) → ¬ (IsFree self.old block)) }
         ensures same { IfNone result (self.new ≡ self.old) }
     {
         let number = self.next;
-        self.take_first_free_in_circle_from(number)
+        self.take_from(number)
     }
 
     /// Takes the first free block from `number` on, modulo the number of blocks. The first block
     /// follows the last one. Returns None exactly where no block is free.
-    pub fn take_first_free_in_circle_from(&mut self, number: u32) -> Option<u32>
-        ensures next { IfSome result (IsNextFreeBlockInCircle self.old (number % length self.old)) }
+    pub fn take_from(&mut self, number: u32) -> Option<u32>
+        ensures next { IfSome result (IsNextFree self.old (number % length self.old)) }
         ensures taken { IfSome result (λ block. self.new ≡ slice_set self.old block InFlight) }
-        ensures none { IfNone result ((block : ℕ) → ¬ (IsBlockFree self.old block)) }
+        ensures none { IfNone result ((block : ℕ) → ¬ (IsFree self.old block)) }
         ensures same { IfNone result (self.new ≡ self.old) }
     {
-        let block = self.next_free_block_in_circle(number)?;
+        let block = self.next_free(number)?;
         self.set_block_state(block, BlockUse::InFlight);
         self.next = block + 1;
         Some(block)
     }
 
     /// Sets where the search of [`take`](BlockMap::take) begins: at the first free block from
-    /// `number` on. Returns that block, which [`take_first_free_in_circle_from`](BlockMap::take_first_free_in_circle_from) would take. The
+    /// `number` on. Returns that block, which [`take_from`](BlockMap::take_from) would take. The
     /// states of the blocks stay. Returns None exactly where no block is free.
-    pub fn set_search_start_to_first_free_from(&mut self, number: u32) -> Option<u32>
-        ensures next { IfSome result (IsNextFreeBlockInCircle self.old (number % length self.old)) }
-        ensures none { IfNone result ((block : ℕ) → ¬ (IsBlockFree self.old block)) }
+    pub fn start_search_at(&mut self, number: u32) -> Option<u32>
+        ensures next { IfSome result (IsNextFree self.old (number % length self.old)) }
+        ensures none { IfNone result ((block : ℕ) → ¬ (IsFree self.old block)) }
         ensures same { self.new ≡ self.old }
     {
-        let block = self.next_free_block_in_circle(number)?;
+        let block = self.next_free(number)?;
         self.next = block;
         Some(block)
     }
@@ -157,7 +157,7 @@ impl BlockMap {
 
     /// Makes a block in flight used, after a commit that names it.
     pub fn settle(&mut self, block: u32)
-        requires { IsBlockInFlight self.old block }
+        requires { IsInFlight self.old block }
         ensures { self.new ≡ slice_set self.old block Used }
     {
         self.set_block_state(block, BlockUse::Used);
@@ -165,45 +165,45 @@ impl BlockMap {
 
     fn state(&self, block: u32) -> BlockUse
         requires { block < length self.now }
-        ensures { slice_get self.now block ≡ Some (block_state_of_block_use result) }
+        ensures { slice_get self.now block ≡ Some (use_state result) }
     {
         self.marks[block as usize / 64].state(block % 64)
     }
 
     fn set_block_state(&mut self, block: u32, state: BlockUse)
         requires { block < length self.old }
-        ensures { self.new ≡ slice_set self.old block (block_state_of_block_use state) }
+        ensures { self.new ≡ slice_set self.old block (use_state state) }
     {
         let marks = &mut self.marks[block as usize / 64];
         let was = marks.state(block % 64);
-        *marks = marks.with_state_at_bit(block % 64, state);
+        *marks = marks.with_state(block % 64, state);
         self.used_count -= u32::from(was.is_used());
         self.used_count += u32::from(state.is_used());
     }
 
     // Returns the first free block from a number on, in a circle.
-    fn next_free_block_in_circle(&self, number: u32) -> Option<u32>
-        ensures next { IfSome result (IsNextFreeBlockInCircle self.now (number % length self.now)) }
+    fn next_free(&self, number: u32) -> Option<u32>
+        ensures next { IfSome result (IsNextFree self.now (number % length self.now)) }
         ensures not_last { IfSome result (λ block. block < u32.MAX) }
-        ensures none { IfNone result ((block : ℕ) → ¬ (IsBlockFree self.now block)) }
+        ensures none { IfNone result ((block : ℕ) → ¬ (IsFree self.now block)) }
     {
         if self.block_count == 0 {
             return None;
         }
-        match self.first_free_block_from(number % self.block_count) {
+        match self.first_free_from(number % self.block_count) {
             Some(block) => Some(block),
-            None => self.first_free_block_from(0),
+            None => self.first_free_from(0),
         }
     }
 
     // Returns the first free block from a block on.
-    fn first_free_block_from(&self, start: u32) -> Option<u32>
+    fn first_free_from(&self, start: u32) -> Option<u32>
         requires { start ≤ length self.now }
-        ensures found { IfSome result (IsBlockFree self.now) }
+        ensures found { IfSome result (IsFree self.now) }
         ensures behind { IfSome result (λ found. start ≤ found) }
-        ensures first { IfSome result (λ found. (block : ℕ) → start ≤ block → block < found → ¬ (IsBlockFree self.now block)) }
+        ensures first { IfSome result (λ found. (block : ℕ) → start ≤ block → block < found → ¬ (IsFree self.now block)) }
         ensures not_last { IfSome result (λ block. block < u32.MAX) }
-        ensures none { IfNone result ((block : ℕ) → start ≤ block → ¬ (IsBlockFree self.now block)) }
+        ensures none { IfNone result ((block : ℕ) → start ≤ block → ¬ (IsFree self.now block)) }
     {
         let block_count = self.block_count as usize;
         let mut place = start % 64;

@@ -1,10 +1,10 @@
 ghost use Rattle.std.specs.Prelude.{◌≡◌, ◌⊎◌, ◌<◌, ◌≤◌, ◌+◌, ℕ, List, ◌∷◌, [], is_some, length, slice_range, unwrap_or, IfErr, IfOk, IfSome, None, OnErr, OnOk, option_copied, option_map};
 ghost use Rattle.std.specs.Bool.{OnFalse, OnTrue};
-ghost use Rattle.lfs_model.specs.Blocks.{block_bytes_by_number};
-ghost use Rattle.lfs_model.specs.Cache.{cached_block_limit, cached_bytes_of_block, cache_with_block_first, cache_without_block};
-ghost use Rattle.lfs_device.specs.Calls.{ReadsOnly, ReportsFaults};
-ghost use Rattle.lfs_model.specs.History.{read_count_of_history};
-ghost use Rattle.lfs_blocks.specs.Read.{ReadsBlockUnlessCached, ReadsOnceUnlessCached};
+ghost use Rattle.lfs_model.specs.format.Blocks.{block_bytes};
+ghost use Rattle.lfs_model.specs.layers.Cache.{cache_limit, cached_bytes, cache_with_block, cache_without_block};
+ghost use Rattle.lfs_device.specs.DeviceCalls.{ReadsOnly, ReportsFaults};
+ghost use Rattle.lfs_model.specs.session.History.{read_count};
+ghost use Rattle.lfs_blocks.specs.BlockReads.{ReadsBlockUnlessCached, ReadsOnceUnlessCached};
 
 use lfs_device::{BlockDevice, Error, read_block};
 use lru::LruCache;
@@ -25,13 +25,13 @@ pub struct Cache {
 
 impl Model for Cache {
     ghost use Rattle.std.specs.Prelude.{ℕ, List};
-    ghost use Rattle.lfs_blocks.specs.Cache.{HasAtMostEightDistinctBlocks, cached_blocks_view};
+    ghost use Rattle.lfs_blocks.specs.CacheView.{HasAtMostEight, cached_view};
 
     ghost Value = { List (ℕ × List ℕ) };
 
-    ghost view = { λ cache. cached_blocks_view cache.recent.entries };
+    ghost view = { λ cache. cached_view cache.recent.entries };
 
-    ghost invariant = { λ cache. HasAtMostEightDistinctBlocks cache.recent };
+    ghost invariant = { λ cache. HasAtMostEight cache.recent };
 }
 
 impl Cache {
@@ -57,10 +57,10 @@ impl Cache {
     pub fn fill<D: BlockDevice>(&mut self, device: &mut D, block: u32) -> Result<(), Error>
         requires { block < (D.geometry device.old).block_count }
         ensures filled { OnOk result (self.new
-            ≡ cache_with_block_first self.old block (unwrap_or (cached_bytes_of_block self.old block) (block_bytes_by_number (D.blocks device.old) block))) }
+            ≡ cache_with_block self.old block (unwrap_or (cached_bytes self.old block) (block_bytes (D.blocks device.old) block))) }
         ensures err { OnErr result (self.new ≡ self.old) }
-        ensures few { length self.new ≤ cached_block_limit }
-        ensures calls { ReadsBlockUnlessCached D.BlockDevice (cached_bytes_of_block self.old block) block device.old device.new result }
+        ensures few { length self.new ≤ cache_limit }
+        ensures calls { ReadsBlockUnlessCached D.BlockDevice (cached_bytes self.old block) block device.old device.new result }
         ensures device { ReadsOnly D.BlockDevice device.old device.new }
         ensures faults { ReportsFaults D.BlockDevice device.old device.new result }
         ensures errors { IfErr result (λ e. (e ≡ Error.Io) ⊎ (e ≡ Error.NoMemory)) }
@@ -88,10 +88,10 @@ impl Cache {
         buf: &mut [u8],
     ) -> Result<(), Error>
         requires inside { (block < (D.geometry device.old).block_count) × (offset + length buf.old ≤ (D.geometry device.old).block_size) }
-        requires current { IfSome (cached_bytes_of_block self.old block) (λ bytes. bytes ≡ block_bytes_by_number (D.blocks device.old) block) }
-        ensures bytes { OnOk result (buf.new ≡ slice_range (block_bytes_by_number (D.blocks device.old) block) offset (offset + length buf.old)) }
-        ensures cached { (self.new ≡ self.old) ⊎ (self.new ≡ cache_with_block_first self.old block (block_bytes_by_number (D.blocks device.old) block)) }
-        ensures few { ReadsOnceUnlessCached D.BlockDevice (cached_bytes_of_block self.old block) device.old device.new }
+        requires current { IfSome (cached_bytes self.old block) (λ bytes. bytes ≡ block_bytes (D.blocks device.old) block) }
+        ensures bytes { OnOk result (buf.new ≡ slice_range (block_bytes (D.blocks device.old) block) offset (offset + length buf.old)) }
+        ensures cached { (self.new ≡ self.old) ⊎ (self.new ≡ cache_with_block self.old block (block_bytes (D.blocks device.old) block)) }
+        ensures few { ReadsOnceUnlessCached D.BlockDevice (cached_bytes self.old block) device.old device.new }
         ensures device { ReadsOnly D.BlockDevice device.old device.new }
         ensures faults { ReportsFaults D.BlockDevice device.old device.new result }
         ensures errors { IfErr result (λ e. e ≡ Error.Io) }
@@ -114,7 +114,7 @@ impl Cache {
     /// Returns the bytes of a block, without a copy. Returns None where the block isn't cached.
     /// The order of the blocks stays as it is.
     pub fn lend(&self, block: u32) -> Option<&[u8]>
-        ensures { option_copied result ≡ cached_bytes_of_block self.now block }
+        ensures { option_copied result ≡ cached_bytes self.now block }
     {
         match self.recent.peek(&block) {
             Some(bytes) => Some(bytes.as_slice()),
@@ -127,7 +127,7 @@ impl Cache {
     ///
     /// The call takes no memory and makes no call of the device.
     pub fn take(&mut self, block: u32) -> Option<Vec<u8>>
-        ensures bytes { option_map (λ bytes. bytes.items) result ≡ cached_bytes_of_block self.old block }
+        ensures bytes { option_map (λ bytes. bytes.items) result ≡ cached_bytes self.old block }
         ensures others { self.new ≡ cache_without_block self.old block }
     {
         self.recent.pop(&block)
@@ -151,10 +151,10 @@ impl Cache {
 
     // Makes a cached block the most recent one. Returns whether the block is cached.
     fn promote(&mut self, block: u32) -> bool
-        ensures cached_log { result ≡ is_some (cached_bytes_of_block self.old block) }
-        ensures first { OnTrue result ((other : List ℕ) → self.new ≡ cache_with_block_first self.old block (unwrap_or (cached_bytes_of_block self.old block) other)) }
+        ensures cached_log { result ≡ is_some (cached_bytes self.old block) }
+        ensures first { OnTrue result ((other : List ℕ) → self.new ≡ cache_with_block self.old block (unwrap_or (cached_bytes self.old block) other)) }
         ensures same { OnFalse result (self.new ≡ self.old) }
-        ensures few { length self.new ≤ cached_block_limit }
+        ensures few { length self.new ≤ cache_limit }
     {
         self.recent.promote(&block)
     }
@@ -162,10 +162,10 @@ impl Cache {
     // Adds a block that isn't cached as the most recent one. The least recent block is dropped
     // where there were eight.
     fn add_uncached_block(&mut self, block: u32, bytes: Vec<u8>) -> Result<(), Error>
-        requires { cached_bytes_of_block self.old block ≡ None }
-        ensures first { OnOk result (self.new ≡ cache_with_block_first self.old block bytes.items) }
+        requires { cached_bytes self.old block ≡ None }
+        ensures first { OnOk result (self.new ≡ cache_with_block self.old block bytes.items) }
         ensures err { OnErr result (self.new ≡ self.old) }
-        ensures few { length self.new ≤ cached_block_limit }
+        ensures few { length self.new ≤ cache_limit }
         ensures error { IfErr result (λ e. e ≡ Error.NoMemory) }
     {
         self.recent.put(block, bytes)?;
@@ -174,8 +174,8 @@ impl Cache {
 
     // Adds a block that isn't cached as the most recent one, where memory for that is granted.
     fn keep_if_granted(&mut self, block: u32, bytes: Vec<u8>)
-        requires { cached_bytes_of_block self.old block ≡ None }
-        ensures { (self.new ≡ self.old) ⊎ (self.new ≡ cache_with_block_first self.old block bytes.items) }
+        requires { cached_bytes self.old block ≡ None }
+        ensures { (self.new ≡ self.old) ⊎ (self.new ≡ cache_with_block self.old block bytes.items) }
     {
         match self.add_uncached_block(block, bytes) {
             Ok(()) => {}
@@ -202,8 +202,8 @@ fn read_range<D: BlockDevice>(
     buf: &mut [u8],
 ) -> Result<(), Error>
     requires inside { (block < (D.geometry device.old).block_count) × (offset + length buf.old ≤ (D.geometry device.old).block_size) }
-    ensures bytes { OnOk result (buf.new ≡ slice_range (block_bytes_by_number (D.blocks device.old) block) offset (offset + length buf.old)) }
-    ensures few { read_count_of_history (D.history device.new) ≡ read_count_of_history (D.history device.old) + 1 }
+    ensures bytes { OnOk result (buf.new ≡ slice_range (block_bytes (D.blocks device.old) block) offset (offset + length buf.old)) }
+    ensures few { read_count (D.history device.new) ≡ read_count (D.history device.old) + 1 }
     ensures device { ReadsOnly D.BlockDevice device.old device.new }
     ensures faults { ReportsFaults D.BlockDevice device.old device.new result }
     ensures errors { IfErr result (λ e. e ≡ Error.Io) }

@@ -1,9 +1,9 @@
 //! The states of 64 blocks in two words.
 
 ghost use Rattle.std.specs.Prelude.{◌≡◌, ◌≢◌, ℕ, ◌<◌, ◌≤◌, IfNone, IfSome};
-ghost use Rattle.lfs_model.specs.BlockSets.{is_block_state_in_flight, is_used};
-ghost use Rattle.lfs_model.specs.BlockSets.BlockState.{Free};
-ghost use Rattle.lfs_blocks.specs.Marks.{block_state_of_block_use, block_state_at_bit};
+ghost use Rattle.lfs_model.specs.layers.BlockSets.{state_in_flight, is_used};
+ghost use Rattle.lfs_model.specs.layers.BlockSets.BlockState.{Free};
+ghost use Rattle.lfs_blocks.specs.Marks.{use_state, state_at_bit};
 
 /// The state of a block in the map.
 #[derive(Clone, Copy, PartialEq, Eq)]
@@ -15,13 +15,13 @@ pub enum BlockUse {
 
 impl BlockUse {
     pub fn is_used(self) -> bool
-        ensures { result ≡ is_used (block_state_of_block_use self) }
+        ensures { result ≡ is_used (use_state self) }
     {
         matches!(self, BlockUse::Used)
     }
 
     pub fn is_in_flight(self) -> bool
-        ensures { result ≡ is_block_state_in_flight (block_state_of_block_use self) }
+        ensures { result ≡ state_in_flight (use_state self) }
     {
         matches!(self, BlockUse::InFlight)
     }
@@ -36,8 +36,8 @@ pub struct Marks {
 
 impl Marks {
     /// Makes marks of 64 free blocks.
-    pub fn with_all_blocks_free() -> Marks
-        ensures { (place : ℕ) → block_state_at_bit result place ≡ Free }
+    pub fn all_free() -> Marks
+        ensures { (place : ℕ) → state_at_bit result place ≡ Free }
     {
         Marks {
             used: 0,
@@ -47,7 +47,7 @@ impl Marks {
 
     pub fn state(self, place: u32) -> BlockUse
         requires { place < 64 }
-        ensures { block_state_of_block_use result ≡ block_state_at_bit self place }
+        ensures { use_state result ≡ state_at_bit self place }
     {
         let bit = 1u64 << place;
         if self.used & bit != 0 {
@@ -60,10 +60,10 @@ impl Marks {
     }
 
     /// Returns the same marks with one block in another state.
-    pub fn with_state_at_bit(self, place: u32, state: BlockUse) -> Marks
+    pub fn with_state(self, place: u32, state: BlockUse) -> Marks
         requires { place < 64 }
-        ensures here { block_state_at_bit result place ≡ block_state_of_block_use state }
-        ensures others { (other : ℕ) → other < 64 → other ≢ place → block_state_at_bit result other ≡ block_state_at_bit self other }
+        ensures here { state_at_bit result place ≡ use_state state }
+        ensures others { (other : ℕ) → other < 64 → other ≢ place → state_at_bit result other ≡ state_at_bit self other }
     {
         let bit = 1u64 << place;
         let used = self.used & !bit;
@@ -84,10 +84,10 @@ impl Marks {
     /// Returns the place of the first free block from a place on.
     pub fn first_free(self, start: u32) -> Option<u32>
         requires { start < 64 }
-        ensures found { IfSome result (λ place. block_state_at_bit self place ≡ Free) }
+        ensures found { IfSome result (λ place. state_at_bit self place ≡ Free) }
         ensures within { IfSome result (λ place. (start ≤ place) × (place < 64)) }
-        ensures first { IfSome result (λ found. (place : ℕ) → start ≤ place → place < found → block_state_at_bit self place ≢ Free) }
-        ensures none { IfNone result ((place : ℕ) → start ≤ place → place < 64 → block_state_at_bit self place ≢ Free) }
+        ensures first { IfSome result (λ found. (place : ℕ) → start ≤ place → place < found → state_at_bit self place ≢ Free) }
+        ensures none { IfNone result ((place : ℕ) → start ≤ place → place < 64 → state_at_bit self place ≢ Free) }
     {
         let passed = (1u64 << start) - 1;
         let taken = self.used | self.in_flight | passed;

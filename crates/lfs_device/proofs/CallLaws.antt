@@ -1,50 +1,50 @@
 -- What calls do to a device together, from what each of them does.
 use Rattle.std.proofs.Common.{◌≡◌, ◌≢◌, ℕ, Bool, List, [], ◌∷◌, refl, sym, ◌∙◌, subst}
 use Rattle.lfs_device.specs.declared.device.BlockDevice.{Ghosts}
-use Rattle.lfs_device.specs.Calls.{ReadsOnly, ChangesOnlyThisBlock}
-use Rattle.lfs_model.specs.Blocks.{AreBlocksEqualExceptOne}
-use Rattle.lfs_model.specs.History.{device_call_event_with_blocks}
-use Rattle.lfs_model.specs.History.DeviceCall.{Read, Program, Erase, Blank}
-use Rattle.lfs_model.proofs.Histories.{began, goes_on, goes_on_by, IsTrueAfterAnyPowerLossSince-weaker, IsTrueAfterAnyPowerLossSince-read_count_of_history, ArePossibleBlocksAfterPowerLossInCall-read, AreCallsSinceOnlyReads-read, AreBytesStillUnprogrammed-trans, AreBytesStillUnprogrammed-read_count_of_history, AreBytesStillUnprogrammed-erase, AreBytesStillUnprogrammed-program, AreBytesStillUnprogrammed-blank}
-use Rattle.lfs_model.proofs.Overwrites.{AreBlocksEqualExceptOne-refl, AreBlocksEqualExceptOne-trans}
+use Rattle.lfs_device.specs.DeviceCalls.{ReadsOnly, ChangesOnlyThisBlock}
+use Rattle.lfs_model.specs.format.Blocks.{SameExcept}
+use Rattle.lfs_model.specs.session.History.{call_event}
+use Rattle.lfs_model.specs.session.History.DeviceCall.{Read, Program, Erase, Blank}
+use Rattle.lfs_model.proofs.Histories.{began, goes_on, goes_on_by, HoldsAtLosses-weaker, HoldsAtLosses-read_count, LossLeavesAtWorst-read, OnlyReadsSince-read, StayUnprogrammed-trans, StayUnprogrammed-read_count, StayUnprogrammed-erase, StayUnprogrammed-program, StayUnprogrammed-blank}
+use Rattle.lfs_model.proofs.Overwrites.{SameExcept-refl, SameExcept-trans}
 
 module _ {D : Type 0} (g : Ghosts D) where
-  pub ReadsOnly-read : {old new : D} {b off len : ℕ} {failed : Bool} → g.history new ≡ device_call_event_with_blocks (Read b off len) (g.blocks old) (g.blocks new) failed ∷ g.history old
+  pub ReadsOnly-read : {old new : D} {b off len : ℕ} {failed : Bool} → g.history new ≡ call_event (Read b off len) (g.blocks old) (g.blocks new) failed ∷ g.history old
       → g.blocks new ≡ g.blocks old → g.geometry new ≡ g.geometry old → ReadsOnly g old new
-  ReadsOnly-read is same geometry = record { same = same; geometry = geometry; reads = AreCallsSinceOnlyReads-read began is refl same }
+  ReadsOnly-read is same geometry = record { same = same; geometry = geometry; reads = OnlyReadsSince-read began is refl same }
 
   -- ---- one block
 
   pub ChangesOnlyThisBlock-reads : {old new : D} (b : ℕ) → ReadsOnly g old new → ChangesOnlyThisBlock g b old new
   ChangesOnlyThisBlock-reads {old} b only = record {
-    others = subst (AreBlocksEqualExceptOne b (g.blocks old)) (sym only.same) (AreBlocksEqualExceptOne-refl b (g.blocks old));
-    elsewhere = AreBytesStillUnprogrammed-read_count_of_history (b ∷ []) only.reads;
+    others = subst (SameExcept b (g.blocks old)) (sym only.same) (SameExcept-refl b (g.blocks old));
+    elsewhere = StayUnprogrammed-read_count (b ∷ []) only.reads;
     geometry = only.geometry;
-    at_worst = IsTrueAfterAnyPowerLossSince-read_count_of_history ArePossibleBlocksAfterPowerLossInCall-read only.reads (AreBlocksEqualExceptOne-refl b (g.blocks old));
+    at_worst = HoldsAtLosses-read_count LossLeavesAtWorst-read only.reads (SameExcept-refl b (g.blocks old));
   }
 
   pub ChangesOnlyThisBlock-trans : {b : ℕ} {old mid new : D} → ChangesOnlyThisBlock g b old mid → ChangesOnlyThisBlock g b mid new → ChangesOnlyThisBlock g b old new
   ChangesOnlyThisBlock-trans first second = record {
-    others = AreBlocksEqualExceptOne-trans first.others second.others;
-    elsewhere = AreBytesStillUnprogrammed-trans first.elsewhere second.elsewhere;
+    others = SameExcept-trans first.others second.others;
+    elsewhere = StayUnprogrammed-trans first.elsewhere second.elsewhere;
     geometry = second.geometry ∙ first.geometry;
-    at_worst = goes_on_by first.at_worst (IsTrueAfterAnyPowerLossSince-weaker (λ disk left. AreBlocksEqualExceptOne-trans first.others left) second.at_worst);
+    at_worst = goes_on_by first.at_worst (HoldsAtLosses-weaker (λ disk left. SameExcept-trans first.others left) second.at_worst);
   }
 
-  pub ChangesOnlyThisBlock-erase : {old new : D} {b : ℕ} {failed : Bool} → g.history new ≡ device_call_event_with_blocks (Erase b) (g.blocks old) (g.blocks new) failed ∷ g.history old
-      → AreBlocksEqualExceptOne b (g.blocks old) (g.blocks new) → g.geometry new ≡ g.geometry old → ChangesOnlyThisBlock g b old new
+  pub ChangesOnlyThisBlock-erase : {old new : D} {b : ℕ} {failed : Bool} → g.history new ≡ call_event (Erase b) (g.blocks old) (g.blocks new) failed ∷ g.history old
+      → SameExcept b (g.blocks old) (g.blocks new) → g.geometry new ≡ g.geometry old → ChangesOnlyThisBlock g b old new
   ChangesOnlyThisBlock-erase is others geometry = record {
     others = others;
-    elsewhere = AreBytesStillUnprogrammed-erase is;
+    elsewhere = StayUnprogrammed-erase is;
     geometry = geometry;
     at_worst = goes_on began is (λ disk left. left);
   }
 
-  pub ChangesOnlyThisBlock-program : {old new : D} {b off : ℕ} {bytes : List ℕ} {failed : Bool} → g.history new ≡ device_call_event_with_blocks (Program b off bytes) (g.blocks old) (g.blocks new) failed ∷ g.history old
-      → AreBlocksEqualExceptOne b (g.blocks old) (g.blocks new) → g.geometry new ≡ g.geometry old → ChangesOnlyThisBlock g b old new
+  pub ChangesOnlyThisBlock-program : {old new : D} {b off : ℕ} {bytes : List ℕ} {failed : Bool} → g.history new ≡ call_event (Program b off bytes) (g.blocks old) (g.blocks new) failed ∷ g.history old
+      → SameExcept b (g.blocks old) (g.blocks new) → g.geometry new ≡ g.geometry old → ChangesOnlyThisBlock g b old new
   ChangesOnlyThisBlock-program is others geometry = record {
     others = others;
-    elsewhere = AreBytesStillUnprogrammed-program is;
+    elsewhere = StayUnprogrammed-program is;
     geometry = geometry;
     at_worst = goes_on began is (λ disk left. left);
   }

@@ -6,33 +6,33 @@ use Rattle.lfs_device.specs.declared.error.Error.{Error}
 use Rattle.lfs_device.specs.declared.fault.FaultExtent.{FaultExtent}
 use Rattle.lfs_device.specs.declared.fault.FaultExtent.TheVariants.{Nothing, FirstBytes, Whole}
 use Rattle.lfs_device.specs.declared.fault.PlannedFault.{PlannedFault}
-use Rattle.lfs_model.specs.Blocks.{Blocks}
-use Rattle.lfs_model.specs.History.{DeviceCall, Read, Program, Erase, Blank, DeviceCallEvent, device_call_event_with_blocks, fault_count_of_history, is_byte_unprogrammed, is_byte_unprogrammed_after_call}
-use Rattle.lfs_device.specs.Fault.{is_counted_call, is_nth_counted_call, has_device_stopped, is_call_to_fail, extent_of_call_if_due_to_fail, have_due_calls_failed, count_of_unplanned_faults}
-use Rattle.lfs_device.specs.CallsBelow.{PassesCallOrFailsAtPlannedExtent}
+use Rattle.lfs_model.specs.format.Blocks.{Blocks}
+use Rattle.lfs_model.specs.session.History.{DeviceCall, Read, Program, Erase, Blank, CallEvent, call_event, fault_count, is_unprogrammed_byte, unprogrammed_after}
+use Rattle.lfs_device.specs.Fault.{is_counted, is_nth_call, has_stopped, is_to_fail, extent_if_due, have_due_failed, unplanned_faults}
+use Rattle.lfs_device.specs.CallsBelow.{PassesCallOrFails}
 
 -- the two ways to say that a call is to fail
-is_call_to_fail-is_some : (fault : PlannedFault) (call : DeviceCall) (older : List DeviceCallEvent) → is_call_to_fail fault.which fault.nth fault.stops call older ≡ is_some (extent_of_call_if_due_to_fail fault call older)
-is_call_to_fail-is_some fault call older = either (is_nth_counted_call (is_counted_call fault.which call) fault.which fault.nth older) (has_device_stopped fault.which fault.nth fault.stops older)
+is_to_fail-is_some : (fault : PlannedFault) (call : DeviceCall) (older : List CallEvent) → is_to_fail fault.which fault.nth fault.stops call older ≡ is_some (extent_if_due fault call older)
+is_to_fail-is_some fault call older = either (is_nth_call (is_counted fault.which call) fault.which fault.nth older) (has_stopped fault.which fault.nth fault.stops older)
   where
     either : (a b : Bool) → (a || b) ≡ is_some (cond a (Some fault.extent) (cond b (Some Nothing) None))
     either true b = refl
     either false true = refl
     either false false = refl
 
-fails_if_due : {D : Type 0} (g : Ghosts D) (o : Option FaultExtent) (call : DeviceCall) (failed : Bool) (old new : D) → PassesCallOrFailsAtPlannedExtent g o call failed old new → is_some o ≡ true → failed ≡ true
+fails_if_due : {D : Type 0} (g : Ghosts D) (o : Option FaultExtent) (call : DeviceCall) (failed : Bool) (old new : D) → PassesCallOrFails g o call failed old new → is_some o ≡ true → failed ≡ true
 fails_if_due g None call failed old new carried is = absurd (cc)
 fails_if_due g (Some Nothing) call failed old new carried is = carried.0
 fails_if_due g (Some (FirstBytes k)) call failed old new carried is = carried.0
 fails_if_due g (Some Whole) call failed old new carried is = carried.0
 
-pub have_due_calls_failed-call : {D : Type 0} {call : DeviceCall} {failed : Bool} {before after : Blocks} {older later : List DeviceCallEvent} (g : Ghosts D) (fault : PlannedFault) (old new : D)
-    → PassesCallOrFailsAtPlannedExtent g (extent_of_call_if_due_to_fail fault call older) call failed old new → later ≡ device_call_event_with_blocks call before after failed ∷ older
-    → have_due_calls_failed fault.which fault.nth fault.stops older ≡ true → have_due_calls_failed fault.which fault.nth fault.stops later ≡ true
-have_due_calls_failed-call {call = call} {failed = failed} {older = older} g fault old new carried is so_far =
-    ap (have_due_calls_failed fault.which fault.nth fault.stops) is
-    ∙ ap (λ rest. (not (is_call_to_fail fault.which fault.nth fault.stops call older) || failed) && rest) so_far
-    ∙ here (is_call_to_fail fault.which fault.nth fault.stops call older) failed (λ to_fail. fails_if_due g (extent_of_call_if_due_to_fail fault call older) call failed old new carried (sym (is_call_to_fail-is_some fault call older) ∙ to_fail))
+pub have_due_failed-call : {D : Type 0} {call : DeviceCall} {failed : Bool} {before after : Blocks} {older later : List CallEvent} (g : Ghosts D) (fault : PlannedFault) (old new : D)
+    → PassesCallOrFails g (extent_if_due fault call older) call failed old new → later ≡ call_event call before after failed ∷ older
+    → have_due_failed fault.which fault.nth fault.stops older ≡ true → have_due_failed fault.which fault.nth fault.stops later ≡ true
+have_due_failed-call {call = call} {failed = failed} {older = older} g fault old new carried is so_far =
+    ap (have_due_failed fault.which fault.nth fault.stops) is
+    ∙ ap (λ rest. (not (is_to_fail fault.which fault.nth fault.stops call older) || failed) && rest) so_far
+    ∙ here (is_to_fail fault.which fault.nth fault.stops call older) failed (λ to_fail. fails_if_due g (extent_if_due fault call older) call failed old new carried (sym (is_to_fail-is_some fault call older) ∙ to_fail))
   where
     here : (to_fail failed : Bool) → (to_fail ≡ true → failed ≡ true) → ((not to_fail || failed) && true) ≡ true
     here true true of = refl
@@ -40,30 +40,30 @@ have_due_calls_failed-call {call = call} {failed = failed} {older = older} g fau
     here false failed of = refl
 
 -- how many faults a call adds that wasn't to fail
-adds_undue : {D : Type 0} (g : Ghosts D) (o : Option FaultExtent) (call : DeviceCall) (failed : Bool) (old new : D) → PassesCallOrFailsAtPlannedExtent g o call failed old new
-    → fault_count_of_history (g.history old) ≤ fault_count_of_history (g.history new) → fault_count_of_history (g.history old) + cond (failed && not (is_some o)) 1 0 ≤ fault_count_of_history (g.history new)
-adds_undue g None call true old new carried grow = let more : fault_count_of_history (g.history new) ≡ fault_count_of_history (g.history old) + 1 = ap fault_count_of_history carried in omega (arith, more)
+adds_undue : {D : Type 0} (g : Ghosts D) (o : Option FaultExtent) (call : DeviceCall) (failed : Bool) (old new : D) → PassesCallOrFails g o call failed old new
+    → fault_count (g.history old) ≤ fault_count (g.history new) → fault_count (g.history old) + cond (failed && not (is_some o)) 1 0 ≤ fault_count (g.history new)
+adds_undue g None call true old new carried grow = let more : fault_count (g.history new) ≡ fault_count (g.history old) + 1 = ap fault_count carried in omega (arith, more)
 adds_undue g None call false old new carried grow = omega (arith, grow)
 adds_undue g (Some extent) call true old new carried grow = omega (arith, grow)
 adds_undue g (Some extent) call false old new carried grow = omega (arith, grow)
 
-pub count_of_unplanned_faults-call : {D : Type 0} {call : DeviceCall} {failed : Bool} {before after : Blocks} {older later : List DeviceCallEvent} (g : Ghosts D) (fault : PlannedFault) (old new : D)
-    → PassesCallOrFailsAtPlannedExtent g (extent_of_call_if_due_to_fail fault call older) call failed old new → later ≡ device_call_event_with_blocks call before after failed ∷ older → fault_count_of_history (g.history old) ≤ fault_count_of_history (g.history new)
-    → count_of_unplanned_faults fault.which fault.nth fault.stops older ≤ fault_count_of_history (g.history old) → count_of_unplanned_faults fault.which fault.nth fault.stops later ≤ fault_count_of_history (g.history new)
-count_of_unplanned_faults-call {call = call} {failed = failed} {older = older} {later = later} g fault old new carried is grow so_far =
-    let u = count_of_unplanned_faults fault.which fault.nth fault.stops in
-    let adds : u later ≡ u older + cond (failed && not (is_some (extent_of_call_if_due_to_fail fault call older))) 1 0 =
-    ap u is ∙ ap (λ d. u older + cond (failed && not d) 1 0) (is_call_to_fail-is_some fault call older) in
-    let more = adds_undue g (extent_of_call_if_due_to_fail fault call older) call failed old new carried grow in
+pub unplanned_faults-call : {D : Type 0} {call : DeviceCall} {failed : Bool} {before after : Blocks} {older later : List CallEvent} (g : Ghosts D) (fault : PlannedFault) (old new : D)
+    → PassesCallOrFails g (extent_if_due fault call older) call failed old new → later ≡ call_event call before after failed ∷ older → fault_count (g.history old) ≤ fault_count (g.history new)
+    → unplanned_faults fault.which fault.nth fault.stops older ≤ fault_count (g.history old) → unplanned_faults fault.which fault.nth fault.stops later ≤ fault_count (g.history new)
+unplanned_faults-call {call = call} {failed = failed} {older = older} {later = later} g fault old new carried is grow so_far =
+    let u = unplanned_faults fault.which fault.nth fault.stops in
+    let adds : u later ≡ u older + cond (failed && not (is_some (extent_if_due fault call older))) 1 0 =
+    ap u is ∙ ap (λ d. u older + cond (failed && not d) 1 0) (is_to_fail-is_some fault call older) in
+    let more = adds_undue g (extent_if_due fault call older) call failed old new carried grow in
     omega (arith, adds, more, so_far)
 
 -- what is unprogrammed above is so below
-pub below-call : {call : DeviceCall} {failed : Bool} {before after : Blocks} {older later : List DeviceCallEvent} (old new : List DeviceCallEvent) → later ≡ device_call_event_with_blocks call before after failed ∷ older
-    → ((b k : ℕ) → is_byte_unprogrammed older b k ≡ true → is_byte_unprogrammed old b k ≡ true)
-    → ((b k : ℕ) → is_byte_unprogrammed_after_call call failed b k (is_byte_unprogrammed old b k) ≡ true → is_byte_unprogrammed new b k ≡ true)
-    → (b k : ℕ) → is_byte_unprogrammed later b k ≡ true → is_byte_unprogrammed new b k ≡ true
+pub below-call : {call : DeviceCall} {failed : Bool} {before after : Blocks} {older later : List CallEvent} (old new : List CallEvent) → later ≡ call_event call before after failed ∷ older
+    → ((b k : ℕ) → is_unprogrammed_byte older b k ≡ true → is_unprogrammed_byte old b k ≡ true)
+    → ((b k : ℕ) → unprogrammed_after call failed b k (is_unprogrammed_byte old b k) ≡ true → is_unprogrammed_byte new b k ≡ true)
+    → (b k : ℕ) → is_unprogrammed_byte later b k ≡ true → is_unprogrammed_byte new b k ≡ true
 below-call {call} {failed} {older = older} old new is below keeps b k was =
-    keeps b k (more call (is_byte_unprogrammed older b k) (is_byte_unprogrammed old b k) (below b k) (sym (ap (λ (h : List DeviceCallEvent). is_byte_unprogrammed h b k) is) ∙ was))
+    keeps b k (more call (is_unprogrammed_byte older b k) (is_unprogrammed_byte old b k) (below b k) (sym (ap (λ (h : List CallEvent). is_unprogrammed_byte h b k) is) ∙ was))
   where
     both : (t x y : Bool) → (x ≡ true → y ≡ true) → (x && t) ≡ true → (y && t) ≡ true
     both t true y of here = ap (λ v. v && t) (of refl) ∙ here
@@ -73,7 +73,7 @@ below-call {call} {failed} {older = older} old new is below keeps b k was =
     either true f x y of here = here
     either false f x y of here = of here
 
-    more : (call : DeviceCall) (x y : Bool) → (x ≡ true → y ≡ true) → is_byte_unprogrammed_after_call call failed b k x ≡ true → is_byte_unprogrammed_after_call call failed b k y ≡ true
+    more : (call : DeviceCall) (x y : Bool) → (x ≡ true → y ≡ true) → unprogrammed_after call failed b k x ≡ true → unprogrammed_after call failed b k y ≡ true
     more (Read at off len) x y of here = of here
     more (Program at off bytes) x y of here = both (not (b == at && nat_le off k && nat_lt k (off + length bytes))) x y of here
     more (Erase at) x y of here = either (b == at) (not failed) x y of here

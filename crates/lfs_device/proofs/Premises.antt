@@ -1,11 +1,11 @@
 -- One more call meets what is supposed of a device's calls.
 use Rattle.std.proofs.Common.{◌≡◌, ℕ, Bool, true, false, cond, length, Option, Some, None, List, [], ◌∷◌, inl, inr, refl, sym, subst, ◌∙◌}
 use Rattle.std.proofs.Math.Logic.{∥∥₁_map}
-use Rattle.lfs_model.specs.Blocks.{Blocks, block_bytes_by_number}
-use Rattle.lfs_model.specs.History.{DeviceCall, Read, Program, Erase, Blank, DeviceCallEvent, device_call_event_with_blocks}
-use Rattle.lfs_model.specs.Conformance.{DoSuccessfulCallsHaveOnlyTheirEffect}
-use Rattle.lfs_model.specs.Premises.{IsHistoryMeetingPowerLossPremises}
-use Rattle.lfs_model.specs.Stops.{MayStoppedEraseLeaveBlock}
+use Rattle.lfs_model.specs.format.Blocks.{Blocks, block_bytes}
+use Rattle.lfs_model.specs.session.History.{DeviceCall, Read, Program, Erase, Blank, CallEvent, call_event}
+use Rattle.lfs_model.specs.crash.Conformance.{CallsConform}
+use Rattle.lfs_model.specs.crash.Premises.{MeetsPremises}
+use Rattle.lfs_model.specs.crash.Stops.{MayEraseLeave}
 use Rattle.lfs_model.proofs.Premises.{Meets, meets_nothing, meets_whole, premises_newest, premises_next}
 use Rattle.lfs_model.proofs.RepeatedBytes.{no_log-repeated}
 use Rattle.lfs_device.specs.declared.device.BlockDevice.{Ghosts}
@@ -14,15 +14,15 @@ use Rattle.lfs_device.specs.declared.fault.FaultExtent.TheVariants.{Nothing, Fir
 use Rattle.lfs_device.specs.declared.fault.PlannedFault.{PlannedFault}
 use Rattle.lfs_device.specs.declared.ram.Erased.{Erased}
 use Rattle.lfs_device.specs.declared.ram.Erased.TheVariants.{Fill, Keep}
-use Rattle.lfs_device.specs.CallsBelow.{PassesCallOrFailsAtPlannedExtent}
-use Rattle.lfs_device.specs.Erased.{ErasedFillIsByte, block_bytes_after_erase}
-use Rattle.lfs_device.specs.Fault.{is_counted_call, extent_of_call_if_due_to_fail, is_extent_of_first_bytes_only, is_nth_counted_call, has_device_stopped}
-use Rattle.lfs_device.specs.Premises.{DevicesOfTypeNeverFailAndMeetPremises}
+use Rattle.lfs_device.specs.CallsBelow.{PassesCallOrFails}
+use Rattle.lfs_device.specs.Erased.{FillIsByte, erased_bytes}
+use Rattle.lfs_device.specs.Fault.{is_counted, extent_if_due, is_partial, is_nth_call, has_stopped}
+use Rattle.lfs_device.specs.DevicePremises.{DevicesMeetPremises}
 
 -- ---- a history
 
-pub premises_after : {call : DeviceCall} {failed : Bool} {before after : Blocks} {older later : List DeviceCallEvent} → later ≡ device_call_event_with_blocks call before after failed ∷ older
-    → Meets call failed before after → ∥ IsHistoryMeetingPowerLossPremises older ∥₁ → ∥ IsHistoryMeetingPowerLossPremises later ∥₁
+pub premises_after : {call : DeviceCall} {failed : Bool} {before after : Blocks} {older later : List CallEvent} → later ≡ call_event call before after failed ∷ older
+    → Meets call failed before after → ∥ MeetsPremises older ∥₁ → ∥ MeetsPremises later ∥₁
 premises_after is here so_far = ∥∥₁_map so_far (premises_next is here)
 
 -- ---- a device in memory
@@ -36,13 +36,13 @@ meets_program block off bytes before after = record { erases = tt; failed = λ i
 pub meets_blank : (block off len : ℕ) (before after : Blocks) → Meets (Blank block off len) false before after
 meets_blank block off len before after = record { erases = tt; failed = λ is. absurd (cc) }
 
-left_by_erased : (erased : Erased) (block : List ℕ) → ErasedFillIsByte erased → MayStoppedEraseLeaveBlock block (block_bytes_after_erase erased block)
+left_by_erased : (erased : Erased) (block : List ℕ) → FillIsByte erased → MayEraseLeave block (erased_bytes erased block)
 left_by_erased (Fill byte) block small = inr (no_log-repeated (length block) byte small)
 left_by_erased Keep block any = inl refl
 
-pub meets_erase : (erased : Erased) (block : ℕ) (before after : Blocks) → ErasedFillIsByte erased → block_bytes_by_number after block ≡ block_bytes_after_erase erased (block_bytes_by_number before block) → Meets (Erase block) false before after
+pub meets_erase : (erased : Erased) (block : ℕ) (before after : Blocks) → FillIsByte erased → block_bytes after block ≡ erased_bytes erased (block_bytes before block) → Meets (Erase block) false before after
 meets_erase erased block before after small is = record {
-  erases = subst (MayStoppedEraseLeaveBlock (block_bytes_by_number before block)) (sym is) (left_by_erased erased (block_bytes_by_number before block) small);
+  erases = subst (MayEraseLeave (block_bytes before block)) (sym is) (left_by_erased erased (block_bytes before block) small);
   failed = λ failed. absurd (cc);
 }
 
@@ -50,26 +50,26 @@ meets_erase erased block before after small is = record {
 
 abbrev tears : Option FaultExtent → Bool
 tears None = false
-tears (Some extent) = is_extent_of_first_bytes_only extent
+tears (Some extent) = is_partial extent
 
-tears_none : (fault : PlannedFault) (call : DeviceCall) (older : List DeviceCallEvent) → is_extent_of_first_bytes_only fault.extent ≡ false → tears (extent_of_call_if_due_to_fail fault call older) ≡ false
-tears_none fault call older untorn = either (is_nth_counted_call (is_counted_call fault.which call) fault.which fault.nth older) (has_device_stopped fault.which fault.nth fault.stops older)
+tears_none : (fault : PlannedFault) (call : DeviceCall) (older : List CallEvent) → is_partial fault.extent ≡ false → tears (extent_if_due fault call older) ≡ false
+tears_none fault call older untorn = either (is_nth_call (is_counted fault.which call) fault.which fault.nth older) (has_stopped fault.which fault.nth fault.stops older)
   where
     either : (a b : Bool) → tears (cond a (Some fault.extent) (cond b (Some Nothing) None)) ≡ false
     either true b = untorn
     either false true = refl
     either false false = refl
 
-meets_carried : {D : Type 0} (g : Ghosts D) (o : Option FaultExtent) (call : DeviceCall) (failed : Bool) (old new : D) → tears o ≡ false → PassesCallOrFailsAtPlannedExtent g o call failed old new
-    → DoSuccessfulCallsHaveOnlyTheirEffect (g.history new) → DevicesOfTypeNeverFailAndMeetPremises g → Meets call failed (g.blocks old) (g.blocks new)
+meets_carried : {D : Type 0} (g : Ghosts D) (o : Option FaultExtent) (call : DeviceCall) (failed : Bool) (old new : D) → tears o ≡ false → PassesCallOrFails g o call failed old new
+    → CallsConform (g.history new) → DevicesMeetPremises g → Meets call failed (g.blocks old) (g.blocks new)
 meets_carried g None call failed old new untorn carried conforms reliable = premises_newest carried (reliable new).premises
 meets_carried g (Some Nothing) call failed old new untorn carried conforms reliable = rw (carried.0, carried.1) (meets_nothing call (g.blocks old))
 meets_carried g (Some (FirstBytes k)) call failed old new untorn carried conforms reliable = absurd (cc)
 meets_carried g (Some Whole) call failed old new untorn carried conforms reliable =
     rw carried.0 (meets_whole (carried.1 ((reliable new).no_fault ∙ sym (reliable old).no_fault)) conforms (reliable new).premises)
 
-pub premises_call : {D : Type 0} {call : DeviceCall} {failed : Bool} {older later : List DeviceCallEvent} (g : Ghosts D) (fault : PlannedFault) (old new : D)
-    → is_extent_of_first_bytes_only fault.extent ≡ false → PassesCallOrFailsAtPlannedExtent g (extent_of_call_if_due_to_fail fault call older) call failed old new → later ≡ device_call_event_with_blocks call (g.blocks old) (g.blocks new) failed ∷ older
-    → DoSuccessfulCallsHaveOnlyTheirEffect (g.history new) → DevicesOfTypeNeverFailAndMeetPremises g → ∥ IsHistoryMeetingPowerLossPremises older ∥₁ → ∥ IsHistoryMeetingPowerLossPremises later ∥₁
+pub premises_call : {D : Type 0} {call : DeviceCall} {failed : Bool} {older later : List CallEvent} (g : Ghosts D) (fault : PlannedFault) (old new : D)
+    → is_partial fault.extent ≡ false → PassesCallOrFails g (extent_if_due fault call older) call failed old new → later ≡ call_event call (g.blocks old) (g.blocks new) failed ∷ older
+    → CallsConform (g.history new) → DevicesMeetPremises g → ∥ MeetsPremises older ∥₁ → ∥ MeetsPremises later ∥₁
 premises_call {call = call} {failed = failed} {older = older} g fault old new untorn carried is conforms reliable so_far =
-    premises_after is (meets_carried g (extent_of_call_if_due_to_fail fault call older) call failed old new (tears_none fault call older untorn) carried conforms reliable) so_far
+    premises_after is (meets_carried g (extent_if_due fault call older) call failed old new (tears_none fault call older untorn) carried conforms reliable) so_far

@@ -1,12 +1,12 @@
 pub mod ByteLists
 pub mod Bytes
-pub mod Calls
+pub mod DeviceCalls
 pub mod CallsBelow
 pub mod Erased
 pub mod Error
 pub mod Fault
 pub mod FaultDevice
 pub mod Partial
-pub mod Premises
+pub mod DevicePremises
 pub mod RamDevice
-pub mod Shown
+pub mod DeviceDisk

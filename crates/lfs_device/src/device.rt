@@ -1,10 +1,10 @@
 ghost use Rattle.std.specs.Prelude.{◌≡◌, true, false, ◌≤◌, ◌<◌, ℕ, ◌+◌, ◌%◌, List, ◌∷◌, length, slice_range, is_err, IfErr, IsErrOf, OnOk, OnErr, Ok};
-ghost use Rattle.lfs_model.specs.Blocks.{Blocks, HasBlocksOfCountAndSize, AreBlocksEqualExceptOne, AreBytesEqualOutsideRange, block_bytes_by_number, programmed};
-ghost use Rattle.lfs_model.specs.History.{DeviceCallEvent, device_call_event_with_blocks, AreBytesUnprogrammed, AreBlocksLeftByNewestCall};
-ghost use Rattle.lfs_model.specs.History.DeviceCall.{Read, Program, Erase, Blank};
-ghost use Rattle.lfs_model.specs.Conformance.{DoSuccessfulCallsHaveOnlyTheirEffect};
+ghost use Rattle.lfs_model.specs.format.Blocks.{Blocks, HasBlockSizes, SameExcept, SameOutside, block_bytes, programmed};
+ghost use Rattle.lfs_model.specs.session.History.{CallEvent, call_event, AreUnprogrammed, LeftByLatest};
+ghost use Rattle.lfs_model.specs.session.History.DeviceCall.{Read, Program, Erase, Blank};
+ghost use Rattle.lfs_model.specs.crash.Conformance.{CallsConform};
 ghost use Rattle.lfs_device.specs.declared.geometry.Geometry.{Geometry};
-ghost use Rattle.lfs_device.specs.Bytes.{AreAllBlockElementsBelow256};
+ghost use Rattle.lfs_device.specs.Bytes.{HoldBytes};
 
 use crate::{Error, Geometry};
 
@@ -25,7 +25,7 @@ pub trait BlockDevice {
     ghost blocks: { Self → Blocks };
 
     /// The calls so far, the newest first.
-    ghost history: { Self → List DeviceCallEvent };
+    ghost history: { Self → List CallEvent };
 
     /// Returns the geometry: the sizes of blocks and pages in bytes, the number of blocks, and the
     /// profile.
@@ -39,10 +39,10 @@ pub trait BlockDevice {
     fn read(&mut self, block: u32, off: u32, buf: &mut [u8]) -> Result<(), Error>
         requires in_device { block < (geometry self.old).block_count }
         requires in_block { off + length buf.old ≤ (geometry self.old).block_size }
-        ensures bytes { OnOk result (buf.new ≡ slice_range (block_bytes_by_number (blocks self.old) block) off (off + length buf.old)) }
+        ensures bytes { OnOk result (buf.new ≡ slice_range (block_bytes (blocks self.old) block) off (off + length buf.old)) }
         ensures same { blocks self.new ≡ blocks self.old }
         ensures geometry { geometry self.new ≡ geometry self.old }
-        ensures history { history self.new ≡ device_call_event_with_blocks (Read block off (length buf.old)) (blocks self.old) (blocks self.new) (is_err result) ∷ history self.old }
+        ensures history { history self.new ≡ call_event (Read block off (length buf.old)) (blocks self.old) (blocks self.new) (is_err result) ∷ history self.old }
         ensures error { IfErr result (λ e. e ≡ Error.Io) };
 
     /// Programs whole pages of a block, from the offset `off` on. Offset and length are multiples
@@ -55,12 +55,12 @@ pub trait BlockDevice {
         requires in_block { off + length bytes.now ≤ (geometry self.old).block_size }
         requires begins { off % (geometry self.old).page ≡ 0 }
         requires ends { (off + length bytes.now) % (geometry self.old).page ≡ 0 }
-        requires unprogrammed { AreBytesUnprogrammed (history self.old) block off (off + length bytes.now) }
+        requires unprogrammed { AreUnprogrammed (history self.old) block off (off + length bytes.now) }
         ensures ok { OnOk result (blocks self.new ≡ programmed (blocks self.old) block off bytes.now) }
-        ensures err { OnErr result (AreBytesEqualOutsideRange off (off + length bytes.now) (block_bytes_by_number (blocks self.old) block) (block_bytes_by_number (blocks self.new) block)) }
-        ensures others { AreBlocksEqualExceptOne block (blocks self.old) (blocks self.new) }
+        ensures err { OnErr result (SameOutside off (off + length bytes.now) (block_bytes (blocks self.old) block) (block_bytes (blocks self.new) block)) }
+        ensures others { SameExcept block (blocks self.old) (blocks self.new) }
         ensures geometry { geometry self.new ≡ geometry self.old }
-        ensures history { history self.new ≡ device_call_event_with_blocks (Program block off bytes.now) (blocks self.old) (blocks self.new) (is_err result) ∷ history self.old }
+        ensures history { history self.new ≡ call_event (Program block off bytes.now) (blocks self.old) (blocks self.new) (is_err result) ∷ history self.old }
         ensures error { IfErr result (λ e. e ≡ Error.Io) };
 
     /// Erases a block. After the call the block may hold any bytes, all of them unprogrammed.
@@ -69,9 +69,9 @@ pub trait BlockDevice {
     /// programmed.
     fn erase(&mut self, block: u32) -> Result<(), Error>
         requires { block < (geometry self.old).block_count }
-        ensures others { AreBlocksEqualExceptOne block (blocks self.old) (blocks self.new) }
+        ensures others { SameExcept block (blocks self.old) (blocks self.new) }
         ensures geometry { geometry self.new ≡ geometry self.old }
-        ensures history { history self.new ≡ device_call_event_with_blocks (Erase block) (blocks self.old) (blocks self.new) (is_err result) ∷ history self.old }
+        ensures history { history self.new ≡ call_event (Erase block) (blocks self.old) (blocks self.new) (is_err result) ∷ history self.old }
         ensures error { IfErr result (λ e. e ≡ Error.Io) };
 
     /// Tells whether `len` bytes of a block from the offset `off` on are unprogrammed since the last
@@ -85,9 +85,9 @@ pub trait BlockDevice {
         requires in_block { off + len ≤ (geometry self.old).block_size }
         ensures same { blocks self.new ≡ blocks self.old }
         ensures geometry { geometry self.new ≡ geometry self.old }
-        ensures yes { result ≡ Ok true → history self.new ≡ device_call_event_with_blocks (Blank block off len) (blocks self.old) (blocks self.new) false ∷ history self.old }
+        ensures yes { result ≡ Ok true → history self.new ≡ call_event (Blank block off len) (blocks self.old) (blocks self.new) false ∷ history self.old }
         ensures no { result ≡ Ok false → history self.new ≡ history self.old }
-        ensures failed { IsErrOf result Error.Io → history self.new ≡ device_call_event_with_blocks (Blank block off len) (blocks self.old) (blocks self.new) true ∷ history self.old }
+        ensures failed { IsErrOf result Error.Io → history self.new ≡ call_event (Blank block off len) (blocks self.old) (blocks self.new) true ∷ history self.old }
         ensures error { IfErr result (λ e. e ≡ Error.Io) }
     {
         let _ = (block, off, len);
@@ -95,15 +95,15 @@ pub trait BlockDevice {
     }
 
     /// The device has as many blocks as its geometry says, each of that size.
-    ghost shape: { (d : Self) → HasBlocksOfCountAndSize (geometry d).block_size (geometry d).block_count (blocks d) };
+    ghost shape: { (d : Self) → HasBlockSizes (geometry d).block_size (geometry d).block_count (blocks d) };
 
     /// A block holds bytes: numbers below 256.
-    ghost bytes: { (d : Self) → AreAllBlockElementsBelow256 (blocks d) };
+    ghost bytes: { (d : Self) → HoldBytes (blocks d) };
 
     /// The newest call, if there was one, left the blocks as they are.
-    ghost newest: { (d : Self) → AreBlocksLeftByNewestCall (history d) (blocks d) };
+    ghost newest: { (d : Self) → LeftByLatest (history d) (blocks d) };
 
     /// Each call that didn't fail conforms: it did what the call is for, and changed no other
     /// block.
-    ghost conforms: { (d : Self) → DoSuccessfulCallsHaveOnlyTheirEffect (history d) };
+    ghost conforms: { (d : Self) → CallsConform (history d) };
 }

@@ -1,15 +1,15 @@
 ghost use Rattle.std.specs.Prelude.{◌≡◌, ◌≤◌, ◌<◌, ◌+◌, ◌-◌, ◌%◌, ◌^◌, ◌||◌, ℕ, true, false, min, [], length, slice_range, is_err, IfSome, OnOk, OnErr, Some};
-ghost use Rattle.lfs_model.specs.Blocks.{AreBlocksEqualExceptOne, AreBytesEqualOutsideRange, block_bytes_by_number, programmed};
-ghost use Rattle.lfs_model.specs.History.{read_count_of_history, program_count_of_history, erase_count_of_history, fault_count_of_history, is_byte_unprogrammed, AreBytesUnprogrammed, AreBlocksLeftByNewestCall};
-ghost use Rattle.lfs_model.specs.History.DeviceCall.{Read, Program, Erase};
-ghost use Rattle.lfs_model.specs.Conformance.{DoSuccessfulCallsHaveOnlyTheirEffect};
-ghost use Rattle.lfs_model.specs.Premises.{IsHistoryMeetingPowerLossPremises};
-ghost use Rattle.lfs_device.specs.Fault.{count_of_device_calls, extent_of_call_if_due_to_fail, extent_of_failing_call, have_due_calls_failed, is_extent_of_first_bytes_only, count_of_unplanned_faults};
-ghost use Rattle.lfs_device.specs.Premises.{DevicesOfTypeNeverFailAndMeetPremises};
-ghost use Rattle.lfs_device.specs.CallsBelow.{AddsNoFaultInDeviceBelow, PassesCallOrFailsAtPlannedExtent, program_bytes_stored_with_fault_extent};
+ghost use Rattle.lfs_model.specs.format.Blocks.{SameExcept, SameOutside, block_bytes, programmed};
+ghost use Rattle.lfs_model.specs.session.History.{read_count, program_count, erase_count, fault_count, is_unprogrammed_byte, AreUnprogrammed, LeftByLatest};
+ghost use Rattle.lfs_model.specs.session.History.DeviceCall.{Read, Program, Erase};
+ghost use Rattle.lfs_model.specs.crash.Conformance.{CallsConform};
+ghost use Rattle.lfs_model.specs.crash.Premises.{MeetsPremises};
+ghost use Rattle.lfs_device.specs.Fault.{call_count, extent_if_due, failing_extent, have_due_failed, is_partial, unplanned_faults};
+ghost use Rattle.lfs_device.specs.DevicePremises.{DevicesMeetPremises};
+ghost use Rattle.lfs_device.specs.CallsBelow.{AddsNoFault, PassesCallOrFails, stored_bytes};
 
 use crate::partial::{
-    erase_or_fail_as_planned, program_or_fail_as_planned, read_or_fail_as_planned,
+    erase_as_planned, program_as_planned, read_as_planned,
 };
 use crate::{BlockDevice, Error, Geometry, Trace};
 
@@ -60,31 +60,31 @@ pub struct FaultDevice<D: BlockDevice> {
     program_calls: u64,
     erase_calls: u64,
     trace: Trace,
-    pub ghost due_failed: { have_due_calls_failed fault.which fault.nth fault.stops trace.events ≡ true },
-    pub ghost undue_faults: { count_of_unplanned_faults fault.which fault.nth fault.stops trace.events ≤ fault_count_of_history (D.history inner) },
-    ghost reads_counted: { read_calls ≡ min (read_count_of_history trace.events) (2 ^ 64 - 1) },
-    ghost programs_counted: { program_calls ≡ min (program_count_of_history trace.events) (2 ^ 64 - 1) },
-    ghost erases_counted: { erase_calls ≡ min (erase_count_of_history trace.events) (2 ^ 64 - 1) },
-    ghost newest: { AreBlocksLeftByNewestCall trace.events (D.blocks inner) },
-    ghost conforms: { DoSuccessfulCallsHaveOnlyTheirEffect trace.events },
-    ghost below: { (block byte : ℕ) → is_byte_unprogrammed trace.events block byte ≡ true → is_byte_unprogrammed (D.history inner) block byte ≡ true },
-    ghost untorn: { tears ≡ false → is_extent_of_first_bytes_only fault.extent ≡ false },
-    pub ghost premises: { tears ≡ false → DevicesOfTypeNeverFailAndMeetPremises ⟦<D as BlockDevice>⟧ → ∥ IsHistoryMeetingPowerLossPremises trace.events ∥₁ },
+    pub ghost due_failed: { have_due_failed fault.which fault.nth fault.stops trace.events ≡ true },
+    pub ghost undue_faults: { unplanned_faults fault.which fault.nth fault.stops trace.events ≤ fault_count (D.history inner) },
+    ghost reads_counted: { read_calls ≡ min (read_count trace.events) (2 ^ 64 - 1) },
+    ghost programs_counted: { program_calls ≡ min (program_count trace.events) (2 ^ 64 - 1) },
+    ghost erases_counted: { erase_calls ≡ min (erase_count trace.events) (2 ^ 64 - 1) },
+    ghost newest: { LeftByLatest trace.events (D.blocks inner) },
+    ghost conforms: { CallsConform trace.events },
+    ghost below: { (block byte : ℕ) → is_unprogrammed_byte trace.events block byte ≡ true → is_unprogrammed_byte (D.history inner) block byte ≡ true },
+    ghost untorn: { tears ≡ false → is_partial fault.extent ≡ false },
+    pub ghost premises: { tears ≡ false → DevicesMeetPremises ⟦<D as BlockDevice>⟧ → ∥ MeetsPremises trace.events ∥₁ },
 }
 
 impl<D: BlockDevice> FaultDevice<D> {
-    ghost use Rattle.lfs_device.specs.FaultDevice.{inner_of_fault_device, planned_fault_of_device, can_tear_program, history_of_fault_device};
+    ghost use Rattle.lfs_device.specs.FaultDevice.{inner_device, planned_fault, can_tear, fault_history};
 
     /// Makes a device whose `n`-th call of those that `which` names fails without an effect. `n`
     /// counts from 1; at 0 no call fails. With `stop` each later call fails too. Every byte counts
     /// as programmed.
     pub fn new(inner: D, which: CountedCalls, n: u64, stop: bool) -> FaultDevice<D>
-        ensures inner { inner_of_fault_device result ≡ inner }
-        ensures fault { planned_fault_of_device result ≡ record { which = which; nth = n; stops = stop; extent = FaultExtent.Nothing } }
-        ensures tears { can_tear_program result ≡ false }
-        ensures no_call { history_of_fault_device result ≡ [] }
+        ensures inner { inner_device result ≡ inner }
+        ensures fault { planned_fault result ≡ record { which = which; nth = n; stops = stop; extent = FaultExtent.Nothing } }
+        ensures tears { can_tear result ≡ false }
+        ensures no_call { fault_history result ≡ [] }
     {
-        let trace = Trace::with_history_chosen_by_proof(&inner, &());
+        let trace = Trace::with_ghost_history(&inner, &());
         let fault = PlannedFault {
             which,
             nth: n,
@@ -105,29 +105,29 @@ impl<D: BlockDevice> FaultDevice<D> {
     /// Returns the same device, whose failing call, if it is a program, first stores its first `k`
     /// bytes.
     pub fn torn(self, k: u32) -> FaultDevice<D>
-        ensures inner { inner_of_fault_device result ≡ inner_of_fault_device self }
-        ensures fault { planned_fault_of_device result ≡ record (planned_fault_of_device self) { extent = FaultExtent.FirstBytes k } }
-        ensures tears { can_tear_program result ≡ true }
-        ensures history { history_of_fault_device result ≡ history_of_fault_device self }
+        ensures inner { inner_device result ≡ inner_device self }
+        ensures fault { planned_fault result ≡ record (planned_fault self) { extent = FaultExtent.FirstBytes k } }
+        ensures tears { can_tear result ≡ true }
+        ensures history { fault_history result ≡ fault_history self }
     {
-        self.with_extent_of_failing_call(FaultExtent::FirstBytes(k))
+        self.with_fault_extent(FaultExtent::FirstBytes(k))
     }
 
     /// Returns the same device, whose failing call is done whole and then fails.
     pub fn whole(self) -> FaultDevice<D>
-        ensures inner { inner_of_fault_device result ≡ inner_of_fault_device self }
-        ensures fault { planned_fault_of_device result ≡ record (planned_fault_of_device self) { extent = FaultExtent.Whole } }
-        ensures tears { can_tear_program result ≡ can_tear_program self }
-        ensures history { history_of_fault_device result ≡ history_of_fault_device self }
+        ensures inner { inner_device result ≡ inner_device self }
+        ensures fault { planned_fault result ≡ record (planned_fault self) { extent = FaultExtent.Whole } }
+        ensures tears { can_tear result ≡ can_tear self }
+        ensures history { fault_history result ≡ fault_history self }
     {
-        self.with_extent_of_failing_call(FaultExtent::Whole)
+        self.with_fault_extent(FaultExtent::Whole)
     }
 
-    fn with_extent_of_failing_call(mut self, extent: FaultExtent) -> FaultDevice<D>
-        ensures inner { inner_of_fault_device result ≡ inner_of_fault_device self }
-        ensures fault { planned_fault_of_device result ≡ record (planned_fault_of_device self) { extent = extent } }
-        ensures tears { can_tear_program result ≡ (can_tear_program self || is_extent_of_first_bytes_only extent) }
-        ensures history { history_of_fault_device result ≡ history_of_fault_device self }
+    fn with_fault_extent(mut self, extent: FaultExtent) -> FaultDevice<D>
+        ensures inner { inner_device result ≡ inner_device self }
+        ensures fault { planned_fault result ≡ record (planned_fault self) { extent = extent } }
+        ensures tears { can_tear result ≡ (can_tear self || is_partial extent) }
+        ensures history { fault_history result ≡ fault_history self }
     {
         self.tears = self.tears || matches!(extent, FaultExtent::FirstBytes(_));
         self.fault.extent = extent;
@@ -136,7 +136,7 @@ impl<D: BlockDevice> FaultDevice<D> {
 
     /// Returns the device below.
     pub fn into_inner(self) -> D
-        ensures { result ≡ inner_of_fault_device self }
+        ensures { result ≡ inner_device self }
     {
         let FaultDevice {
             inner,
@@ -152,7 +152,7 @@ impl<D: BlockDevice> FaultDevice<D> {
 
     /// Borrows the device below.
     pub fn inner(&self) -> &D
-        ensures { result.now ≡ inner_of_fault_device self.now }
+        ensures { result.now ≡ inner_device self.now }
     {
         &self.inner
     }
@@ -160,7 +160,7 @@ impl<D: BlockDevice> FaultDevice<D> {
     /// Returns how many calls there were of those that `which` names, with those that failed.
     /// Returns `u64::MAX` where there were more.
     pub fn calls(&self, which: CountedCalls) -> u64
-        ensures { result ≡ min (count_of_device_calls which (history_of_fault_device self.now)) (2 ^ 64 - 1) }
+        ensures { result ≡ min (call_count which (fault_history self.now)) (2 ^ 64 - 1) }
     {
         match which {
             CountedCalls::Any => self
@@ -176,21 +176,21 @@ impl<D: BlockDevice> FaultDevice<D> {
     /// Returns whether [`torn`](FaultDevice::torn) was ever called: then a program may store its
     /// first bytes alone.
     pub fn may_tear_program(&self) -> bool
-        ensures { result ≡ can_tear_program self.now }
+        ensures { result ≡ can_tear self.now }
     {
         self.tears
     }
 
     /// Shows a proof the premises of contracts about a loss of power. The device meets them where
     /// no program is torn and the devices below are reliable. The call does nothing at run time.
-    pub fn prove_power_loss_premises(&self)
-        ensures { can_tear_program self.now ≡ false → DevicesOfTypeNeverFailAndMeetPremises ⟦<D as BlockDevice>⟧ → IsHistoryMeetingPowerLossPremises (history_of_fault_device self.now) }
+    pub fn lemma_premises_hold(&self)
+        ensures { can_tear self.now ≡ false → DevicesMeetPremises ⟦<D as BlockDevice>⟧ → MeetsPremises (fault_history self.now) }
     {}
 
     // Returns how much of the next call is done before it fails, if it is due to fail. `counts`
     // says whether the call is counted.
-    fn extent_if_next_call_fails(&self, counts: bool) -> Option<FaultExtent>
-        ensures { result ≡ extent_of_failing_call self.now.fault counts self.now.trace.events }
+    fn next_fault_extent(&self, counts: bool) -> Option<FaultExtent>
+        ensures { result ≡ failing_extent self.now.fault counts self.now.trace.events }
     {
         let so_far = self.calls(self.fault.which);
         if self.fault.nth == 0 {
@@ -207,7 +207,7 @@ impl<D: BlockDevice> FaultDevice<D> {
 }
 
 impl<D: BlockDevice> BlockDevice for FaultDevice<D> {
-    ghost use Rattle.lfs_device.specs.FaultDevice.{AddsCallToHistory, inner_of_fault_device, planned_fault_of_device, inner_blocks, history_of_fault_device};
+    ghost use Rattle.lfs_device.specs.FaultDevice.{AddsCallToHistory, inner_device, planned_fault, inner_blocks, fault_history};
 
     ghost geometry = { λ d. D.geometry d.inner };
 
@@ -228,64 +228,64 @@ impl<D: BlockDevice> BlockDevice for FaultDevice<D> {
     }
 
     fn read(&mut self, block: u32, off: u32, buf: &mut [u8]) -> Result<(), Error>
-        requires in_device { block < (D.geometry (inner_of_fault_device self.old)).block_count }
-        requires in_block { off + length buf.old ≤ (D.geometry (inner_of_fault_device self.old)).block_size }
-        ensures carried { PassesCallOrFailsAtPlannedExtent ⟦<D as BlockDevice>⟧ (extent_of_call_if_due_to_fail (planned_fault_of_device self.old) (Read block off (length buf.old)) (history_of_fault_device self.old))
-            (Read block off (length buf.old)) (is_err result) (inner_of_fault_device self.old) (inner_of_fault_device self.new) }
-        ensures whole { extent_of_call_if_due_to_fail (planned_fault_of_device self.old) (Read block off (length buf.old)) (history_of_fault_device self.old) ≡ Some FaultExtent.Whole
-            → AddsNoFaultInDeviceBelow ⟦<D as BlockDevice>⟧ (inner_of_fault_device self.old) (inner_of_fault_device self.new)
-            → buf.new ≡ slice_range (block_bytes_by_number (inner_blocks self.old) block) off (off + length buf.old) }
-        ensures bytes { OnOk result (buf.new ≡ slice_range (block_bytes_by_number (inner_blocks self.old) block) off (off + length buf.old)) }
+        requires in_device { block < (D.geometry (inner_device self.old)).block_count }
+        requires in_block { off + length buf.old ≤ (D.geometry (inner_device self.old)).block_size }
+        ensures carried { PassesCallOrFails ⟦<D as BlockDevice>⟧ (extent_if_due (planned_fault self.old) (Read block off (length buf.old)) (fault_history self.old))
+            (Read block off (length buf.old)) (is_err result) (inner_device self.old) (inner_device self.new) }
+        ensures whole { extent_if_due (planned_fault self.old) (Read block off (length buf.old)) (fault_history self.old) ≡ Some FaultExtent.Whole
+            → AddsNoFault ⟦<D as BlockDevice>⟧ (inner_device self.old) (inner_device self.new)
+            → buf.new ≡ slice_range (block_bytes (inner_blocks self.old) block) off (off + length buf.old) }
+        ensures bytes { OnOk result (buf.new ≡ slice_range (block_bytes (inner_blocks self.old) block) off (off + length buf.old)) }
         ensures same { inner_blocks self.new ≡ inner_blocks self.old }
         ensures noted { AddsCallToHistory (Read block off (length buf.old)) self.old self.new result }
     {
         let counts = matches!(self.fault.which, CountedCalls::Any | CountedCalls::Read);
-        let due = self.extent_if_next_call_fails(counts);
-        let begun = Trace::with_history_chosen_by_proof(self, &(block, off, buf.len()));
+        let due = self.next_fault_extent(counts);
+        let begun = Trace::with_ghost_history(self, &(block, off, buf.len()));
         self.read_calls = self.read_calls.saturating_add(1);
-        let outcome = read_or_fail_as_planned(&mut self.inner, due, block, off, buf);
-        self.trace = Trace::with_history_chosen_by_proof(&self.inner, &(begun, outcome.is_err()));
+        let outcome = read_as_planned(&mut self.inner, due, block, off, buf);
+        self.trace = Trace::with_ghost_history(&self.inner, &(begun, outcome.is_err()));
         outcome
     }
 
     fn prog(&mut self, block: u32, off: u32, bytes: &[u8]) -> Result<(), Error>
-        requires in_device { block < (D.geometry (inner_of_fault_device self.old)).block_count }
-        requires in_block { off + length bytes.now ≤ (D.geometry (inner_of_fault_device self.old)).block_size }
-        requires begins { off % (D.geometry (inner_of_fault_device self.old)).page ≡ 0 }
-        requires ends { (off + length bytes.now) % (D.geometry (inner_of_fault_device self.old)).page ≡ 0 }
-        requires unprogrammed { AreBytesUnprogrammed (history_of_fault_device self.old) block off (off + length bytes.now) }
-        ensures carried { PassesCallOrFailsAtPlannedExtent ⟦<D as BlockDevice>⟧ (extent_of_call_if_due_to_fail (planned_fault_of_device self.old) (Program block off bytes.now) (history_of_fault_device self.old))
-            (Program block off bytes.now) (is_err result) (inner_of_fault_device self.old) (inner_of_fault_device self.new) }
-        ensures stored { IfSome (extent_of_call_if_due_to_fail (planned_fault_of_device self.old) (Program block off bytes.now) (history_of_fault_device self.old))
-            (λ extent. AddsNoFaultInDeviceBelow ⟦<D as BlockDevice>⟧ (inner_of_fault_device self.old) (inner_of_fault_device self.new)
-            → inner_blocks self.new ≡ programmed (inner_blocks self.old) block off (program_bytes_stored_with_fault_extent extent bytes.now)) }
+        requires in_device { block < (D.geometry (inner_device self.old)).block_count }
+        requires in_block { off + length bytes.now ≤ (D.geometry (inner_device self.old)).block_size }
+        requires begins { off % (D.geometry (inner_device self.old)).page ≡ 0 }
+        requires ends { (off + length bytes.now) % (D.geometry (inner_device self.old)).page ≡ 0 }
+        requires unprogrammed { AreUnprogrammed (fault_history self.old) block off (off + length bytes.now) }
+        ensures carried { PassesCallOrFails ⟦<D as BlockDevice>⟧ (extent_if_due (planned_fault self.old) (Program block off bytes.now) (fault_history self.old))
+            (Program block off bytes.now) (is_err result) (inner_device self.old) (inner_device self.new) }
+        ensures stored { IfSome (extent_if_due (planned_fault self.old) (Program block off bytes.now) (fault_history self.old))
+            (λ extent. AddsNoFault ⟦<D as BlockDevice>⟧ (inner_device self.old) (inner_device self.new)
+            → inner_blocks self.new ≡ programmed (inner_blocks self.old) block off (stored_bytes extent bytes.now)) }
         ensures ok { OnOk result (inner_blocks self.new ≡ programmed (inner_blocks self.old) block off bytes.now) }
-        ensures err { OnErr result (AreBytesEqualOutsideRange off (off + length bytes.now) (block_bytes_by_number (inner_blocks self.old) block) (block_bytes_by_number (inner_blocks self.new) block)) }
-        ensures others { AreBlocksEqualExceptOne block (inner_blocks self.old) (inner_blocks self.new) }
+        ensures err { OnErr result (SameOutside off (off + length bytes.now) (block_bytes (inner_blocks self.old) block) (block_bytes (inner_blocks self.new) block)) }
+        ensures others { SameExcept block (inner_blocks self.old) (inner_blocks self.new) }
         ensures noted { AddsCallToHistory (Program block off bytes.now) self.old self.new result }
     {
         let counts = matches!(self.fault.which, CountedCalls::Any | CountedCalls::Program);
-        let due = self.extent_if_next_call_fails(counts);
-        let begun = Trace::with_history_chosen_by_proof(self, &(block, off, bytes));
+        let due = self.next_fault_extent(counts);
+        let begun = Trace::with_ghost_history(self, &(block, off, bytes));
         self.program_calls = self.program_calls.saturating_add(1);
-        let outcome = program_or_fail_as_planned(&mut self.inner, due, block, off, bytes);
-        self.trace = Trace::with_history_chosen_by_proof(&self.inner, &(begun, outcome.is_err()));
+        let outcome = program_as_planned(&mut self.inner, due, block, off, bytes);
+        self.trace = Trace::with_ghost_history(&self.inner, &(begun, outcome.is_err()));
         outcome
     }
 
     fn erase(&mut self, block: u32) -> Result<(), Error>
-        requires { block < (D.geometry (inner_of_fault_device self.old)).block_count }
-        ensures carried { PassesCallOrFailsAtPlannedExtent ⟦<D as BlockDevice>⟧ (extent_of_call_if_due_to_fail (planned_fault_of_device self.old) (Erase block) (history_of_fault_device self.old))
-            (Erase block) (is_err result) (inner_of_fault_device self.old) (inner_of_fault_device self.new) }
-        ensures others { AreBlocksEqualExceptOne block (inner_blocks self.old) (inner_blocks self.new) }
+        requires { block < (D.geometry (inner_device self.old)).block_count }
+        ensures carried { PassesCallOrFails ⟦<D as BlockDevice>⟧ (extent_if_due (planned_fault self.old) (Erase block) (fault_history self.old))
+            (Erase block) (is_err result) (inner_device self.old) (inner_device self.new) }
+        ensures others { SameExcept block (inner_blocks self.old) (inner_blocks self.new) }
         ensures noted { AddsCallToHistory (Erase block) self.old self.new result }
     {
         let counts = matches!(self.fault.which, CountedCalls::Any | CountedCalls::Erase);
-        let due = self.extent_if_next_call_fails(counts);
-        let begun = Trace::with_history_chosen_by_proof(self, &block);
+        let due = self.next_fault_extent(counts);
+        let begun = Trace::with_ghost_history(self, &block);
         self.erase_calls = self.erase_calls.saturating_add(1);
-        let outcome = erase_or_fail_as_planned(&mut self.inner, due, block);
-        self.trace = Trace::with_history_chosen_by_proof(&self.inner, &(begun, outcome.is_err()));
+        let outcome = erase_as_planned(&mut self.inner, due, block);
+        self.trace = Trace::with_ghost_history(&self.inner, &(begun, outcome.is_err()));
         outcome
     }
 }

@@ -1,6 +1,6 @@
 ghost use Rattle.std.specs.Prelude.{◌≡◌, MatchResult};
-ghost use Rattle.lfs_model.specs.Disk.{pair_capacity, attr_max_of, charged_entry_size_limit_in_pair, default_profile, file_max_of, inline_limit, longest_struct, name_max_of, slots_per_pair_limit};
-ghost use Rattle.lfs_model.specs.Geometry.{IsValidGeometry};
+ghost use Rattle.lfs_model.specs.format.Disk.{pair_capacity, attr_max_of, charge_limit, default_profile, file_max_of, inline_limit, longest_struct, name_max_of, slots_limit};
+ghost use Rattle.lfs_model.specs.format.Geometry.{IsValidGeometry};
 
 use crate::Error;
 use lfs_model::Profile;
@@ -79,7 +79,7 @@ impl Geometry {
     /// Returns how many bytes a name and its attributes may take, with their tags: half of the
     /// bytes of a pair's slots.
     pub fn entry_size_limit(self) -> u32
-        ensures { result ≡ charged_entry_size_limit_in_pair self.block_size self.page }
+        ensures { result ≡ charge_limit self.block_size self.page }
     {
         self.pair_capacity() / 2
     }
@@ -123,7 +123,7 @@ impl Geometry {
 
     /// Returns how many slots a written metadata pair may have.
     pub fn slot_limit(self) -> usize
-        ensures { result ≡ slots_per_pair_limit }
+        ensures { result ≡ slots_limit }
     {
         1000
     }

@@ -1,16 +1,16 @@
 ghost use Rattle.std.specs.Prelude.{◌≡◌, ◌≤◌, ◌<◌, ◌+◌, ◌%◌, ℕ, true, length, take, slice_range, is_err, IfSome, IfErr, OnOk, OnErr, Some};
-ghost use Rattle.lfs_model.specs.Blocks.{AreBlocksEqualExceptOne, block_bytes_by_number, programmed};
-ghost use Rattle.lfs_model.specs.History.{fault_count_of_history, is_byte_unprogrammed, is_byte_unprogrammed_after_call, AreBytesUnprogrammed};
-ghost use Rattle.lfs_model.specs.History.DeviceCall.{Read, Program, Erase};
-ghost use Rattle.lfs_device.specs.Calls.{ReadsOnly};
-ghost use Rattle.lfs_device.specs.CallsBelow.{AddsNoFaultInDeviceBelow, PassesCallOrFailsAtPlannedExtent, program_bytes_stored_with_fault_extent};
+ghost use Rattle.lfs_model.specs.format.Blocks.{SameExcept, block_bytes, programmed};
+ghost use Rattle.lfs_model.specs.session.History.{fault_count, is_unprogrammed_byte, unprogrammed_after, AreUnprogrammed};
+ghost use Rattle.lfs_model.specs.session.History.DeviceCall.{Read, Program, Erase};
+ghost use Rattle.lfs_device.specs.DeviceCalls.{ReadsOnly};
+ghost use Rattle.lfs_device.specs.CallsBelow.{AddsNoFault, PassesCallOrFails, stored_bytes};
 ghost use Rattle.lfs_device.specs.Partial.{ChangesOnlyPartOfBlock};
 
 use crate::fault::FaultExtent;
 use crate::{BlockDevice, Error};
 
 /// Reads, or does the part of the read that is due and fails.
-pub(crate) fn read_or_fail_as_planned<D: BlockDevice>(
+pub(crate) fn read_as_planned<D: BlockDevice>(
     device: &mut D,
     due: Option<FaultExtent>,
     block: u32,
@@ -19,13 +19,13 @@ pub(crate) fn read_or_fail_as_planned<D: BlockDevice>(
 ) -> Result<(), Error>
     requires in_device { block < (D.geometry device.old).block_count }
     requires in_block { off + length buf.old ≤ (D.geometry device.old).block_size }
-    ensures carried { PassesCallOrFailsAtPlannedExtent ⟦<D as BlockDevice>⟧ due (Read block off (length buf.old)) (is_err result) device.old device.new }
-    ensures whole { due ≡ Some FaultExtent.Whole → AddsNoFaultInDeviceBelow ⟦<D as BlockDevice>⟧ device.old device.new
-        → buf.new ≡ slice_range (block_bytes_by_number (D.blocks device.old) block) off (off + length buf.old) }
-    ensures bytes { OnOk result (buf.new ≡ slice_range (block_bytes_by_number (D.blocks device.old) block) off (off + length buf.old)) }
+    ensures carried { PassesCallOrFails ⟦<D as BlockDevice>⟧ due (Read block off (length buf.old)) (is_err result) device.old device.new }
+    ensures whole { due ≡ Some FaultExtent.Whole → AddsNoFault ⟦<D as BlockDevice>⟧ device.old device.new
+        → buf.new ≡ slice_range (block_bytes (D.blocks device.old) block) off (off + length buf.old) }
+    ensures bytes { OnOk result (buf.new ≡ slice_range (block_bytes (D.blocks device.old) block) off (off + length buf.old)) }
     ensures device { ReadsOnly D.BlockDevice device.old device.new }
     ensures error { IfErr result (λ e. e ≡ Error.Io) }
-    ensures faults { fault_count_of_history (D.history device.old) ≤ fault_count_of_history (D.history device.new) }
+    ensures faults { fault_count (D.history device.old) ≤ fault_count (D.history device.new) }
 {
     match due {
         None => device.read(block, off, buf),
@@ -38,7 +38,7 @@ pub(crate) fn read_or_fail_as_planned<D: BlockDevice>(
 }
 
 /// Programs, or does the part of the program that is due and fails.
-pub(crate) fn program_or_fail_as_planned<D: BlockDevice>(
+pub(crate) fn program_as_planned<D: BlockDevice>(
     device: &mut D,
     due: Option<FaultExtent>,
     block: u32,
@@ -49,10 +49,10 @@ pub(crate) fn program_or_fail_as_planned<D: BlockDevice>(
     requires in_block { off + length bytes.now ≤ (D.geometry device.old).block_size }
     requires begins { off % (D.geometry device.old).page ≡ 0 }
     requires ends { (off + length bytes.now) % (D.geometry device.old).page ≡ 0 }
-    requires unprogrammed { AreBytesUnprogrammed (D.history device.old) block off (off + length bytes.now) }
-    ensures carried { PassesCallOrFailsAtPlannedExtent ⟦<D as BlockDevice>⟧ due (Program block off bytes.now) (is_err result) device.old device.new }
-    ensures stored { IfSome due (λ extent. AddsNoFaultInDeviceBelow ⟦<D as BlockDevice>⟧ device.old device.new
-        → D.blocks device.new ≡ programmed (D.blocks device.old) block off (program_bytes_stored_with_fault_extent extent bytes.now)) }
+    requires unprogrammed { AreUnprogrammed (D.history device.old) block off (off + length bytes.now) }
+    ensures carried { PassesCallOrFails ⟦<D as BlockDevice>⟧ due (Program block off bytes.now) (is_err result) device.old device.new }
+    ensures stored { IfSome due (λ extent. AddsNoFault ⟦<D as BlockDevice>⟧ device.old device.new
+        → D.blocks device.new ≡ programmed (D.blocks device.old) block off (stored_bytes extent bytes.now)) }
     ensures ok { OnOk result (D.blocks device.new ≡ programmed (D.blocks device.old) block off bytes.now) }
     ensures part { ChangesOnlyPartOfBlock D.BlockDevice block off (off + length bytes.now) device.old device.new }
     ensures error { IfErr result (λ e. e ≡ Error.Io) }
@@ -72,18 +72,18 @@ pub(crate) fn program_or_fail_as_planned<D: BlockDevice>(
 }
 
 /// Erases, or does the part of the erase that is due and fails.
-pub(crate) fn erase_or_fail_as_planned<D: BlockDevice>(
+pub(crate) fn erase_as_planned<D: BlockDevice>(
     device: &mut D,
     due: Option<FaultExtent>,
     block: u32,
 ) -> Result<(), Error>
     requires { block < (D.geometry device.old).block_count }
-    ensures carried { PassesCallOrFailsAtPlannedExtent ⟦<D as BlockDevice>⟧ due (Erase block) (is_err result) device.old device.new }
-    ensures others { AreBlocksEqualExceptOne block (D.blocks device.old) (D.blocks device.new) }
+    ensures carried { PassesCallOrFails ⟦<D as BlockDevice>⟧ due (Erase block) (is_err result) device.old device.new }
+    ensures others { SameExcept block (D.blocks device.old) (D.blocks device.new) }
     ensures geometry { D.geometry device.new ≡ D.geometry device.old }
     ensures error { IfErr result (λ e. e ≡ Error.Io) }
-    ensures faults { fault_count_of_history (D.history device.old) ≤ fault_count_of_history (D.history device.new) }
-    ensures keeps { (b k : ℕ) → is_byte_unprogrammed_after_call (Erase block) (is_err result) b k (is_byte_unprogrammed (D.history device.old) b k) ≡ true → is_byte_unprogrammed (D.history device.new) b k ≡ true }
+    ensures faults { fault_count (D.history device.old) ≤ fault_count (D.history device.new) }
+    ensures keeps { (b k : ℕ) → unprogrammed_after (Erase block) (is_err result) b k (is_unprogrammed_byte (D.history device.old) b k) ≡ true → is_unprogrammed_byte (D.history device.new) b k ≡ true }
 {
     match due {
         None => device.erase(block),
@@ -108,10 +108,10 @@ pub(crate) fn program_first_bytes<D: BlockDevice>(
     requires in_block { off + length bytes.now ≤ (D.geometry device.old).block_size }
     requires begins { off % (D.geometry device.old).page ≡ 0 }
     requires ends { (off + length bytes.now) % (D.geometry device.old).page ≡ 0 }
-    requires unprogrammed { AreBytesUnprogrammed (D.history device.old) block off (off + length bytes.now) }
+    requires unprogrammed { AreUnprogrammed (D.history device.old) block off (off + length bytes.now) }
     ensures ok { OnOk result (D.blocks device.new ≡ programmed (D.blocks device.old) block off (take k bytes.now)) }
     ensures part { ChangesOnlyPartOfBlock D.BlockDevice block off (off + length bytes.now) device.old device.new }
-    ensures err { OnErr result (fault_count_of_history (D.history device.old) < fault_count_of_history (D.history device.new)) }
+    ensures err { OnErr result (fault_count (D.history device.old) < fault_count (D.history device.new)) }
 {
     let stored = (k as usize).min(bytes.len());
     let page = device.geometry().page as usize;
@@ -120,11 +120,11 @@ pub(crate) fn program_first_bytes<D: BlockDevice>(
     if whole == stored {
         return Ok(());
     }
-    program_beginning_of_page(device, block, off + whole as u32, &bytes[whole..stored])
+    program_page_part(device, block, off + whole as u32, &bytes[whole..stored])
 }
 
 // Programs the beginning of a page, and the remaining bytes of the page with what it holds.
-fn program_beginning_of_page<D: BlockDevice>(
+fn program_page_part<D: BlockDevice>(
     device: &mut D,
     block: u32,
     off: u32,
@@ -134,10 +134,10 @@ fn program_beginning_of_page<D: BlockDevice>(
     requires in_page { length bytes.now ≤ (D.geometry device.old).page }
     requires in_block { off + (D.geometry device.old).page ≤ (D.geometry device.old).block_size }
     requires begins { off % (D.geometry device.old).page ≡ 0 }
-    requires unprogrammed { AreBytesUnprogrammed (D.history device.old) block off (off + (D.geometry device.old).page) }
+    requires unprogrammed { AreUnprogrammed (D.history device.old) block off (off + (D.geometry device.old).page) }
     ensures ok { OnOk result (D.blocks device.new ≡ programmed (D.blocks device.old) block off bytes.now) }
     ensures part { ChangesOnlyPartOfBlock D.BlockDevice block off (off + (D.geometry device.old).page) device.old device.new }
-    ensures err { OnErr result (fault_count_of_history (D.history device.old) < fault_count_of_history (D.history device.new)) }
+    ensures err { OnErr result (fault_count (D.history device.old) < fault_count (D.history device.new)) }
 {
     let mut buffer = [0u8; 512];
     let page = &mut buffer[..device.geometry().page as usize];

@@ -1,12 +1,12 @@
 ghost use Rattle.std.specs.Prelude.{◌≡◌, ◌≤◌, ◌<◌, ◌+◌, ◌*◌, ◌%◌, [], ◌∷◌, false, true, length, replicate, slice_range, IsOk, IfOk, OnErr, MatchResult};
-ghost use Rattle.lfs_model.specs.Blocks.{AreBlocksEqualExceptOne, block_bytes_by_number, cut, bytes_after_overwrite_at, programmed};
-ghost use Rattle.lfs_model.specs.History.{device_call_event_with_blocks, fault_count_of_history, AreBytesUnprogrammed, AreBlocksLeftByNewestCall};
-ghost use Rattle.lfs_model.specs.History.DeviceCall.{Read, Program, Erase, Blank};
-ghost use Rattle.lfs_model.specs.Conformance.{DoSuccessfulCallsHaveOnlyTheirEffect};
-ghost use Rattle.lfs_model.specs.Premises.{IsHistoryMeetingPowerLossPremises};
-ghost use Rattle.lfs_device.specs.Bytes.{AreAllNumbersBytes};
-ghost use Rattle.lfs_device.specs.Premises.{DevicesOfTypeNeverFailAndMeetPremises};
-ghost use Rattle.lfs_device.specs.Erased.{ErasedFillIsByte, block_bytes_after_erase, device_bytes_after_erase_of_range};
+ghost use Rattle.lfs_model.specs.format.Blocks.{SameExcept, block_bytes, cut, overwritten_at, programmed};
+ghost use Rattle.lfs_model.specs.session.History.{call_event, fault_count, AreUnprogrammed, LeftByLatest};
+ghost use Rattle.lfs_model.specs.session.History.DeviceCall.{Read, Program, Erase, Blank};
+ghost use Rattle.lfs_model.specs.crash.Conformance.{CallsConform};
+ghost use Rattle.lfs_model.specs.crash.Premises.{MeetsPremises};
+ghost use Rattle.lfs_device.specs.Bytes.{ElementsAreBytes};
+ghost use Rattle.lfs_device.specs.DevicePremises.{DevicesMeetPremises};
+ghost use Rattle.lfs_device.specs.Erased.{FillIsByte, erased_bytes, erased_device};
 
 use crate::{BlockDevice, Error, Geometry, Trace};
 use std::alloc::Global;
@@ -29,26 +29,26 @@ pub struct RamDevice {
     // Whether the device says that bytes are blank.
     checks_blanks: bool,
     trace: Trace,
-    ghost are_bytes: { AreAllNumbersBytes bytes.items },
+    ghost are_bytes: { ElementsAreBytes bytes.items },
     ghost size: { length bytes.items ≡ geometry.block_size * geometry.block_count },
-    pub ghost no_fault: { fault_count_of_history trace.events ≡ 0 },
-    ghost newest: { AreBlocksLeftByNewestCall trace.events (cut geometry.block_size geometry.block_count bytes.items) },
-    ghost conforms: { DoSuccessfulCallsHaveOnlyTheirEffect trace.events },
-    pub ghost premises: { ∥ IsHistoryMeetingPowerLossPremises trace.events ∥₁ },
+    pub ghost no_fault: { fault_count trace.events ≡ 0 },
+    ghost newest: { LeftByLatest trace.events (cut geometry.block_size geometry.block_count bytes.items) },
+    ghost conforms: { CallsConform trace.events },
+    pub ghost premises: { ∥ MeetsPremises trace.events ∥₁ },
 }
 
 impl RamDevice {
-    ghost use Rattle.lfs_device.specs.RamDevice.{geometry_of_ram_device, ram_bytes, ram_blocks, erase_effect_of_ram, history_of_ram_device};
+    ghost use Rattle.lfs_device.specs.RamDevice.{ram_geometry, ram_bytes, ram_blocks, erase_effect, ram_history};
 
     /// Makes a device that holds 0xff in every byte. An erase fills a block with 0xff. Every byte
     /// counts as programmed.
     ///
     /// Errors: `NoMemory` where memory for all bytes isn't granted.
     pub fn blank(alloc: Global, geometry: Geometry) -> Result<RamDevice, Error>
-        ensures geometry { IfOk result (λ d. geometry_of_ram_device d ≡ geometry) }
+        ensures geometry { IfOk result (λ d. ram_geometry d ≡ geometry) }
         ensures bytes { IfOk result (λ d. ram_bytes d ≡ replicate (geometry.block_size * geometry.block_count) 255) }
-        ensures erased { IfOk result (λ d. erase_effect_of_ram d ≡ Erased.Fill 255) }
-        ensures no_call { IfOk result (λ d. history_of_ram_device d ≡ []) }
+        ensures erased { IfOk result (λ d. erase_effect d ≡ Erased.Fill 255) }
+        ensures no_call { IfOk result (λ d. ram_history d ≡ []) }
         ensures err { OnErr result (result ≡ Err Error.NoMemory) }
     {
         let len = geometry.block_size as usize * geometry.block_count as usize;
@@ -58,7 +58,7 @@ impl RamDevice {
             bytes,
             erased: Erased::Fill(0xff),
             checks_blanks: false,
-            trace: Trace::with_history_chosen_by_proof(&geometry, &()),
+            trace: Trace::with_ghost_history(&geometry, &()),
         })
     }
 
@@ -68,9 +68,9 @@ impl RamDevice {
     /// Errors: `Invalid` exactly where the number of bytes isn't that of the geometry.
     pub fn from_bytes(geometry: Geometry, bytes: Vec<u8>) -> Result<RamDevice, Error>
         ensures made { MatchResult result
-            (λ d. (geometry_of_ram_device d ≡ geometry) × (ram_bytes d ≡ bytes.items) × (erase_effect_of_ram d ≡ Erased.Fill 255))
+            (λ d. (ram_geometry d ≡ geometry) × (ram_bytes d ≡ bytes.items) × (erase_effect d ≡ Erased.Fill 255))
             (λ e. (e ≡ Error.Invalid) × (¬ (length bytes.items ≡ geometry.block_size * geometry.block_count))) }
-        ensures no_call { IfOk result (λ d. history_of_ram_device d ≡ []) }
+        ensures no_call { IfOk result (λ d. ram_history d ≡ []) }
     {
         if bytes.len() != geometry.block_size as usize * geometry.block_count as usize {
             return Err(Error::Invalid);
@@ -80,16 +80,16 @@ impl RamDevice {
             bytes,
             erased: Erased::Fill(0xff),
             checks_blanks: false,
-            trace: Trace::with_history_chosen_by_proof(&geometry, &()),
+            trace: Trace::with_ghost_history(&geometry, &()),
         })
     }
 
     /// Returns the same device, in which an erase leaves other bytes from now on.
     pub fn erased_as(self, erased: Erased) -> RamDevice
-        ensures geometry { geometry_of_ram_device result ≡ geometry_of_ram_device self }
+        ensures geometry { ram_geometry result ≡ ram_geometry self }
         ensures bytes { ram_bytes result ≡ ram_bytes self }
-        ensures erased { erase_effect_of_ram result ≡ erased }
-        ensures history { history_of_ram_device result ≡ history_of_ram_device self }
+        ensures erased { erase_effect result ≡ erased }
+        ensures history { ram_history result ≡ ram_history self }
     {
         let RamDevice {
             geometry,
@@ -110,10 +110,10 @@ impl RamDevice {
     /// Returns the same device, which says from now on that bytes are blank where each of them is
     /// 0xff. Otherwise it never says so.
     pub fn with_blank_checks(self) -> RamDevice
-        ensures geometry { geometry_of_ram_device result ≡ geometry_of_ram_device self }
+        ensures geometry { ram_geometry result ≡ ram_geometry self }
         ensures bytes { ram_bytes result ≡ ram_bytes self }
-        ensures erased { erase_effect_of_ram result ≡ erase_effect_of_ram self }
-        ensures history { history_of_ram_device result ≡ history_of_ram_device self }
+        ensures erased { erase_effect result ≡ erase_effect self }
+        ensures history { ram_history result ≡ ram_history self }
     {
         let RamDevice {
             geometry,
@@ -134,7 +134,7 @@ impl RamDevice {
     /// Borrows all bytes of the device, block after block.
     pub fn bytes(&self) -> &[u8]
         ensures bytes { result.now ≡ ram_bytes self.now }
-        ensures blocks { ram_blocks self.now ≡ cut (geometry_of_ram_device self.now).block_size (geometry_of_ram_device self.now).block_count result.now }
+        ensures blocks { ram_blocks self.now ≡ cut (ram_geometry self.now).block_size (ram_geometry self.now).block_count result.now }
     {
         &self.bytes
     }
@@ -142,13 +142,13 @@ impl RamDevice {
     /// Returns all bytes of the device, block after block. The device is dropped.
     pub fn to_bytes(self) -> Vec<u8>
         ensures bytes { result.items ≡ ram_bytes self }
-        ensures blocks { ram_blocks self ≡ cut (geometry_of_ram_device self).block_size (geometry_of_ram_device self).block_count result.items }
+        ensures blocks { ram_blocks self ≡ cut (ram_geometry self).block_size (ram_geometry self).block_count result.items }
     {
         self.bytes
     }
 
     // Returns where a byte of a block is among all bytes.
-    fn byte_index_of_block_offset(&self, block: u32, off: u32) -> usize
+    fn byte_index(&self, block: u32, off: u32) -> usize
         requires in_device { block < self.now.geometry.block_count }
         requires in_block { off ≤ self.now.geometry.block_size }
         ensures { result ≡ self.now.geometry.block_size * block + off }
@@ -160,24 +160,24 @@ impl RamDevice {
 /// Shows a proof the premises of contracts about a loss of power. Devices in memory meet them: an
 /// erase leaves no log or the one that was there, and no call fails. The call does nothing at run
 /// time.
-pub fn prove_ram_devices_never_fail_and_meet_premises()
-    ensures { DevicesOfTypeNeverFailAndMeetPremises ⟦<RamDevice as BlockDevice>⟧ }
+pub fn lemma_ram_premises()
+    ensures { DevicesMeetPremises ⟦<RamDevice as BlockDevice>⟧ }
 {}
 
 // Writes bytes over those from an offset on.
 fn overwrite_device_bytes(all: &mut Vec<u8>, at: usize, bytes: &[u8])
     requires { at + length bytes.now ≤ length all.old.items }
-    ensures { all.new.items ≡ bytes_after_overwrite_at all.old.items at bytes.now }
+    ensures { all.new.items ≡ overwritten_at all.old.items at bytes.now }
 {
     all[at..at + bytes.len()].copy_from_slice(bytes);
 }
 
 // Fills the bytes from an offset on with what an erase leaves.
-fn fill_range_as_erased(all: &mut Vec<u8>, at: usize, len: usize, erased: Erased)
+fn fill_erased(all: &mut Vec<u8>, at: usize, len: usize, erased: Erased)
     requires { at + len ≤ length all.old.items }
-    ensures erased { all.new.items ≡ device_bytes_after_erase_of_range erased all.old.items at len }
-    ensures are_bytes { AreAllNumbersBytes all.old.items → AreAllNumbersBytes all.new.items }
-    ensures by_byte { ErasedFillIsByte erased }
+    ensures erased { all.new.items ≡ erased_device erased all.old.items at len }
+    ensures are_bytes { ElementsAreBytes all.old.items → ElementsAreBytes all.new.items }
+    ensures by_byte { FillIsByte erased }
 {
     match erased {
         Erased::Fill(byte) => all[at..at + len].fill(byte),
@@ -186,17 +186,17 @@ fn fill_range_as_erased(all: &mut Vec<u8>, at: usize, len: usize, erased: Erased
 }
 
 impl BlockDevice for RamDevice {
-    ghost use Rattle.lfs_model.proofs.Cuts.{HasBlocksOfCountAndSize-cut};
+    ghost use Rattle.lfs_model.proofs.Cuts.{HasBlockSizes-cut};
     ghost use Rattle.lfs_device.specs.ByteLists.{HasBytes-cut};
-    ghost use Rattle.lfs_device.specs.RamDevice.{geometry_of_ram_device, ram_bytes, ram_blocks, erase_effect_of_ram, history_of_ram_device};
+    ghost use Rattle.lfs_device.specs.RamDevice.{ram_geometry, ram_bytes, ram_blocks, erase_effect, ram_history};
 
-    ghost geometry = { geometry_of_ram_device };
+    ghost geometry = { ram_geometry };
 
     ghost blocks = { ram_blocks };
 
-    ghost history = { history_of_ram_device };
+    ghost history = { ram_history };
 
-    ghost shape = { λ d. HasBlocksOfCountAndSize-cut d.geometry.block_size d.geometry.block_count d.bytes.items d.size };
+    ghost shape = { λ d. HasBlockSizes-cut d.geometry.block_size d.geometry.block_count d.bytes.items d.size };
 
     ghost bytes = { λ d. HasBytes-cut d.geometry.block_size d.geometry.block_count d.bytes.items d.are_bytes };
 
@@ -209,73 +209,73 @@ impl BlockDevice for RamDevice {
     }
 
     fn read(&mut self, block: u32, off: u32, buf: &mut [u8]) -> Result<(), Error>
-        requires in_device { block < (geometry_of_ram_device self.old).block_count }
-        requires in_block { off + length buf.old ≤ (geometry_of_ram_device self.old).block_size }
+        requires in_device { block < (ram_geometry self.old).block_count }
+        requires in_block { off + length buf.old ≤ (ram_geometry self.old).block_size }
         ensures ok { IsOk result }
-        ensures bytes { buf.new ≡ slice_range (block_bytes_by_number (ram_blocks self.old) block) off (off + length buf.old) }
+        ensures bytes { buf.new ≡ slice_range (block_bytes (ram_blocks self.old) block) off (off + length buf.old) }
         ensures same { ram_blocks self.new ≡ ram_blocks self.old }
-        ensures geometry { geometry_of_ram_device self.new ≡ geometry_of_ram_device self.old }
-        ensures erased { erase_effect_of_ram self.new ≡ erase_effect_of_ram self.old }
-        ensures history { history_of_ram_device self.new ≡ device_call_event_with_blocks (Read block off (length buf.old)) (ram_blocks self.old) (ram_blocks self.new) false ∷ history_of_ram_device self.old }
+        ensures geometry { ram_geometry self.new ≡ ram_geometry self.old }
+        ensures erased { erase_effect self.new ≡ erase_effect self.old }
+        ensures history { ram_history self.new ≡ call_event (Read block off (length buf.old)) (ram_blocks self.old) (ram_blocks self.new) false ∷ ram_history self.old }
     {
-        let start = self.byte_index_of_block_offset(block, off);
+        let start = self.byte_index(block, off);
         buf.copy_from_slice(&self.bytes[start..start + buf.len()]);
-        self.trace = Trace::with_history_chosen_by_proof(self, &(block, off, buf.len()));
+        self.trace = Trace::with_ghost_history(self, &(block, off, buf.len()));
         Ok(())
     }
 
     fn prog(&mut self, block: u32, off: u32, bytes: &[u8]) -> Result<(), Error>
-        requires in_device { block < (geometry_of_ram_device self.old).block_count }
-        requires in_block { off + length bytes.now ≤ (geometry_of_ram_device self.old).block_size }
-        requires begins { off % (geometry_of_ram_device self.old).page ≡ 0 }
-        requires ends { (off + length bytes.now) % (geometry_of_ram_device self.old).page ≡ 0 }
-        requires unprogrammed { AreBytesUnprogrammed (history_of_ram_device self.old) block off (off + length bytes.now) }
+        requires in_device { block < (ram_geometry self.old).block_count }
+        requires in_block { off + length bytes.now ≤ (ram_geometry self.old).block_size }
+        requires begins { off % (ram_geometry self.old).page ≡ 0 }
+        requires ends { (off + length bytes.now) % (ram_geometry self.old).page ≡ 0 }
+        requires unprogrammed { AreUnprogrammed (ram_history self.old) block off (off + length bytes.now) }
         ensures ok { IsOk result }
         ensures bytes { ram_blocks self.new ≡ programmed (ram_blocks self.old) block off bytes.now }
-        ensures others { AreBlocksEqualExceptOne block (ram_blocks self.old) (ram_blocks self.new) }
-        ensures geometry { geometry_of_ram_device self.new ≡ geometry_of_ram_device self.old }
-        ensures erased { erase_effect_of_ram self.new ≡ erase_effect_of_ram self.old }
-        ensures history { history_of_ram_device self.new ≡ device_call_event_with_blocks (Program block off bytes.now) (ram_blocks self.old) (ram_blocks self.new) false ∷ history_of_ram_device self.old }
+        ensures others { SameExcept block (ram_blocks self.old) (ram_blocks self.new) }
+        ensures geometry { ram_geometry self.new ≡ ram_geometry self.old }
+        ensures erased { erase_effect self.new ≡ erase_effect self.old }
+        ensures history { ram_history self.new ≡ call_event (Program block off bytes.now) (ram_blocks self.old) (ram_blocks self.new) false ∷ ram_history self.old }
     {
-        let trace = Trace::with_history_chosen_by_proof(self, &(block, off, bytes));
-        let start = self.byte_index_of_block_offset(block, off);
+        let trace = Trace::with_ghost_history(self, &(block, off, bytes));
+        let start = self.byte_index(block, off);
         overwrite_device_bytes(&mut self.bytes, start, bytes);
         self.trace = trace;
         Ok(())
     }
 
     fn erase(&mut self, block: u32) -> Result<(), Error>
-        requires { block < (geometry_of_ram_device self.old).block_count }
+        requires { block < (ram_geometry self.old).block_count }
         ensures ok { IsOk result }
-        ensures bytes { block_bytes_by_number (ram_blocks self.new) block ≡ block_bytes_after_erase (erase_effect_of_ram self.old) (block_bytes_by_number (ram_blocks self.old) block) }
-        ensures others { AreBlocksEqualExceptOne block (ram_blocks self.old) (ram_blocks self.new) }
-        ensures geometry { geometry_of_ram_device self.new ≡ geometry_of_ram_device self.old }
-        ensures erased { erase_effect_of_ram self.new ≡ erase_effect_of_ram self.old }
-        ensures history { history_of_ram_device self.new ≡ device_call_event_with_blocks (Erase block) (ram_blocks self.old) (ram_blocks self.new) false ∷ history_of_ram_device self.old }
+        ensures bytes { block_bytes (ram_blocks self.new) block ≡ erased_bytes (erase_effect self.old) (block_bytes (ram_blocks self.old) block) }
+        ensures others { SameExcept block (ram_blocks self.old) (ram_blocks self.new) }
+        ensures geometry { ram_geometry self.new ≡ ram_geometry self.old }
+        ensures erased { erase_effect self.new ≡ erase_effect self.old }
+        ensures history { ram_history self.new ≡ call_event (Erase block) (ram_blocks self.old) (ram_blocks self.new) false ∷ ram_history self.old }
     {
-        let trace = Trace::with_history_chosen_by_proof(self, &block);
-        let start = self.byte_index_of_block_offset(block, 0);
+        let trace = Trace::with_ghost_history(self, &block);
+        let start = self.byte_index(block, 0);
         let size = self.geometry.block_size as usize;
-        fill_range_as_erased(&mut self.bytes, start, size, self.erased);
+        fill_erased(&mut self.bytes, start, size, self.erased);
         self.trace = trace;
         Ok(())
     }
 
     fn is_unprogrammed(&mut self, block: u32, off: u32, len: u32) -> Result<bool, Error>
-        requires in_device { block < (geometry_of_ram_device self.old).block_count }
-        requires in_block { off + len ≤ (geometry_of_ram_device self.old).block_size }
+        requires in_device { block < (ram_geometry self.old).block_count }
+        requires in_block { off + len ≤ (ram_geometry self.old).block_size }
         ensures ok { IsOk result }
         ensures same { ram_blocks self.new ≡ ram_blocks self.old }
-        ensures geometry { geometry_of_ram_device self.new ≡ geometry_of_ram_device self.old }
-        ensures erased { erase_effect_of_ram self.new ≡ erase_effect_of_ram self.old }
-        ensures yes { result ≡ Ok true → history_of_ram_device self.new ≡ device_call_event_with_blocks (Blank block off len) (ram_blocks self.old) (ram_blocks self.new) false ∷ history_of_ram_device self.old }
-        ensures no { result ≡ Ok false → history_of_ram_device self.new ≡ history_of_ram_device self.old }
+        ensures geometry { ram_geometry self.new ≡ ram_geometry self.old }
+        ensures erased { erase_effect self.new ≡ erase_effect self.old }
+        ensures yes { result ≡ Ok true → ram_history self.new ≡ call_event (Blank block off len) (ram_blocks self.old) (ram_blocks self.new) false ∷ ram_history self.old }
+        ensures no { result ≡ Ok false → ram_history self.new ≡ ram_history self.old }
     {
-        let start = self.byte_index_of_block_offset(block, off);
+        let start = self.byte_index(block, off);
         if !self.checks_blanks || !are_all_erased(&self.bytes[start..start + len as usize]) {
             return Ok(false);
         }
-        self.trace = Trace::with_history_chosen_by_proof(self, &(block, off, len));
+        self.trace = Trace::with_ghost_history(self, &(block, off, len));
         Ok(true)
     }
 }

@@ -1,8 +1,8 @@
 ghost use Rattle.std.specs.Prelude.{◌≡◌, ◌⊎◌, ◌≤◌, ◌<◌, ◌+◌, ◌∷◌, true, false, slice_range, IfOk, IfErr, OnOk, IsErrOf};
-ghost use Rattle.lfs_model.specs.Blocks.{block_bytes_by_number};
-ghost use Rattle.lfs_device.specs.Calls.{ReadsOnly, ReportsFaults};
-ghost use Rattle.lfs_model.specs.History.{device_call_event_with_blocks};
-ghost use Rattle.lfs_model.specs.History.DeviceCall.{Read};
+ghost use Rattle.lfs_model.specs.format.Blocks.{block_bytes};
+ghost use Rattle.lfs_device.specs.DeviceCalls.{ReadsOnly, ReportsFaults};
+ghost use Rattle.lfs_model.specs.session.History.{call_event};
+ghost use Rattle.lfs_model.specs.session.History.DeviceCall.{Read};
 
 use crate::{BlockDevice, Error};
 use std::alloc::Global;
@@ -20,14 +20,14 @@ pub fn read_part<D: BlockDevice>(
 ) -> Result<Vec<u8>, Error>
     requires in_device { block < (D.geometry device.old).block_count }
     requires in_block { off + len ≤ (D.geometry device.old).block_size }
-    ensures bytes { IfOk result (λ bytes. bytes.items ≡ slice_range (block_bytes_by_number (D.blocks device.old) block) off (off + len)) }
+    ensures bytes { IfOk result (λ bytes. bytes.items ≡ slice_range (block_bytes (D.blocks device.old) block) off (off + len)) }
     ensures device { ReadsOnly D.BlockDevice device.old device.new }
     ensures faults { ReportsFaults D.BlockDevice device.old device.new result }
     ensures errors { IfErr result (λ e. (e ≡ Error.Io) ⊎ (e ≡ Error.NoMemory)) }
 
     // There is one read, unless memory wasn't granted.
-    ensures ok { OnOk result (D.history device.new ≡ device_call_event_with_blocks (Read block off len) (D.blocks device.old) (D.blocks device.old) false ∷ D.history device.old) }
-    ensures io { IsErrOf result Error.Io → D.history device.new ≡ device_call_event_with_blocks (Read block off len) (D.blocks device.old) (D.blocks device.old) true ∷ D.history device.old }
+    ensures ok { OnOk result (D.history device.new ≡ call_event (Read block off len) (D.blocks device.old) (D.blocks device.old) false ∷ D.history device.old) }
+    ensures io { IsErrOf result Error.Io → D.history device.new ≡ call_event (Read block off len) (D.blocks device.old) (D.blocks device.old) true ∷ D.history device.old }
     ensures no_memory { IsErrOf result Error.NoMemory → D.history device.new ≡ D.history device.old }
 {
     let mut bytes = Vec::from_elem(alloc, 0u8, len as usize)?;
@@ -45,14 +45,14 @@ pub fn read_block<D: BlockDevice>(
     block: u32,
 ) -> Result<Vec<u8>, Error>
     requires { block < (D.geometry device.old).block_count }
-    ensures bytes { IfOk result (λ bytes. bytes.items ≡ block_bytes_by_number (D.blocks device.old) block) }
+    ensures bytes { IfOk result (λ bytes. bytes.items ≡ block_bytes (D.blocks device.old) block) }
     ensures device { ReadsOnly D.BlockDevice device.old device.new }
     ensures faults { ReportsFaults D.BlockDevice device.old device.new result }
     ensures errors { IfErr result (λ e. (e ≡ Error.Io) ⊎ (e ≡ Error.NoMemory)) }
 
     // There is one read, unless memory wasn't granted.
-    ensures ok { OnOk result (D.history device.new ≡ device_call_event_with_blocks (Read block 0 (D.geometry device.old).block_size) (D.blocks device.old) (D.blocks device.old) false ∷ D.history device.old) }
-    ensures io { IsErrOf result Error.Io → D.history device.new ≡ device_call_event_with_blocks (Read block 0 (D.geometry device.old).block_size) (D.blocks device.old) (D.blocks device.old) true ∷ D.history device.old }
+    ensures ok { OnOk result (D.history device.new ≡ call_event (Read block 0 (D.geometry device.old).block_size) (D.blocks device.old) (D.blocks device.old) false ∷ D.history device.old) }
+    ensures io { IsErrOf result Error.Io → D.history device.new ≡ call_event (Read block 0 (D.geometry device.old).block_size) (D.blocks device.old) (D.blocks device.old) true ∷ D.history device.old }
     ensures no_memory { IsErrOf result Error.NoMemory → D.history device.new ≡ D.history device.old }
 {
     let block_size = device.geometry().block_size;

@@ -1,6 +1,6 @@
 ghost use Rattle.std.specs.Prelude.{◌≡◌, List};
 ghost use Rattle.std.specs.Borrow.{ftrue};
-ghost use Rattle.lfs_model.specs.History.{DeviceCallEvent};
+ghost use Rattle.lfs_model.specs.session.History.{CallEvent};
 
 use std::marker::Model;
 
@@ -11,7 +11,7 @@ use std::marker::Model;
 /// each call assigns a new trace. Callers of a device need no trace.
 #[derive(Drop)]
 pub struct Trace {
-    pub ghost events: { List DeviceCallEvent },
+    pub ghost events: { List CallEvent },
 }
 
 unsafe impl Send for Trace {}
@@ -23,8 +23,8 @@ impl Model for Trace {
 impl Trace {
     /// Makes any history. The caller's proof picks the history from what the two references point
     /// to. They are mostly the device before the call and the call's arguments.
-    pub fn with_history_chosen_by_proof<S, T>(_device: &S, _call: &T) -> Trace
-        ghost events: { List DeviceCallEvent }
+    pub fn with_ghost_history<S, T>(_device: &S, _call: &T) -> Trace
+        ghost events: { List CallEvent }
         ensures { result.events ≡ events }
     {
         Trace {}

@@ -1,15 +1,15 @@
 -- What calls of a device one after the other say of it.
 use Rattle.std.proofs.Common.{ℕ, ◌≡◌, ◌≢◌, Bool, List, [], ◌∷◌, Result, Ok, Err, inl, inr, refl, sym, subst, ◌∙◌, arith}
 use Rattle.std.specs.Prelude.{All}
-use Rattle.lfs_file.specs.Calls.{OnlyReadsAndReportsIoOrCorrupt}
-use Rattle.lfs_device.specs.Calls.{ReadsOnly, ChangesOnlyThisBlock, ChangesOnlyTheseBlocks, ReportsFaults}
+use Rattle.lfs_file.specs.FileCalls.{OnlyReadsOrCorrupt}
+use Rattle.lfs_device.specs.DeviceCalls.{ReadsOnly, ChangesOnlyThisBlock, ChangesOnlyTheseBlocks, ReportsFaults}
 use Rattle.lfs_device.specs.declared.device.BlockDevice.{Ghosts}
 use Rattle.lfs_device.specs.declared.error.Error.{Error}
-use Rattle.lfs_model.specs.Blocks.{AreBlocksEqualExceptOne}
-use Rattle.lfs_model.specs.History.{device_call_event_with_blocks, fault_count_of_history}
-use Rattle.lfs_model.specs.History.DeviceCall.{Read, Program, Erase}
-use Rattle.lfs_model.proofs.Histories.{began, goes_on, goes_on_by, IsTrueOfEachCallSince-weaker, AreCallsSinceOnlyReads-trans, AreBytesStillUnprogrammed-erase, AreBytesStillUnprogrammed-program, AreBytesStillUnprogrammed-read_count_of_history, AreBytesStillUnprogrammed-refl, AreBytesStillUnprogrammed-trans}
-use Rattle.lfs_model.proofs.Overwrites.{AreBlocksEqualExceptOne-refl, AreBlocksEqualExceptOne-trans, AreBlocksEqualExceptThese-one, AreBlocksEqualExceptThese-refl}
+use Rattle.lfs_model.specs.format.Blocks.{SameExcept}
+use Rattle.lfs_model.specs.session.History.{call_event, fault_count}
+use Rattle.lfs_model.specs.session.History.DeviceCall.{Read, Program, Erase}
+use Rattle.lfs_model.proofs.Histories.{began, goes_on, goes_on_by, AllCallsSince-weaker, OnlyReadsSince-trans, StayUnprogrammed-erase, StayUnprogrammed-program, StayUnprogrammed-read_count, StayUnprogrammed-refl, StayUnprogrammed-trans}
+use Rattle.lfs_model.proofs.Overwrites.{SameExcept-refl, SameExcept-trans, SameExceptThese-one, SameExceptThese-refl}
 use Rattle.lfs_file.proofs.Pushing.{stays_one}
 use Rattle.lfs_file.proofs.Readings.{reads_stop}
 
@@ -21,51 +21,51 @@ module _ {D : Type 0} (g : Ghosts D) where
   read_on first second = record {
     same = second.same ∙ first.same;
     geometry = second.geometry ∙ first.geometry;
-    reads = AreCallsSinceOnlyReads-trans first.reads second.reads first.same;
+    reads = OnlyReadsSince-trans first.reads second.reads first.same;
   }
 
-  pub read_once : {old new : D} {block off len : ℕ} {failed : Bool} → g.history new ≡ device_call_event_with_blocks (Read block off len) (g.blocks old) (g.blocks new) failed ∷ g.history old
+  pub read_once : {old new : D} {block off len : ℕ} {failed : Bool} → g.history new ≡ call_event (Read block off len) (g.blocks old) (g.blocks new) failed ∷ g.history old
       → g.blocks new ≡ g.blocks old → g.geometry new ≡ g.geometry old → ReadsOnly g old new
   read_once called same geometry = record { same = same; geometry = geometry; reads = goes_on began called (record { reads = refl; before = refl; after = same }) }
 
   pub only_read : {old new : D} (b : ℕ) → ReadsOnly g old new → ChangesOnlyThisBlock g b old new
   only_read {old} b read = record {
-    others = subst (AreBlocksEqualExceptOne b (g.blocks old)) (sym read.same) (AreBlocksEqualExceptOne-refl b (g.blocks old));
-    elsewhere = AreBytesStillUnprogrammed-read_count_of_history (b ∷ []) read.reads;
+    others = subst (SameExcept b (g.blocks old)) (sym read.same) (SameExcept-refl b (g.blocks old));
+    elsewhere = StayUnprogrammed-read_count (b ∷ []) read.reads;
     geometry = read.geometry;
     at_worst = reads_stop (g.blocks old) b _ _ read.reads;
   }
 
-  pub erase_once : {old new : D} {block : ℕ} {failed : Bool} → g.history new ≡ device_call_event_with_blocks (Erase block) (g.blocks old) (g.blocks new) failed ∷ g.history old
-      → AreBlocksEqualExceptOne block (g.blocks old) (g.blocks new) → g.geometry new ≡ g.geometry old → ChangesOnlyThisBlock g block old new
+  pub erase_once : {old new : D} {block : ℕ} {failed : Bool} → g.history new ≡ call_event (Erase block) (g.blocks old) (g.blocks new) failed ∷ g.history old
+      → SameExcept block (g.blocks old) (g.blocks new) → g.geometry new ≡ g.geometry old → ChangesOnlyThisBlock g block old new
   erase_once called others geometry = record {
     others = others;
-    elsewhere = AreBytesStillUnprogrammed-erase called;
+    elsewhere = StayUnprogrammed-erase called;
     geometry = geometry;
     at_worst = goes_on began called (λ left stop. stop);
   }
 
-  pub program_once : {old new : D} {block off : ℕ} {bytes : List ℕ} {failed : Bool} → g.history new ≡ device_call_event_with_blocks (Program block off bytes) (g.blocks old) (g.blocks new) failed ∷ g.history old
-      → AreBlocksEqualExceptOne block (g.blocks old) (g.blocks new) → g.geometry new ≡ g.geometry old → ChangesOnlyThisBlock g block old new
+  pub program_once : {old new : D} {block off : ℕ} {bytes : List ℕ} {failed : Bool} → g.history new ≡ call_event (Program block off bytes) (g.blocks old) (g.blocks new) failed ∷ g.history old
+      → SameExcept block (g.blocks old) (g.blocks new) → g.geometry new ≡ g.geometry old → ChangesOnlyThisBlock g block old new
   program_once called others geometry = record {
     others = others;
-    elsewhere = AreBytesStillUnprogrammed-program called;
+    elsewhere = StayUnprogrammed-program called;
     geometry = geometry;
     at_worst = goes_on began called (λ left stop. stop);
   }
 
   pub changes_on : {old mid new : D} {b : ℕ} → ChangesOnlyThisBlock g b old mid → ChangesOnlyThisBlock g b mid new → ChangesOnlyThisBlock g b old new
   changes_on first second = record {
-    others = AreBlocksEqualExceptOne-trans first.others second.others;
-    elsewhere = AreBytesStillUnprogrammed-trans first.elsewhere second.elsewhere;
+    others = SameExcept-trans first.others second.others;
+    elsewhere = StayUnprogrammed-trans first.elsewhere second.elsewhere;
     geometry = second.geometry ∙ first.geometry;
-    at_worst = goes_on_by first.at_worst (IsTrueOfEachCallSince-weaker (λ e from left stop. AreBlocksEqualExceptOne-trans first.others (from left stop)) second.at_worst);
+    at_worst = goes_on_by first.at_worst (AllCallsSince-weaker (λ e from left stop. SameExcept-trans first.others (from left stop)) second.at_worst);
   }
 
   pub changes_none : (bs : List ℕ) (d : D) → ChangesOnlyTheseBlocks g bs d d
   changes_none bs d = record {
-    others = AreBlocksEqualExceptThese-refl bs (g.blocks d);
-    elsewhere = AreBytesStillUnprogrammed-refl bs (g.history d);
+    others = SameExceptThese-refl bs (g.blocks d);
+    elsewhere = StayUnprogrammed-refl bs (g.history d);
     geometry = refl;
     at_worst = began;
   }
@@ -73,25 +73,25 @@ module _ {D : Type 0} (g : Ghosts D) where
   -- one of the blocks changes
   pub changes_one : {old mid new : D} {bs : List ℕ} {block : ℕ} → ((other : ℕ) → All (λ b. b ≢ other) bs → block ≢ other) → ChangesOnlyTheseBlocks g bs old mid → ChangesOnlyThisBlock g block mid new → ChangesOnlyTheseBlocks g bs old new
   changes_one {bs = bs} {block = block} among first second = record {
-    others = AreBlocksEqualExceptThese-one bs block _ _ _ among first.others second.others;
+    others = SameExceptThese-one bs block _ _ _ among first.others second.others;
     elsewhere = stays_one bs block _ _ _ among first.elsewhere second.elsewhere;
     geometry = second.geometry ∙ first.geometry;
-    at_worst = goes_on_by first.at_worst (IsTrueOfEachCallSince-weaker (λ e from left stop. AreBlocksEqualExceptThese-one bs block _ _ _ among first.others (from left stop)) second.at_worst);
+    at_worst = goes_on_by first.at_worst (AllCallsSince-weaker (λ e from left stop. SameExceptThese-one bs block _ _ _ among first.others (from left stop)) second.at_worst);
   }
 
   -- a call that succeeds has no fault
-  pub quiet : {X : Type 0} {old new : D} {x : X} → ReportsFaults g old new (Ok x) → fault_count_of_history (g.history new) ≡ fault_count_of_history (g.history old)
+  pub quiet : {X : Type 0} {old new : D} {x : X} → ReportsFaults g old new (Ok x) → fault_count (g.history new) ≡ fault_count (g.history old)
   quiet reported = reported.no_fault (λ is. absurd (cc))
 
   -- after calls without a fault
-  pub reported_on : {X : Type 0} {old mid new : D} {result : Result X Error} → fault_count_of_history (g.history mid) ≡ fault_count_of_history (g.history old) → ReportsFaults g mid new result → ReportsFaults g old new result
+  pub reported_on : {X : Type 0} {old mid new : D} {result : Result X Error} → fault_count (g.history mid) ≡ fault_count (g.history old) → ReportsFaults g mid new result → ReportsFaults g old new result
   reported_on none reported = record {
     fault = λ is. (let more = reported.fault is in omega arith);
     no_fault = λ other. reported.no_fault other ∙ none;
   }
 
   -- and neither has a list that isn't right
-  pub reported_corrupt : {X : Type 0} {old new : D} → fault_count_of_history (g.history new) ≡ fault_count_of_history (g.history old) → ReportsFaults {X = X} g old new (Err Error.Corrupt)
+  pub reported_corrupt : {X : Type 0} {old new : D} → fault_count (g.history new) ≡ fault_count (g.history old) → ReportsFaults {X = X} g old new (Err Error.Corrupt)
   reported_corrupt none = record { fault = λ is. absurd (cc); no_fault = λ other. none }
 
   -- the same error of a call with another result
@@ -108,21 +108,21 @@ module _ {D : Type 0} (g : Ghosts D) where
       back {f} is = let same : e ≡ f = cc in subst (λ z. ◌≡◌ {A = Result Y Error} (Err e) (Err z)) same refl
 
   -- after reads without a fault a list is read
-  pub list_on : {X : Type 0} {old mid new : D} {result : Result X Error} → ReadsOnly g old mid → fault_count_of_history (g.history mid) ≡ fault_count_of_history (g.history old) → OnlyReadsAndReportsIoOrCorrupt g mid new result → OnlyReadsAndReportsIoOrCorrupt g old new result
+  pub list_on : {X : Type 0} {old mid new : D} {result : Result X Error} → ReadsOnly g old mid → fault_count (g.history mid) ≡ fault_count (g.history old) → OnlyReadsOrCorrupt g mid new result → OnlyReadsOrCorrupt g old new result
   list_on read none reported = record { device = read_on read reported.device; faults = reported_on none reported.faults; errors = reported.errors }
 
   -- the same error of a reading with another result
-  pub list_as : {X Y : Type 0} {old new : D} {e : Error} → OnlyReadsAndReportsIoOrCorrupt {X = X} g old new (Err e) → OnlyReadsAndReportsIoOrCorrupt {X = Y} g old new (Err e)
+  pub list_as : {X Y : Type 0} {old new : D} {e : Error} → OnlyReadsOrCorrupt {X = X} g old new (Err e) → OnlyReadsOrCorrupt {X = Y} g old new (Err e)
   list_as reported = record { device = reported.device; faults = reported_as reported.faults; errors = reported.errors }
 
   -- a part of a list wasn't read
-  pub list_io : {X Y : Type 0} {old new : D} {e : Error} → ReadsOnly g old new → ReportsFaults {X = X} g old new (Err e) → e ≡ Error.Io → OnlyReadsAndReportsIoOrCorrupt {X = Y} g old new (Err e)
+  pub list_io : {X Y : Type 0} {old new : D} {e : Error} → ReadsOnly g old new → ReportsFaults {X = X} g old new (Err e) → e ≡ Error.Io → OnlyReadsOrCorrupt {X = Y} g old new (Err e)
   list_io read reported is = record { device = read; faults = reported_as reported; errors = inl is }
 
   -- a list was read and isn't right
-  pub list_corrupt : {X : Type 0} {old new : D} → ReadsOnly g old new → fault_count_of_history (g.history new) ≡ fault_count_of_history (g.history old) → OnlyReadsAndReportsIoOrCorrupt {X = X} g old new (Err Error.Corrupt)
+  pub list_corrupt : {X : Type 0} {old new : D} → ReadsOnly g old new → fault_count (g.history new) ≡ fault_count (g.history old) → OnlyReadsOrCorrupt {X = X} g old new (Err Error.Corrupt)
   list_corrupt read none = record { device = read; faults = reported_corrupt none; errors = inr refl }
 
   -- a list was read
-  pub list_ok : {X : Type 0} {old new : D} {x : X} → ReadsOnly g old new → fault_count_of_history (g.history new) ≡ fault_count_of_history (g.history old) → OnlyReadsAndReportsIoOrCorrupt g old new (Ok x)
+  pub list_ok : {X : Type 0} {old new : D} {x : X} → ReadsOnly g old new → fault_count (g.history new) ≡ fault_count (g.history old) → OnlyReadsOrCorrupt g old new (Ok x)
   list_ok read none = record { device = read; faults = record { fault = λ is. absurd (cc); no_fault = λ other. none }; errors = tt }

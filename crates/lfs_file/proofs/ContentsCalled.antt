@@ -1,29 +1,29 @@
 -- What calls of a device one behind the other say of its faults and of what they leave alone.
 use Rattle.std.proofs.Common.{ℕ, ◌≡◌, Bool, List, ◌∷◌, Result, Ok, Err, refl, sym, subst, ◌∙◌, arith}
-use Rattle.lfs_device.specs.Calls.{ReadsOnly, ChangesOnlyTheseBlocks, ReportsFaults}
+use Rattle.lfs_device.specs.DeviceCalls.{ReadsOnly, ChangesOnlyTheseBlocks, ReportsFaults}
 use Rattle.lfs_device.specs.declared.device.BlockDevice.{Ghosts}
 use Rattle.lfs_device.specs.declared.error.Error.{Error}
-use Rattle.lfs_model.specs.Blocks.{Blocks}
-use Rattle.lfs_model.specs.BlockSets.{BlockStateList}
-use Rattle.lfs_model.specs.History.{device_call_event_with_blocks, fault_count_of_history}
-use Rattle.lfs_model.specs.History.DeviceCall.{Read}
-use Rattle.lfs_model.proofs.Histories.{ArePossibleBlocksAfterPowerLossInCall-read, IsTrueAfterAnyPowerLossSince-read_count_of_history, AreCallsSinceOnlyReads-trans, began, goes_on, is_byte_unprogrammed-read_count_of_history}
-use Rattle.lfs_file.specs.Growing.{GrowingList, unwritten_block_of_list}
-use Rattle.lfs_file.specs.BlocksApart.{IsUsedOrInFlightButNotUnwritten, HasGrowingListBlocksTaken, KeepsBytesOfTakenBlocksExceptUnwritten}
-use Rattle.lfs_file.specs.Calls.{ReportsIoOrNoMemory}
-use Rattle.lfs_file.specs.Effects.{WritesOnlyUnusedBlocks}
-use Rattle.lfs_file.specs.ContentsCalls.{CallKeepsTakenBlocksExceptUnwritten, CallKeepsUsedBlocks}
-use Rattle.lfs_file.specs.Hand.{KeepsUsedBlocksInMap, KeepsBytesOfUsedBlocks}
-use Rattle.lfs_file.proofs.Growth.{Spares-refl, Spares-trans, KeepsUnprogrammedInTakenBlocksExceptUnwritten-trans, stops_trans}
-use Rattle.lfs_file.proofs.Spared.{KeepsUsedBlocksInMap-refl, KeepsUsedBlocksInMap-trans, KeepsBytesOfUsedBlocks-refl, KeepsBytesOfUsedBlocks-trans, KeepsUnprogrammedInUsedBlocks-trans, pages_end, spares_end, stops_end, to_used, to_used_pages, to_used_stops, used_stops_trans}
+use Rattle.lfs_model.specs.format.Blocks.{Blocks}
+use Rattle.lfs_model.specs.layers.BlockSets.{BlockStates}
+use Rattle.lfs_model.specs.session.History.{call_event, fault_count}
+use Rattle.lfs_model.specs.session.History.DeviceCall.{Read}
+use Rattle.lfs_model.proofs.Histories.{LossLeavesAtWorst-read, HoldsAtLosses-read_count, OnlyReadsSince-trans, began, goes_on, is_unprogrammed_byte-read_count}
+use Rattle.lfs_file.specs.Growing.{GrowingList, unwritten_block}
+use Rattle.lfs_file.specs.BlocksApart.{IsTakenWritten, HasBlocksTaken, KeepsTakenBytes}
+use Rattle.lfs_file.specs.FileCalls.{ReportsIoOrNoMemory}
+use Rattle.lfs_file.specs.Effects.{WritesUnusedBlocks}
+use Rattle.lfs_file.specs.ContentsCalls.{CallKeepsTakenBlocksExceptUnwritten, CallKeepsUsedBytes}
+use Rattle.lfs_file.specs.Hand.{KeepsUsedBlocks, KeepsUsedBytes}
+use Rattle.lfs_file.proofs.Growth.{Spares-refl, Spares-trans, TakenStayUnprogrammed-trans, stops_trans}
+use Rattle.lfs_file.proofs.Spared.{KeepsUsedBlocks-refl, KeepsUsedBlocks-trans, KeepsUsedBytes-refl, KeepsUsedBytes-trans, UsedStayUnprogrammed-trans, pages_end, spares_end, stops_end, to_used, to_used_pages, to_used_stops, used_stops_trans}
 
 module _ {D : Type 0} (g : Ghosts D) where
   -- a call that succeeds has no fault
-  pub quiet : {X : Type 0} {old new : D} {x : X} → ReportsFaults g old new (Ok x) → fault_count_of_history (g.history new) ≡ fault_count_of_history (g.history old)
+  pub quiet : {X : Type 0} {old new : D} {x : X} → ReportsFaults g old new (Ok x) → fault_count (g.history new) ≡ fault_count (g.history old)
   quiet reported = reported.no_fault (λ is. absurd (cc))
 
   -- after calls without a fault
-  pub reported_on : {X : Type 0} {old mid new : D} {result : Result X Error} → fault_count_of_history (g.history mid) ≡ fault_count_of_history (g.history old) → ReportsFaults g mid new result → ReportsFaults g old new result
+  pub reported_on : {X : Type 0} {old mid new : D} {result : Result X Error} → fault_count (g.history mid) ≡ fault_count (g.history old) → ReportsFaults g mid new result → ReportsFaults g old new result
   reported_on none reported = record {
     fault = λ is. (let more = reported.fault is in omega arith);
     no_fault = λ other. reported.no_fault other ∙ none;
@@ -51,25 +51,25 @@ module _ {D : Type 0} (g : Ghosts D) where
   read_on first second = record {
     same = second.same ∙ first.same;
     geometry = second.geometry ∙ first.geometry;
-    reads = AreCallsSinceOnlyReads-trans first.reads second.reads first.same;
+    reads = OnlyReadsSince-trans first.reads second.reads first.same;
   }
 
-  pub read_once : {old new : D} {block off len : ℕ} {failed : Bool} → g.history new ≡ device_call_event_with_blocks (Read block off len) (g.blocks old) (g.blocks new) failed ∷ g.history old
+  pub read_once : {old new : D} {block off len : ℕ} {failed : Bool} → g.history new ≡ call_event (Read block off len) (g.blocks old) (g.blocks new) failed ∷ g.history old
       → g.blocks new ≡ g.blocks old → g.geometry new ≡ g.geometry old → ReadsOnly g old new
   read_once called same geometry = record { same = same; geometry = geometry; reads = goes_on began called (record { reads = refl; before = refl; after = same }) }
 
   -- ---- blocks that stand apart
 
-  pub apart_reads : {old new : D} (map : BlockStateList) (pending : List ℕ) → ReadsOnly g old new → CallKeepsTakenBlocksExceptUnwritten g map pending old new
+  pub apart_reads : {old new : D} (map : BlockStates) (pending : List ℕ) → ReadsOnly g old new → CallKeepsTakenBlocksExceptUnwritten g map pending old new
   apart_reads {old} {new} map pending only = record {
-    spared = subst (KeepsBytesOfTakenBlocksExceptUnwritten map pending (g.blocks old)) (sym only.same) (Spares-refl map pending (g.blocks old));
-    pages = record { stays = λ k i apart was. is_byte_unprogrammed-read_count_of_history k i only.reads ∙ was };
+    spared = subst (KeepsTakenBytes map pending (g.blocks old)) (sym only.same) (Spares-refl map pending (g.blocks old));
+    pages = record { stays = λ k i apart was. is_unprogrammed_byte-read_count k i only.reads ∙ was };
     geometry = only.geometry;
-    at_worst = IsTrueAfterAnyPowerLossSince-read_count_of_history ArePossibleBlocksAfterPowerLossInCall-read only.reads (Spares-refl map pending (g.blocks old));
+    at_worst = HoldsAtLosses-read_count LossLeavesAtWorst-read only.reads (Spares-refl map pending (g.blocks old));
   }
 
   -- the list's last block is written
-  pub apart_end : {old new : D} {pending : List ℕ} (map : BlockStateList) → ChangesOnlyTheseBlocks g pending old new → CallKeepsTakenBlocksExceptUnwritten g map pending old new
+  pub apart_end : {old new : D} {pending : List ℕ} (map : BlockStates) → ChangesOnlyTheseBlocks g pending old new → CallKeepsTakenBlocksExceptUnwritten g map pending old new
   apart_end {old} {new} {pending} map changes = record {
     spared = spares_end map pending (g.blocks old) (g.blocks new) changes.others;
     pages = pages_end map pending (g.history old) (g.history new) changes.elsewhere;
@@ -77,41 +77,41 @@ module _ {D : Type 0} (g : Ghosts D) where
     at_worst = stops_end map pending (g.blocks old) (g.history old) (g.history new) changes.at_worst;
   }
 
-  pub apart_on : {map later : BlockStateList} {pending then : List ℕ} {old mid new : D} → ((k : ℕ) → IsUsedOrInFlightButNotUnwritten map pending k → IsUsedOrInFlightButNotUnwritten later then k) → CallKeepsTakenBlocksExceptUnwritten g map pending old mid → CallKeepsTakenBlocksExceptUnwritten g later then mid new
+  pub apart_on : {map later : BlockStates} {pending then : List ℕ} {old mid new : D} → ((k : ℕ) → IsTakenWritten map pending k → IsTakenWritten later then k) → CallKeepsTakenBlocksExceptUnwritten g map pending old mid → CallKeepsTakenBlocksExceptUnwritten g later then mid new
       → CallKeepsTakenBlocksExceptUnwritten g map pending old new
   apart_on {map} {later} {pending} {then} {old} {mid} {new} apart first second = record {
     spared = Spares-trans map later pending then (g.blocks old) (g.blocks mid) (g.blocks new) apart first.spared second.spared;
-    pages = KeepsUnprogrammedInTakenBlocksExceptUnwritten-trans map later pending then (g.history old) (g.history mid) (g.history new) apart first.pages second.pages;
+    pages = TakenStayUnprogrammed-trans map later pending then (g.history old) (g.history mid) (g.history new) apart first.pages second.pages;
     geometry = second.geometry ∙ first.geometry;
     at_worst = stops_trans map later pending then (g.blocks old) (g.blocks mid) (g.history old) (g.history mid) (g.history new) apart first.at_worst first.spared second.at_worst;
   }
 
-  pub apart_read : {map : BlockStateList} {pending : List ℕ} {old mid new : D} → CallKeepsTakenBlocksExceptUnwritten g map pending old mid → ReadsOnly g mid new → CallKeepsTakenBlocksExceptUnwritten g map pending old new
+  pub apart_read : {map : BlockStates} {pending : List ℕ} {old mid new : D} → CallKeepsTakenBlocksExceptUnwritten g map pending old mid → ReadsOnly g mid new → CallKeepsTakenBlocksExceptUnwritten g map pending old new
   apart_read {map} {pending} first only = apart_on (λ k apart. apart) first (apart_reads map pending only)
 
   -- ---- used blocks
 
-  pub used_reads : {old new : D} (map : BlockStateList) → ReadsOnly g old new → CallKeepsUsedBlocks g map old new
+  pub used_reads : {old new : D} (map : BlockStates) → ReadsOnly g old new → CallKeepsUsedBytes g map old new
   used_reads {old} {new} map only = record {
-    spared = subst (KeepsBytesOfUsedBlocks map (g.blocks old)) (sym only.same) (KeepsBytesOfUsedBlocks-refl map (g.blocks old));
-    pages = record { stays = λ k i used was. is_byte_unprogrammed-read_count_of_history k i only.reads ∙ was };
+    spared = subst (KeepsUsedBytes map (g.blocks old)) (sym only.same) (KeepsUsedBytes-refl map (g.blocks old));
+    pages = record { stays = λ k i used was. is_unprogrammed_byte-read_count k i only.reads ∙ was };
     geometry = only.geometry;
-    at_worst = IsTrueAfterAnyPowerLossSince-read_count_of_history ArePossibleBlocksAfterPowerLossInCall-read only.reads (KeepsBytesOfUsedBlocks-refl map (g.blocks old));
+    at_worst = HoldsAtLosses-read_count LossLeavesAtWorst-read only.reads (KeepsUsedBytes-refl map (g.blocks old));
   }
 
-  pub used_on : {map later : BlockStateList} {old mid new : D} → KeepsUsedBlocksInMap map later → CallKeepsUsedBlocks g map old mid → CallKeepsUsedBlocks g later mid new → CallKeepsUsedBlocks g map old new
+  pub used_on : {map later : BlockStates} {old mid new : D} → KeepsUsedBlocks map later → CallKeepsUsedBytes g map old mid → CallKeepsUsedBytes g later mid new → CallKeepsUsedBytes g map old new
   used_on {map} {later} {old} {mid} {new} keeps first second = record {
-    spared = KeepsBytesOfUsedBlocks-trans map later (g.blocks old) (g.blocks mid) (g.blocks new) keeps first.spared second.spared;
-    pages = KeepsUnprogrammedInUsedBlocks-trans map later (g.history old) (g.history mid) (g.history new) keeps first.pages second.pages;
+    spared = KeepsUsedBytes-trans map later (g.blocks old) (g.blocks mid) (g.blocks new) keeps first.spared second.spared;
+    pages = UsedStayUnprogrammed-trans map later (g.history old) (g.history mid) (g.history new) keeps first.pages second.pages;
     geometry = second.geometry ∙ first.geometry;
     at_worst = used_stops_trans map later (g.blocks old) (g.blocks mid) (g.history old) (g.history mid) (g.history new) keeps first.at_worst first.spared second.at_worst;
   }
 
-  pub used_read : {map : BlockStateList} {old mid new : D} → CallKeepsUsedBlocks g map old mid → ReadsOnly g mid new → CallKeepsUsedBlocks g map old new
+  pub used_read : {map : BlockStates} {old mid new : D} → CallKeepsUsedBytes g map old mid → ReadsOnly g mid new → CallKeepsUsedBytes g map old new
   used_read {map} first only = used_on (record { count = refl; used = refl; stays = λ b used. used }) first (used_reads map only)
 
   -- used blocks stand apart
-  pub used_of : {map : BlockStateList} {d : Blocks} {old new : D} (list : GrowingList) → HasGrowingListBlocksTaken map d list → CallKeepsTakenBlocksExceptUnwritten g map (unwritten_block_of_list list) old new → CallKeepsUsedBlocks g map old new
+  pub used_of : {map : BlockStates} {d : Blocks} {old new : D} (list : GrowingList) → HasBlocksTaken map d list → CallKeepsTakenBlocksExceptUnwritten g map (unwritten_block list) old new → CallKeepsUsedBytes g map old new
   used_of {map} {d} {old} {new} list marked leaves = record {
     spared = to_used map d list marked (g.blocks old) (g.blocks new) leaves.spared;
     pages = to_used_pages map d list marked (g.history old) (g.history new) leaves.pages;
@@ -122,7 +122,7 @@ module _ {D : Type 0} (g : Ghosts D) where
   -- ---- maps and errors too
 
   -- a call succeeds without a fault
-  pub writes_well : {X : Type 0} {map later : BlockStateList} {old new : D} {x : X} → KeepsUsedBlocksInMap map later → CallKeepsUsedBlocks g map old new → fault_count_of_history (g.history new) ≡ fault_count_of_history (g.history old) → WritesOnlyUnusedBlocks g map later old new (Ok x)
+  pub writes_well : {X : Type 0} {map later : BlockStates} {old new : D} {x : X} → KeepsUsedBlocks map later → CallKeepsUsedBytes g map old new → fault_count (g.history new) ≡ fault_count (g.history old) → WritesUnusedBlocks g map later old new (Ok x)
   writes_well keeps device none = record {
     map = keeps;
     device = device;
@@ -130,29 +130,29 @@ module _ {D : Type 0} (g : Ghosts D) where
   }
 
   -- and one behind it fails
-  pub writes_fail : {X Y Z : Type 0} {map between later : BlockStateList} {old mid new : D} {x : X} {e : Error} → WritesOnlyUnusedBlocks g map between old mid (Ok x) → KeepsUsedBlocksInMap between later → CallKeepsUsedBlocks g between mid new → ReportsIoOrNoMemory {X = Y} g mid new (Err e)
-      → WritesOnlyUnusedBlocks {X = Z} g map later old new (Err e)
+  pub writes_fail : {X Y Z : Type 0} {map between later : BlockStates} {old mid new : D} {x : X} {e : Error} → WritesUnusedBlocks g map between old mid (Ok x) → KeepsUsedBlocks between later → CallKeepsUsedBytes g between mid new → ReportsIoOrNoMemory {X = Y} g mid new (Err e)
+      → WritesUnusedBlocks {X = Z} g map later old new (Err e)
   writes_fail first keeps device reports = record {
-    map = KeepsUsedBlocksInMap-trans first.map keeps;
+    map = KeepsUsedBlocks-trans first.map keeps;
     device = used_on first.map first.device device;
     reports = record { faults = reported_on (quiet first.reports.faults) (reported_as reports.faults); errors = reports.errors };
   }
 
   -- or succeeds
-  pub writes_on : {X Y Z : Type 0} {map between later : BlockStateList} {old mid new : D} {x : X} {y : Y} {z : Z} → WritesOnlyUnusedBlocks g map between old mid (Ok x) → KeepsUsedBlocksInMap between later → CallKeepsUsedBlocks g between mid new → ReportsIoOrNoMemory g mid new (Ok y) → WritesOnlyUnusedBlocks g map later old new (Ok z)
-  writes_on first keeps device reports = writes_well (KeepsUsedBlocksInMap-trans first.map keeps) (used_on first.map first.device device) (quiet reports.faults ∙ quiet first.reports.faults)
+  pub writes_on : {X Y Z : Type 0} {map between later : BlockStates} {old mid new : D} {x : X} {y : Y} {z : Z} → WritesUnusedBlocks g map between old mid (Ok x) → KeepsUsedBlocks between later → CallKeepsUsedBytes g between mid new → ReportsIoOrNoMemory g mid new (Ok y) → WritesUnusedBlocks g map later old new (Ok z)
+  writes_on first keeps device reports = writes_well (KeepsUsedBlocks-trans first.map keeps) (used_on first.map first.device device) (quiet reports.faults ∙ quiet first.reports.faults)
 
   -- the same of a call with another result
-  pub writes_as : {X Y : Type 0} {map later : BlockStateList} {old new : D} {e : Error} → WritesOnlyUnusedBlocks {X = X} g map later old new (Err e) → WritesOnlyUnusedBlocks {X = Y} g map later old new (Err e)
+  pub writes_as : {X Y : Type 0} {map later : BlockStates} {old new : D} {e : Error} → WritesUnusedBlocks {X = X} g map later old new (Err e) → WritesUnusedBlocks {X = Y} g map later old new (Err e)
   writes_as wrote = record { map = wrote.map; device = wrote.device; reports = record { faults = reported_as wrote.reports.faults; errors = wrote.reports.errors } }
 
-  pub writes_same : {X Y : Type 0} {map later : BlockStateList} {old new : D} {x : X} {y : Y} → WritesOnlyUnusedBlocks g map later old new (Ok x) → WritesOnlyUnusedBlocks g map later old new (Ok y)
+  pub writes_same : {X Y : Type 0} {map later : BlockStates} {old new : D} {x : X} {y : Y} → WritesUnusedBlocks g map later old new (Ok x) → WritesUnusedBlocks g map later old new (Ok y)
   writes_same wrote = writes_well wrote.map wrote.device (quiet wrote.reports.faults)
 
   -- no call
-  pub writes_none : {X : Type 0} {x : X} (map : BlockStateList) (d : D) → WritesOnlyUnusedBlocks g map map d d (Ok x)
-  writes_none map d = writes_well (KeepsUsedBlocksInMap-refl map) (used_reads map (not_read d)) refl
+  pub writes_none : {X : Type 0} {x : X} (map : BlockStates) (d : D) → WritesUnusedBlocks g map map d d (Ok x)
+  writes_none map d = writes_well (KeepsUsedBlocks-refl map) (used_reads map (not_read d)) refl
 
   -- a call that only reads
-  pub writes_of_reads : {X : Type 0} {map later : BlockStateList} {old new : D} {result : Result X Error} → KeepsUsedBlocksInMap map later → ReadsOnly g old new → ReportsIoOrNoMemory g old new result → WritesOnlyUnusedBlocks g map later old new result
+  pub writes_of_reads : {X : Type 0} {map later : BlockStates} {old new : D} {result : Result X Error} → KeepsUsedBlocks map later → ReadsOnly g old new → ReportsIoOrNoMemory g old new result → WritesUnusedBlocks g map later old new result
   writes_of_reads {map = map} keeps only reports = record { map = keeps; device = used_reads map only; reports = reports }

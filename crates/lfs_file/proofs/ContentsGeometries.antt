@@ -5,7 +5,7 @@ use Rattle.std.proofs.Math.Bridge.{le_prop}
 use Rattle.std.proofs.Math.Nat.{ℕ_set}
 use Rattle.lfs_device.specs.declared.geometry.Geometry.{Geometry}
 use Rattle.lfs_model.specs.declared.limits.Profile.{Profile}
-use Rattle.lfs_model.specs.Geometry.{IsValidGeometry}
+use Rattle.lfs_model.specs.format.Geometry.{IsValidGeometry}
 
 -- its limits hold in one way
 pub one_way : {size page count : ℕ} (v w : IsValidGeometry size page count) → v ≡ w

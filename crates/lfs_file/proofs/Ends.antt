@@ -5,15 +5,15 @@ use Rattle.std.specs.List.{IsDistinct}
 use Rattle.std.proofs.lemmas.List.{take-append-drop}
 use Rattle.std.proofs.lemmas.List.Elements.{All-contains, All-contains_itself, All-drop, Contains-append_cases}
 use Rattle.lfs_device.specs.declared.geometry.Geometry.{Geometry}
-use Rattle.lfs_model.specs.Blocks.{Blocks, AreBlocksEqualExceptThese}
-use Rattle.lfs_model.specs.BlockSets.{BlockStateList, IsBlockFree, IsBlockInFlight}
-use Rattle.lfs_model.specs.BlockSets.BlockState.{Free, Used}
-use Rattle.lfs_model.specs.SkipLists.{list_block_count_for_size, AreListBlocks, IsSkipList}
-use Rattle.lfs_file.specs.Growing.{GrowingList, blocks_of_growing_list, blocks_kept_when_growing, unwritten_block_of_list}
-use Rattle.lfs_file.specs.Bases.{IsSkipListOnDiskUnlessEmpty, list_blocks_by_head_and_size}
-use Rattle.lfs_file.specs.Hand.{CanEndGrowingListOverBase, IsFinishedListConsistentWithMapAndDisk, KeepsUsedBlocksInMap}
-use Rattle.lfs_file.specs.Releases.{ReleasesBlocksInFlight}
-use Rattle.lfs_file.specs.TakenBlocks.{ChangesOnlyFreeBlocksInMap}
+use Rattle.lfs_model.specs.format.Blocks.{Blocks, SameExceptThese}
+use Rattle.lfs_model.specs.layers.BlockSets.{BlockStates, IsFree, IsInFlight}
+use Rattle.lfs_model.specs.layers.BlockSets.BlockState.{Free, Used}
+use Rattle.lfs_model.specs.format.SkipLists.{block_count_for, AreListBlocks, IsSkipList}
+use Rattle.lfs_file.specs.Growing.{GrowingList, growing_blocks, kept_blocks, unwritten_block}
+use Rattle.lfs_file.specs.Bases.{IsListOrEmpty, list_blocks_from}
+use Rattle.lfs_file.specs.Hand.{CanEndOver, FinishedListOnDisk, KeepsUsedBlocks}
+use Rattle.lfs_file.specs.Releases.{ReleasesInFlight}
+use Rattle.lfs_file.specs.TakenBlocks.{ChangesOnlyFree}
 use Rattle.lfs_file.specs.declared.stored_list.StoredList.{StoredList}
 use Rattle.lfs_file.proofs.Bases.{blocks_stay, list_stays}
 use Rattle.lfs_file.proofs.Hands.{Contains-drop, Contains-take, distinct_parts}
@@ -28,8 +28,8 @@ pub none_distinct : IsDistinct nat_eq []
 unfolding IsDistinct
 none_distinct = tt
 
-pub base_distinct : (d : Blocks) (block_size head size : ℕ) → IsSkipListOnDiskUnlessEmpty d block_size head size → IsDistinct nat_eq (list_blocks_by_head_and_size d block_size head size)
-base_distinct d block_size head size (inl none) = subst (λ n. IsDistinct nat_eq (list_blocks_by_head_and_size d block_size head n)) (sym none) none_distinct
+pub base_distinct : (d : Blocks) (block_size head size : ℕ) → IsListOrEmpty d block_size head size → IsDistinct nat_eq (list_blocks_from d block_size head size)
+base_distinct d block_size head size (inl none) = subst (λ n. IsDistinct nat_eq (list_blocks_from d block_size head n)) (sym none) none_distinct
 base_distinct d block_size head size (inr list) = list.blocks.distinct
 
 -- a new list's blocks stay in flight
@@ -42,10 +42,10 @@ still_apart shared kept bb x true distinct front behind has = ⊎_elim
     (Contains-append_cases (take shared kept) (drop shared kept) x (subst (λ (l : List ℕ). Contains l x) (sym (take-append-drop shared kept)) has))
 
 -- and no other block does
-pub still_flying : (map later : BlockStateList) (shared : ℕ) (kept bb : List ℕ) (b : ℕ) (in_flight : Bool) → take shared kept ≡ take shared bb → ReleasesBlocksInFlight map later (gone_of in_flight shared bb)
-    → (IsBlockInFlight map b → Contains kept b ⊎ ((in_flight ≡ true) × Contains bb b)) → IsBlockInFlight later b → Contains kept b
+pub still_flying : (map later : BlockStates) (shared : ℕ) (kept bb : List ℕ) (b : ℕ) (in_flight : Bool) → take shared kept ≡ take shared bb → ReleasesInFlight map later (gone_of in_flight shared bb)
+    → (IsInFlight map b → Contains kept b ⊎ ((in_flight ≡ true) × Contains bb b)) → IsInFlight later b → Contains kept b
 still_flying map later shared kept bb b in_flight front released was is = ⊎_elim
-    (λ has. absurd (All-contains (λ x. ¬ (IsBlockInFlight later x)) (gone_of in_flight shared bb) b released.gone has is))
+    (λ has. absurd (All-contains (λ x. ¬ (IsInFlight later x)) (gone_of in_flight shared bb) b released.gone has is))
     (λ apart. ⊎_elim
     (λ has. has)
     (λ both. Contains-take shared kept b (subst (λ (l : List ℕ). Contains l b) (sym front) (Contains-drop shared bb b both.1 (λ has.
@@ -54,53 +54,53 @@ still_flying map later shared kept bb b in_flight front released was is = ⊎_el
     (was (sym (released.others b apart) ∙ is)))
     (member (gone_of in_flight shared bb) b)
 
-module _ (map later : BlockStateList) (e f : Blocks) (block_size : ℕ) (h : GrowingList) (base : StoredList) (shared head size : ℕ) (hand : CanEndGrowingListOverBase map e block_size h base shared) (others : AreBlocksEqualExceptThese (unwritten_block_of_list h) e f)
-    (list : IsSkipList f block_size head size) (blocks : list_blocks_by_head_and_size f block_size head size ≡ blocks_of_growing_list e h) (released : ReleasesBlocksInFlight map later (gone_of base.in_flight shared (list_blocks_by_head_and_size f block_size base.head base.size))) where
+module _ (map later : BlockStates) (e f : Blocks) (block_size : ℕ) (h : GrowingList) (base : StoredList) (shared head size : ℕ) (hand : CanEndOver map e block_size h base shared) (others : SameExceptThese (unwritten_block h) e f)
+    (list : IsSkipList f block_size head size) (blocks : list_blocks_from f block_size head size ≡ growing_blocks e h) (released : ReleasesInFlight map later (gone_of base.in_flight shared (list_blocks_from f block_size base.head base.size))) where
   bb : List ℕ
-  bb = list_blocks_by_head_and_size e block_size base.head base.size
+  bb = list_blocks_from e block_size base.head base.size
 
-  stay : list_blocks_by_head_and_size f block_size base.head base.size ≡ list_blocks_by_head_and_size e block_size base.head base.size
-  stay = blocks_stay map (unwritten_block_of_list h) e f block_size base.head base.size (spares_end map (unwritten_block_of_list h) e f others) hand.begun.apart
+  stay : list_blocks_from f block_size base.head base.size ≡ list_blocks_from e block_size base.head base.size
+  stay = blocks_stay map (unwritten_block h) e f block_size base.head base.size (spares_end map (unwritten_block h) e f others) hand.begun.apart
 
-  out : ReleasesBlocksInFlight map later (gone_of base.in_flight shared (list_blocks_by_head_and_size e block_size base.head base.size))
-  out = subst (λ (l : List ℕ). ReleasesBlocksInFlight map later (gone_of base.in_flight shared l)) stay released
+  out : ReleasesInFlight map later (gone_of base.in_flight shared (list_blocks_from e block_size base.head base.size))
+  out = subst (λ (l : List ℕ). ReleasesInFlight map later (gone_of base.in_flight shared l)) stay released
 
-  kept_is : list_blocks_by_head_and_size f block_size head size ≡ blocks_kept_when_growing e h
+  kept_is : list_blocks_from f block_size head size ≡ kept_blocks e h
   kept_is = blocks ∙ hand.own
 
-  pub ends : IsFinishedListConsistentWithMapAndDisk later f block_size (record { head = head; size = size; in_flight = true })
+  pub ends : FinishedListOnDisk later f block_size (record { head = head; size = size; in_flight = true })
   ends = record {
     base = inr list;
     count = released.count ∙ hand.begun.marked.count ∙ sym others.count;
-    marked = subst (All (λ b. ¬ (IsBlockFree later b))) (sym kept_is) (λ k x l free.
-        hand.begun.marked.kept k x l (sym (out.others (get_or (blocks_kept_when_growing e h) k x) (still_apart shared (blocks_kept_when_growing e h) (list_blocks_by_head_and_size e block_size base.head base.size) (get_or (blocks_kept_when_growing e h) k x) base.in_flight
-        (base_distinct e block_size base.head base.size hand.begun.list) hand.begun.front hand.begun.behind (All-contains_itself (blocks_kept_when_growing e h) k x l))) ∙ free));
+    marked = subst (All (λ b. ¬ (IsFree later b))) (sym kept_is) (λ k x l free.
+        hand.begun.marked.kept k x l (sym (out.others (get_or (kept_blocks e h) k x) (still_apart shared (kept_blocks e h) (list_blocks_from e block_size base.head base.size) (get_or (kept_blocks e h) k x) base.in_flight
+        (base_distinct e block_size base.head base.size hand.begun.list) hand.begun.front hand.begun.behind (All-contains_itself (kept_blocks e h) k x l))) ∙ free));
     flying = λ b is. (
       refl,
       subst (λ (l : List ℕ). Contains l b) (sym kept_is)
-          (still_flying map later shared (blocks_kept_when_growing e h) (list_blocks_by_head_and_size e block_size base.head base.size) b base.in_flight hand.begun.front out (hand.begun.flying b) is),
+          (still_flying map later shared (kept_blocks e h) (list_blocks_from e block_size base.head base.size) b base.in_flight hand.begun.front out (hand.begun.flying b) is),
     );
   }
 
 -- under other names of the geometry
-pub ends_by : (map later : BlockStateList) (e f : Blocks) (geometry now device : Geometry) (h : GrowingList) (base : StoredList) (shared head size : ℕ) → now ≡ geometry → device ≡ geometry → CanEndGrowingListOverBase map e geometry.block_size h base shared
-    → AreBlocksEqualExceptThese (unwritten_block_of_list h) e f → IsSkipList f now.block_size head size → list_blocks_by_head_and_size f now.block_size head size ≡ blocks_of_growing_list e h
-    → ReleasesBlocksInFlight map later (gone_of base.in_flight shared (list_blocks_by_head_and_size f device.block_size base.head base.size)) → IsFinishedListConsistentWithMapAndDisk later f geometry.block_size (record { head = head; size = size; in_flight = true })
+pub ends_by : (map later : BlockStates) (e f : Blocks) (geometry now device : Geometry) (h : GrowingList) (base : StoredList) (shared head size : ℕ) → now ≡ geometry → device ≡ geometry → CanEndOver map e geometry.block_size h base shared
+    → SameExceptThese (unwritten_block h) e f → IsSkipList f now.block_size head size → list_blocks_from f now.block_size head size ≡ growing_blocks e h
+    → ReleasesInFlight map later (gone_of base.in_flight shared (list_blocks_from f device.block_size base.head base.size)) → FinishedListOnDisk later f geometry.block_size (record { head = head; size = size; in_flight = true })
 ends_by map later e f geometry now device h base shared head size same also hand others list blocks released =
     ends map later e f geometry.block_size h base shared head size hand others
     (subst (λ (k : Geometry). IsSkipList f k.block_size head size) same list)
-    (subst (λ (k : Geometry). list_blocks_by_head_and_size f k.block_size head size ≡ blocks_of_growing_list e h) same blocks)
-    (subst (λ (k : Geometry). ReleasesBlocksInFlight map later (gone_of base.in_flight shared (list_blocks_by_head_and_size f k.block_size base.head base.size))) also released)
+    (subst (λ (k : Geometry). list_blocks_from f k.block_size head size ≡ growing_blocks e h) same blocks)
+    (subst (λ (k : Geometry). ReleasesInFlight map later (gone_of base.in_flight shared (list_blocks_from f k.block_size base.head base.size))) also released)
 
 -- the same blocks are used
-pub used_kept : (a b c : BlockStateList) (bs : List ℕ) → ChangesOnlyFreeBlocksInMap a b → ReleasesBlocksInFlight b c bs → KeepsUsedBlocksInMap a c
+pub used_kept : (a b c : BlockStates) (bs : List ℕ) → ChangesOnlyFree a b → ReleasesInFlight b c bs → KeepsUsedBlocks a c
 used_kept a b c bs keeps released = record {
   count = released.count ∙ keeps.count;
   used = released.used ∙ keeps.used;
   stays = λ k used. released.stays k (keeps.states k (λ free. let both : Some Free ≡ Some Used = sym free ∙ used in cc) ∙ used);
 }
 
-pub used_kept_on : (a b c : BlockStateList) → ChangesOnlyFreeBlocksInMap a b → KeepsUsedBlocksInMap b c → KeepsUsedBlocksInMap a c
+pub used_kept_on : (a b c : BlockStates) → ChangesOnlyFree a b → KeepsUsedBlocks b c → KeepsUsedBlocks a c
 used_kept_on a b c keeps later = record {
   count = later.count ∙ keeps.count;
   used = later.used ∙ keeps.used;
@@ -112,14 +112,14 @@ unfolding IsDistinct
 none_chain d head = record { in_range = λ k x l. absurd (omega (arith, l)); distinct = tt; pointers = λ i k l less. absurd (omega (arith, l)) }
 
 -- a base's blocks, from the head back
-pub base_chain : (d : Blocks) (geometry now : Geometry) (head size n : ℕ) → now ≡ geometry → n ≡ list_block_count_for_size now.block_size size → IsSkipListOnDiskUnlessEmpty d geometry.block_size head size → AreListBlocks d n head
-base_chain d geometry now head size n same is (inl none) = subst (λ k. AreListBlocks d k head) (sym (is ∙ ap (list_block_count_for_size now.block_size) none)) (none_chain d head)
+pub base_chain : (d : Blocks) (geometry now : Geometry) (head size n : ℕ) → now ≡ geometry → n ≡ block_count_for now.block_size size → IsListOrEmpty d geometry.block_size head size → AreListBlocks d n head
+base_chain d geometry now head size n same is (inl none) = subst (λ k. AreListBlocks d k head) (sym (is ∙ ap (block_count_for now.block_size) none)) (none_chain d head)
 base_chain d geometry now head size n same is (inr list) =
-    subst (λ k. AreListBlocks d k head) (sym (is ∙ ap (λ (k : Geometry). list_block_count_for_size k.block_size size) same)) list.blocks
+    subst (λ k. AreListBlocks d k head) (sym (is ∙ ap (λ (k : Geometry). block_count_for k.block_size size) same)) list.blocks
 
 -- a base stays while the list's last block is written
-pub base_end : (map : BlockStateList) (e f : Blocks) (geometry device : Geometry) (h : GrowingList) (base : StoredList) (shared : ℕ) → device ≡ geometry → CanEndGrowingListOverBase map e geometry.block_size h base shared → AreBlocksEqualExceptThese (unwritten_block_of_list h) e f
-    → IsSkipListOnDiskUnlessEmpty f device.block_size base.head base.size
+pub base_end : (map : BlockStates) (e f : Blocks) (geometry device : Geometry) (h : GrowingList) (base : StoredList) (shared : ℕ) → device ≡ geometry → CanEndOver map e geometry.block_size h base shared → SameExceptThese (unwritten_block h) e f
+    → IsListOrEmpty f device.block_size base.head base.size
 base_end map e f geometry device h base shared same hand others =
-    subst (λ (k : Geometry). IsSkipListOnDiskUnlessEmpty f k.block_size base.head base.size) (sym same)
-    (⊎_elim (λ none. inl none) (λ list. inr (list_stays map (unwritten_block_of_list h) e f geometry.block_size base.head base.size (spares_end map (unwritten_block_of_list h) e f others) hand.begun.apart list)) hand.begun.list)
+    subst (λ (k : Geometry). IsListOrEmpty f k.block_size base.head base.size) (sym same)
+    (⊎_elim (λ none. inl none) (λ list. inr (list_stays map (unwritten_block h) e f geometry.block_size base.head base.size (spares_end map (unwritten_block h) e f others) hand.begun.apart list)) hand.begun.list)

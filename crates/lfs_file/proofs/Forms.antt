@@ -4,25 +4,25 @@ use Rattle.std.specs.Prelude.{nat_le, nat_lt, ◌==◌, ◌||◌}
 use Rattle.std.proofs.lemmas.Bool.{or_left, or_right, eqb-true, eqb-false, leb-true, leb-false, ltb-true, ltb-false, ne_eqb, eq-eqb, cases_eq, lt-leb, le-leb}
 use Rattle.std.proofs.lemmas.List.{length-take, length-replicate}
 use Rattle.lfs_model.specs.declared.limits.Profile.{Profile}
-use Rattle.lfs_model.specs.Disk.{inline_limit}
-use Rattle.lfs_model.specs.SkipLists.{list_block_count_for_size}
-use Rattle.lfs_model.specs.Session.{FileWriter, skip_list_block_count_unless_inline, reserved_block_count_of_writer}
-use Rattle.lfs_model.specs.Writers.{writer_after_write, writer_after_truncate, writer_after_sync, writer_after_open, contents_after_write, is_nonsequential_write, write_position, bytes_padded_with_zeros}
-use Rattle.lfs_model.specs.Operations.{FlagsOfOpen}
-use Rattle.lfs_model.specs.Tree.{Path}
-use Rattle.lfs_file.specs.Form.{ContentsStorageForm, InMemory, Finished, InHand, contents_size_of_storage_form, in_flight_block_limit_of_storage_form, storage_form_after_write_beginning_within_contents, storage_form_after_shortening, storage_form_after_write, storage_form_after_truncate, storage_form_after_sync, IsStorageFormOfWriterContents}
-use Rattle.lfs_model.proofs.ListSizes.{list_block_count_for_size-more}
+use Rattle.lfs_model.specs.format.Disk.{inline_limit}
+use Rattle.lfs_model.specs.format.SkipLists.{block_count_for}
+use Rattle.lfs_model.specs.session.Session.{FileWriter, list_blocks_of, reserved_for_writer}
+use Rattle.lfs_model.specs.session.Writers.{written_writer, truncated_writer, synced_writer, opened_writer, written_contents, turns_writer, write_position, padded_with_zeros}
+use Rattle.lfs_model.specs.session.Operations.{FlagsOfOpen}
+use Rattle.lfs_model.specs.tree.Tree.{Path}
+use Rattle.lfs_file.specs.Form.{StorageForm, InMemory, Finished, InHand, form_size, form_in_flight, form_after_inner, shortened_form, written_form, truncated_form, synced_form, FitsWriterForm}
+use Rattle.lfs_model.proofs.ListSizes.{block_count_for-more}
 
-length-zeros_to : (n : ℕ) (bytes : List ℕ) → length (bytes_padded_with_zeros n bytes) ≡ max n (length bytes)
+length-zeros_to : (n : ℕ) (bytes : List ℕ) → length (padded_with_zeros n bytes) ≡ max n (length bytes)
 length-zeros_to n bytes = omega (arith, length-append bytes (replicate (n - length bytes) 0), length-replicate {A = ℕ} (n - length bytes) 0)
 
-pub length-written : (old : List ℕ) (at : ℕ) (bytes : List ℕ) → length (contents_after_write old at bytes) ≡ max (length old) (at + length bytes)
+pub length-written : (old : List ℕ) (at : ℕ) (bytes : List ℕ) → length (written_contents old at bytes) ≡ max (length old) (at + length bytes)
 length-written old at bytes =
-    let front : length (take at (bytes_padded_with_zeros at old)) ≡ at = omega (arith, length-take at (bytes_padded_with_zeros at old), length-zeros_to at old) in
-    omega (arith, front, length-append (take at (bytes_padded_with_zeros at old) ++ bytes) (drop (at + length bytes) old), length-append (take at (bytes_padded_with_zeros at old)) bytes, length-drop (at + length bytes) old)
+    let front : length (take at (padded_with_zeros at old)) ≡ at = omega (arith, length-take at (padded_with_zeros at old), length-zeros_to at old) in
+    omega (arith, front, length-append (take at (padded_with_zeros at old) ++ bytes) (drop (at + length bytes) old), length-append (take at (padded_with_zeros at old)) bytes, length-drop (at + length bytes) old)
 
 -- one form or another
-either : (profile : Profile) (block_size : ℕ) (t : Bool) (a b : ContentsStorageForm) (w : FileWriter) → (t ≡ true → IsStorageFormOfWriterContents profile block_size a w) → (t ≡ false → IsStorageFormOfWriterContents profile block_size b w) → IsStorageFormOfWriterContents profile block_size (if t then a else b) w
+either : (profile : Profile) (block_size : ℕ) (t : Bool) (a b : StorageForm) (w : FileWriter) → (t ≡ true → FitsWriterForm profile block_size a w) → (t ≡ false → FitsWriterForm profile block_size b w) → FitsWriterForm profile block_size (if t then a else b) w
 either profile block_size true a b w first second = first refl
 either profile block_size false a b w first second = second refl
 
@@ -38,7 +38,7 @@ turned_or : (t : Bool) (P : Type 0) → (t ≡ true → P) → (t ≡ false → 
 turned_or true P first second = first refl
 turned_or false P first second = second refl
 
-kept_grown : (profile : Profile) (block_size : ℕ) (w v : FileWriter) (begin stop : ℕ) → Grew w v begin stop → inline_limit profile block_size < length v.contents → begin ≤ stop → (form : ContentsStorageForm) → IsStorageFormOfWriterContents profile block_size form w → IsStorageFormOfWriterContents profile block_size (storage_form_after_write_beginning_within_contents begin stop form) v
+kept_grown : (profile : Profile) (block_size : ℕ) (w v : FileWriter) (begin stop : ℕ) → Grew w v begin stop → inline_limit profile block_size < length v.contents → begin ≤ stop → (form : StorageForm) → FitsWriterForm profile block_size form w → FitsWriterForm profile block_size (form_after_inner begin stop form) v
 kept_grown profile block_size w v begin stop grew large le (InMemory size) kept =
     let few : size ≤ inline_limit profile block_size = kept.fits in
     let is : size ≡ length w.contents = kept.size in
@@ -92,46 +92,46 @@ kept_grown profile block_size w v begin stop grew large le (InHand end base flyi
     })
 
 kept_shortened : (profile : Profile) (block_size : ℕ) (w v : FileWriter) (size : ℕ) → v.dirty ≡ true → (w.turned ≡ true → v.turned ≡ true) → ((end : ℕ) → w.last_end ≡ Some end → v.turned ≡ true) → length v.contents ≡ size → inline_limit profile block_size < size → size ≤ length w.contents
-    → (form : ContentsStorageForm) → IsStorageFormOfWriterContents profile block_size form w → IsStorageFormOfWriterContents profile block_size (storage_form_after_shortening size form) v
-kept_shortened profile block_size w v size dirty stays is_nonsequential_write long large le (InMemory old) kept =
+    → (form : StorageForm) → FitsWriterForm profile block_size form w → FitsWriterForm profile block_size (shortened_form size form) v
+kept_shortened profile block_size w v size dirty stays turns_writer long large le (InMemory old) kept =
     let few : old ≤ inline_limit profile block_size = kept.fits in
     let is : old ≡ length w.contents = kept.size in
     absurd (omega arith)
-kept_shortened profile block_size w v size dirty stays is_nonsequential_write long large le (Finished old flying) kept = record {
+kept_shortened profile block_size w v size dirty stays turns_writer long large le (Finished old flying) kept = record {
   size = sym long;
   fits = record { dirty = λ e. dirty; large = λ e. large; turned = λ e. stays (kept.fits.turned e) };
 }
-kept_shortened profile block_size w v size dirty stays is_nonsequential_write long large le (InHand end base flying) kept = record {
+kept_shortened profile block_size w v size dirty stays turns_writer long large le (InHand end base flying) kept = record {
   size = sym long;
   fits = record {
     dirty = λ e. dirty;
     large = λ e. large;
-    turned = λ e. turned_or w.turned (v.turned ≡ true) stays (λ not_yet. is_nonsequential_write end (kept.fits.at_end not_yet));
+    turned = λ e. turned_or w.turned (v.turned ≡ true) stays (λ not_yet. turns_writer end (kept.fits.at_end not_yet));
   };
 }
 
 -- ---- the calls
 
-turned_on : (turned : Bool) (last_end : Option ℕ) (begin end : ℕ) → last_end ≡ Some end → end ≢ begin → (turned || is_nonsequential_write last_end begin) ≡ true
-turned_on turned last_end begin end at ne = or_right turned (is_nonsequential_write last_end begin) (let e : is_nonsequential_write (Some end) begin ≡ true = ap not (ne_eqb begin end (λ e. ne (sym e))) in ap (λ l. is_nonsequential_write l begin) at ∙ e)
+turned_on : (turned : Bool) (last_end : Option ℕ) (begin end : ℕ) → last_end ≡ Some end → end ≢ begin → (turned || turns_writer last_end begin) ≡ true
+turned_on turned last_end begin end at ne = or_right turned (turns_writer last_end begin) (let e : turns_writer (Some end) begin ≡ true = ap not (ne_eqb begin end (λ e. ne (sym e))) in ap (λ l. turns_writer l begin) at ∙ e)
 
-pub kept_written : (profile : Profile) (block_size : ℕ) (form : ContentsStorageForm) (w : FileWriter) (byte : ℕ) (bytes : List ℕ) → IsStorageFormOfWriterContents profile block_size form w
-    → IsStorageFormOfWriterContents profile block_size (storage_form_after_write (inline_limit profile block_size) (write_position w) (length (byte ∷ bytes)) form) (writer_after_write w (byte ∷ bytes))
+pub kept_written : (profile : Profile) (block_size : ℕ) (form : StorageForm) (w : FileWriter) (byte : ℕ) (bytes : List ℕ) → FitsWriterForm profile block_size form w
+    → FitsWriterForm profile block_size (written_form (inline_limit profile block_size) (write_position w) (length (byte ∷ bytes)) form) (written_writer w (byte ∷ bytes))
 kept_written profile block_size form w byte bytes kept =
     let place : ℕ = write_position w in
-    let size : ℕ = contents_size_of_storage_form form in
+    let size : ℕ = form_size form in
     let stop : ℕ = place + length (byte ∷ bytes) in
-    let v : FileWriter = writer_after_write w (byte ∷ bytes) in
+    let v : FileWriter = written_writer w (byte ∷ bytes) in
     let is : size ≡ length w.contents = kept.size in
     let long : length v.contents ≡ max (length w.contents) stop = length-written w.contents place (byte ∷ bytes) in
-    either profile block_size (nat_le (max size stop) (inline_limit profile block_size)) (InMemory (max size stop)) (storage_form_after_write_beginning_within_contents (min place size) stop form) v
+    either profile block_size (nat_le (max size stop) (inline_limit profile block_size)) (InMemory (max size stop)) (form_after_inner (min place size) stop form) v
     (λ fits. record { size = omega arith; fits = leb-true (max size stop) (inline_limit profile block_size) fits })
     (λ exceeds.
     let large : inline_limit profile block_size < max size stop = leb-false (max size stop) (inline_limit profile block_size) exceeds in
     kept_grown profile block_size w v (min place size) stop
     (record {
       dirty = refl;
-      stays = λ t. or_left w.turned (is_nonsequential_write w.last_end (min place (length w.contents))) t;
+      stays = λ t. or_left w.turned (turns_writer w.last_end (min place (length w.contents))) t;
       turns = λ end not_yet at ne. turned_on w.turned w.last_end (min place (length w.contents)) end at (λ e. ne (omega arith));
       last_end = refl;
       size = long;
@@ -140,33 +140,33 @@ kept_written profile block_size form w byte bytes kept =
 
 abbrev resized_to : ℕ → FileWriter → FileWriter
 resized_to size w = record w {
-  contents = take size (bytes_padded_with_zeros size w.contents);
+  contents = take size (padded_with_zeros size w.contents);
   dirty = true;
   turned = w.turned || is_some w.last_end;
   last_end = if nat_lt (length w.contents) size then Some size else w.last_end;
 }
 
-module _ (profile : Profile) (block_size : ℕ) (form : ContentsStorageForm) (w : FileWriter) (size : ℕ) (kept : IsStorageFormOfWriterContents profile block_size form w) (ne : size ≢ length w.contents) where
+module _ (profile : Profile) (block_size : ℕ) (form : StorageForm) (w : FileWriter) (size : ℕ) (kept : FitsWriterForm profile block_size form w) (ne : size ≢ length w.contents) where
   abbrev resized : FileWriter
   resized = resized_to size w
 
   long : length resized.contents ≡ size
-  long = omega (arith, length-take size (bytes_padded_with_zeros size w.contents), length-zeros_to size w.contents)
+  long = omega (arith, length-take size (padded_with_zeros size w.contents), length-zeros_to size w.contents)
 
   some_turned : (end : ℕ) → w.last_end ≡ Some end → resized.turned ≡ true
   some_turned end at = or_right w.turned (is_some w.last_end) (ap is_some at)
 
-  abbrev other : ContentsStorageForm
-  other = if nat_lt (contents_size_of_storage_form form) size then storage_form_after_write_beginning_within_contents (contents_size_of_storage_form form) size form else storage_form_after_shortening size form
+  abbrev other : StorageForm
+  other = if nat_lt (form_size form) size then form_after_inner (form_size form) size form else shortened_form size form
 
-  kept_other : inline_limit profile block_size < size → IsStorageFormOfWriterContents profile block_size other resized
+  kept_other : inline_limit profile block_size < size → FitsWriterForm profile block_size other resized
   kept_other large =
-      let is : contents_size_of_storage_form form ≡ length w.contents = kept.size in
+      let is : form_size form ≡ length w.contents = kept.size in
       let now = long in
-      either profile block_size (nat_lt (contents_size_of_storage_form form) size) (storage_form_after_write_beginning_within_contents (contents_size_of_storage_form form) size form) (storage_form_after_shortening size form) resized
+      either profile block_size (nat_lt (form_size form) size) (form_after_inner (form_size form) size form) (shortened_form size form) resized
       (λ longer.
-      let more : contents_size_of_storage_form form < size = ltb-true (contents_size_of_storage_form form) size longer in
-      kept_grown profile block_size w resized (contents_size_of_storage_form form) size
+      let more : form_size form < size = ltb-true (form_size form) size longer in
+      kept_grown profile block_size w resized (form_size form) size
       (record {
         dirty = refl;
         stays = λ t. or_left w.turned (is_some w.last_end) t;
@@ -176,40 +176,40 @@ module _ (profile : Profile) (block_size : ℕ) (form : ContentsStorageForm) (w 
       })
       (omega arith) (omega arith) form kept)
       (λ shorter.
-      let less : size ≤ contents_size_of_storage_form form = ltb-false (contents_size_of_storage_form form) size shorter in
+      let less : size ≤ form_size form = ltb-false (form_size form) size shorter in
       kept_shortened profile block_size w resized size refl (λ t. or_left w.turned (is_some w.last_end) t) some_turned now large (omega arith) form kept)
 
-  kept_resized : IsStorageFormOfWriterContents profile block_size (if nat_le size (inline_limit profile block_size) then InMemory size else other) resized
+  kept_resized : FitsWriterForm profile block_size (if nat_le size (inline_limit profile block_size) then InMemory size else other) resized
   kept_resized = either profile block_size (nat_le size (inline_limit profile block_size)) (InMemory size) other resized
       (λ fits. record { size = sym long; fits = leb-true size (inline_limit profile block_size) fits })
       (λ exceeds. kept_other (leb-false size (inline_limit profile block_size) exceeds))
 
-  kept_truncated_ne : IsStorageFormOfWriterContents profile block_size (storage_form_after_truncate (inline_limit profile block_size) size form) (writer_after_truncate w size)
+  kept_truncated_ne : FitsWriterForm profile block_size (truncated_form (inline_limit profile block_size) size form) (truncated_writer w size)
   kept_truncated_ne =
-      let is : contents_size_of_storage_form form ≡ length w.contents = kept.size in
-      let first : storage_form_after_truncate (inline_limit profile block_size) size form ≡ (if nat_le size (inline_limit profile block_size) then InMemory size else other) =
-      ap (λ (t : Bool). if t then form else (if nat_le size (inline_limit profile block_size) then InMemory size else other)) (ne_eqb size (contents_size_of_storage_form form) (λ e. ne (e ∙ is))) in
-      let second : writer_after_truncate w size ≡ resized = ap (λ (t : Bool). if t then w else resized) (ne_eqb size (length w.contents) ne) in
-      subst (λ (f : ContentsStorageForm). IsStorageFormOfWriterContents profile block_size f (writer_after_truncate w size)) (sym first) (subst (λ (v : FileWriter). IsStorageFormOfWriterContents profile block_size (if nat_le size (inline_limit profile block_size) then InMemory size else other) v) (sym second) kept_resized)
+      let is : form_size form ≡ length w.contents = kept.size in
+      let first : truncated_form (inline_limit profile block_size) size form ≡ (if nat_le size (inline_limit profile block_size) then InMemory size else other) =
+      ap (λ (t : Bool). if t then form else (if nat_le size (inline_limit profile block_size) then InMemory size else other)) (ne_eqb size (form_size form) (λ e. ne (e ∙ is))) in
+      let second : truncated_writer w size ≡ resized = ap (λ (t : Bool). if t then w else resized) (ne_eqb size (length w.contents) ne) in
+      subst (λ (f : StorageForm). FitsWriterForm profile block_size f (truncated_writer w size)) (sym first) (subst (λ (v : FileWriter). FitsWriterForm profile block_size (if nat_le size (inline_limit profile block_size) then InMemory size else other) v) (sym second) kept_resized)
 
-pub kept_truncated : (profile : Profile) (block_size : ℕ) (form : ContentsStorageForm) (w : FileWriter) (size : ℕ) → IsStorageFormOfWriterContents profile block_size form w → IsStorageFormOfWriterContents profile block_size (storage_form_after_truncate (inline_limit profile block_size) size form) (writer_after_truncate w size)
+pub kept_truncated : (profile : Profile) (block_size : ℕ) (form : StorageForm) (w : FileWriter) (size : ℕ) → FitsWriterForm profile block_size form w → FitsWriterForm profile block_size (truncated_form (inline_limit profile block_size) size form) (truncated_writer w size)
 kept_truncated profile block_size form w size kept = ⊎_elim
     (λ e.
-    let first : storage_form_after_truncate (inline_limit profile block_size) size form ≡ form =
-    ap (λ (t : Bool). if t then form else (if nat_le size (inline_limit profile block_size) then InMemory size else (if nat_lt (contents_size_of_storage_form form) size then storage_form_after_write_beginning_within_contents (contents_size_of_storage_form form) size form else storage_form_after_shortening size form))) (eq-eqb size (contents_size_of_storage_form form) (e ∙ sym kept.size)) in
-    let second : writer_after_truncate w size ≡ w = ap (λ (t : Bool). if t then w else resized_to size w) (eq-eqb size (length w.contents) e) in
-    subst (λ (f : ContentsStorageForm). IsStorageFormOfWriterContents profile block_size f (writer_after_truncate w size)) (sym first) (subst (λ (v : FileWriter). IsStorageFormOfWriterContents profile block_size form v) (sym second) kept))
+    let first : truncated_form (inline_limit profile block_size) size form ≡ form =
+    ap (λ (t : Bool). if t then form else (if nat_le size (inline_limit profile block_size) then InMemory size else (if nat_lt (form_size form) size then form_after_inner (form_size form) size form else shortened_form size form))) (eq-eqb size (form_size form) (e ∙ sym kept.size)) in
+    let second : truncated_writer w size ≡ w = ap (λ (t : Bool). if t then w else resized_to size w) (eq-eqb size (length w.contents) e) in
+    subst (λ (f : StorageForm). FitsWriterForm profile block_size f (truncated_writer w size)) (sym first) (subst (λ (v : FileWriter). FitsWriterForm profile block_size form v) (sym second) kept))
     (λ ne. kept_truncated_ne profile block_size form w size kept ne)
     (cases_eq size (length w.contents))
 
-contents_synced : (w : FileWriter) → (writer_after_sync w).contents ≡ w.contents
+contents_synced : (w : FileWriter) → (synced_writer w).contents ≡ w.contents
 contents_synced w = go w.dirty
   where
     go : (t : Bool) → (if t then record w { dirty = false; turned = false; last_end = None } else w).contents ≡ w.contents
     go true = refl
     go false = refl
 
-pub kept_synced : (profile : Profile) (block_size : ℕ) (form : ContentsStorageForm) (w : FileWriter) → IsStorageFormOfWriterContents profile block_size form w → IsStorageFormOfWriterContents profile block_size (storage_form_after_sync form) (writer_after_sync w)
+pub kept_synced : (profile : Profile) (block_size : ℕ) (form : StorageForm) (w : FileWriter) → FitsWriterForm profile block_size form w → FitsWriterForm profile block_size (synced_form form) (synced_writer w)
 kept_synced profile block_size (InMemory size) w kept = record { size = kept.size ∙ ap length (sym (contents_synced w)); fits = kept.fits }
 kept_synced profile block_size (Finished size flying) w kept = record {
   size = kept.size ∙ ap length (sym (contents_synced w));
@@ -221,11 +221,11 @@ kept_synced profile block_size (InHand end base flying) w kept = record {
 }
 
 -- a writer that was opened on contents in its entry, or truncated, has them in memory
-pub kept_opened_inline : (profile : Profile) (block_size : ℕ) (path : Path) (flags : FlagsOfOpen) (bytes : List ℕ) → length (writer_after_open path flags bytes).contents ≤ inline_limit profile block_size
-    → IsStorageFormOfWriterContents profile block_size (InMemory (length (writer_after_open path flags bytes).contents)) (writer_after_open path flags bytes)
+pub kept_opened_inline : (profile : Profile) (block_size : ℕ) (path : Path) (flags : FlagsOfOpen) (bytes : List ℕ) → length (opened_writer path flags bytes).contents ≤ inline_limit profile block_size
+    → FitsWriterForm profile block_size (InMemory (length (opened_writer path flags bytes).contents)) (opened_writer path flags bytes)
 kept_opened_inline profile block_size path flags bytes few = record { size = refl; fits = few }
 
-pub kept_opened_list : (profile : Profile) (block_size : ℕ) (path : Path) (flags : FlagsOfOpen) (bytes : List ℕ) → IsStorageFormOfWriterContents profile block_size (Finished (length (writer_after_open path flags bytes).contents) false) (writer_after_open path flags bytes)
+pub kept_opened_list : (profile : Profile) (block_size : ℕ) (path : Path) (flags : FlagsOfOpen) (bytes : List ℕ) → FitsWriterForm profile block_size (Finished (length (opened_writer path flags bytes).contents) false) (opened_writer path flags bytes)
 kept_opened_list profile block_size path flags bytes = record {
   size = refl;
   fits = record { dirty = λ e. absurd (cc); large = λ e. absurd (cc); turned = λ e. absurd (cc) };
@@ -233,48 +233,48 @@ kept_opened_list profile block_size path flags bytes = record {
 
 -- ---- space
 
-held_dirty : (profile : Profile) (block_size : ℕ) (w : FileWriter) → w.dirty ≡ true → inline_limit profile block_size < length w.contents → reserved_block_count_of_writer profile block_size w ≡ 2 + (if w.turned then 2 else 1) * list_block_count_for_size block_size (length w.contents)
+held_dirty : (profile : Profile) (block_size : ℕ) (w : FileWriter) → w.dirty ≡ true → inline_limit profile block_size < length w.contents → reserved_for_writer profile block_size w ≡ 2 + (if w.turned then 2 else 1) * block_count_for block_size (length w.contents)
 held_dirty profile block_size w dirty large =
     let n : ℕ = length w.contents in
-    let first : reserved_block_count_of_writer profile block_size w ≡ 2 + (if w.turned then 2 else 1) * skip_list_block_count_unless_inline profile block_size n = ap (λ (t : Bool). if not t then 0 else 2 + (if w.turned then 2 else 1) * skip_list_block_count_unless_inline profile block_size n) dirty in
+    let first : reserved_for_writer profile block_size w ≡ 2 + (if w.turned then 2 else 1) * list_blocks_of profile block_size n = ap (λ (t : Bool). if not t then 0 else 2 + (if w.turned then 2 else 1) * list_blocks_of profile block_size n) dirty in
     let outside : nat_le n (inline_limit profile block_size) ≡ false = lt-leb n (inline_limit profile block_size) large in
-    first ∙ ap (λ (t : Bool). 2 + (if w.turned then 2 else 1) * (if t then 0 else list_block_count_for_size block_size n)) outside
+    first ∙ ap (λ (t : Bool). 2 + (if w.turned then 2 else 1) * (if t then 0 else block_count_for block_size n)) outside
 
-held_turned : (profile : Profile) (block_size : ℕ) (w : FileWriter) → w.dirty ≡ true → inline_limit profile block_size < length w.contents → w.turned ≡ true → reserved_block_count_of_writer profile block_size w ≡ 2 + 2 * list_block_count_for_size block_size (length w.contents)
-held_turned profile block_size w dirty large turned = held_dirty profile block_size w dirty large ∙ ap (λ (t : Bool). 2 + (if t then 2 else 1) * list_block_count_for_size block_size (length w.contents)) turned
+held_turned : (profile : Profile) (block_size : ℕ) (w : FileWriter) → w.dirty ≡ true → inline_limit profile block_size < length w.contents → w.turned ≡ true → reserved_for_writer profile block_size w ≡ 2 + 2 * block_count_for block_size (length w.contents)
+held_turned profile block_size w dirty large turned = held_dirty profile block_size w dirty large ∙ ap (λ (t : Bool). 2 + (if t then 2 else 1) * block_count_for block_size (length w.contents)) turned
 
-held_once : (profile : Profile) (block_size : ℕ) (w : FileWriter) → w.dirty ≡ true → inline_limit profile block_size < length w.contents → 2 + list_block_count_for_size block_size (length w.contents) ≤ reserved_block_count_of_writer profile block_size w
-held_once profile block_size w dirty large = turned_or w.turned (2 + list_block_count_for_size block_size (length w.contents) ≤ reserved_block_count_of_writer profile block_size w)
+held_once : (profile : Profile) (block_size : ℕ) (w : FileWriter) → w.dirty ≡ true → inline_limit profile block_size < length w.contents → 2 + block_count_for block_size (length w.contents) ≤ reserved_for_writer profile block_size w
+held_once profile block_size w dirty large = turned_or w.turned (2 + block_count_for block_size (length w.contents) ≤ reserved_for_writer profile block_size w)
     (λ t. let e = held_turned profile block_size w dirty large t in omega arith)
-    (λ t. let e : reserved_block_count_of_writer profile block_size w ≡ 2 + 1 * list_block_count_for_size block_size (length w.contents) = held_dirty profile block_size w dirty large ∙ ap (λ (t : Bool). 2 + (if t then 2 else 1) * list_block_count_for_size block_size (length w.contents)) t in omega arith)
+    (λ t. let e : reserved_for_writer profile block_size w ≡ 2 + 1 * block_count_for block_size (length w.contents) = held_dirty profile block_size w dirty large ∙ ap (λ (t : Bool). 2 + (if t then 2 else 1) * block_count_for block_size (length w.contents)) t in omega arith)
 
 -- The blocks in flight, and two more while the writer is dirty, are no more than it holds.
-pub held_covers : (profile : Profile) (block_size : ℕ) (form : ContentsStorageForm) (w : FileWriter) → IsStorageFormOfWriterContents profile block_size form w → in_flight_block_limit_of_storage_form block_size form ≤ reserved_block_count_of_writer profile block_size w - 2
+pub held_covers : (profile : Profile) (block_size : ℕ) (form : StorageForm) (w : FileWriter) → FitsWriterForm profile block_size form w → form_in_flight block_size form ≤ reserved_for_writer profile block_size w - 2
 held_covers profile block_size (InMemory size) w kept = omega arith
 held_covers profile block_size (Finished size true) w kept =
     let is : size ≡ length w.contents = kept.size in
     let large : inline_limit profile block_size < size = kept.fits.large refl in
-    let same : list_block_count_for_size block_size size ≡ list_block_count_for_size block_size (length w.contents) = ap (list_block_count_for_size block_size) is in
+    let same : block_count_for block_size size ≡ block_count_for block_size (length w.contents) = ap (block_count_for block_size) is in
     let e = held_once profile block_size w (kept.fits.dirty refl) (omega arith) in
     omega arith
 held_covers profile block_size (Finished size false) w kept = omega arith
 held_covers profile block_size (InHand end base true) w kept =
     let is : max end base ≡ length w.contents = kept.size in
     let large : inline_limit profile block_size < max end base = kept.fits.large in
-    let one = list_block_count_for_size-more block_size end (length w.contents) (omega arith) in
-    let two = list_block_count_for_size-more block_size base (length w.contents) (omega arith) in
+    let one = block_count_for-more block_size end (length w.contents) (omega arith) in
+    let two = block_count_for-more block_size base (length w.contents) (omega arith) in
     let e = held_turned profile block_size w kept.fits.dirty (omega arith) (kept.fits.turned refl) in
     omega arith
 held_covers profile block_size (InHand end base false) w kept =
     let is : max end base ≡ length w.contents = kept.size in
     let large : inline_limit profile block_size < max end base = kept.fits.large in
-    let one = list_block_count_for_size-more block_size end (length w.contents) (omega arith) in
+    let one = block_count_for-more block_size end (length w.contents) (omega arith) in
     let e = held_once profile block_size w kept.fits.dirty (omega arith) in
     omega arith
 
 -- room for what a writer holds is room for going on, or for a list over the base
-pub room_grown : (profile : Profile) (block_size end base : ℕ) (flying : Bool) (v : FileWriter) (used all : ℕ) → IsStorageFormOfWriterContents profile block_size (InHand end base flying) v → used + reserved_block_count_of_writer profile block_size v ≤ all
-    → used + list_block_count_for_size block_size end + (if flying then list_block_count_for_size block_size base else 0) ≤ all
+pub room_grown : (profile : Profile) (block_size end base : ℕ) (flying : Bool) (v : FileWriter) (used all : ℕ) → FitsWriterForm profile block_size (InHand end base flying) v → used + reserved_for_writer profile block_size v ≤ all
+    → used + block_count_for block_size end + (if flying then block_count_for block_size base else 0) ≤ all
 room_grown profile block_size end base flying v used all kept room =
     let covers = held_covers profile block_size (InHand end base flying) v kept in
     let is : max end base ≡ length v.contents = kept.size in
@@ -283,45 +283,45 @@ room_grown profile block_size end base flying v used all kept room =
     omega arith
 
 -- for a list that ends and another one over it
-pub room_turned : (profile : Profile) (block_size end base : ℕ) (v : FileWriter) (used all : ℕ) → IsStorageFormOfWriterContents profile block_size (InHand end base true) v → used + reserved_block_count_of_writer profile block_size v ≤ all
-    → used + 2 * list_block_count_for_size block_size (max base end) ≤ all
+pub room_turned : (profile : Profile) (block_size end base : ℕ) (v : FileWriter) (used all : ℕ) → FitsWriterForm profile block_size (InHand end base true) v → used + reserved_for_writer profile block_size v ≤ all
+    → used + 2 * block_count_for block_size (max base end) ≤ all
 room_turned profile block_size end base v used all kept room =
     let is : max end base ≡ length v.contents = kept.size in
     let large : inline_limit profile block_size < max end base = kept.fits.large in
     let e = held_turned profile block_size v kept.fits.dirty (omega arith) (kept.fits.turned refl) in
-    let same : list_block_count_for_size block_size (max base end) ≡ list_block_count_for_size block_size (length v.contents) = ap (list_block_count_for_size block_size) (let m : max base end ≡ length v.contents = omega arith in m) in
+    let same : block_count_for block_size (max base end) ≡ block_count_for block_size (length v.contents) = ap (block_count_for block_size) (let m : max base end ≡ length v.contents = omega arith in m) in
     omega arith
 
 -- for ending a list as it is
-pub room_ended : (profile : Profile) (block_size end base : ℕ) (flying : Bool) (w : FileWriter) (used all : ℕ) → IsStorageFormOfWriterContents profile block_size (InHand end base flying) w → used + reserved_block_count_of_writer profile block_size w ≤ all
-    → used + (if flying then list_block_count_for_size block_size base else 0) + list_block_count_for_size block_size base ≤ all
+pub room_ended : (profile : Profile) (block_size end base : ℕ) (flying : Bool) (w : FileWriter) (used all : ℕ) → FitsWriterForm profile block_size (InHand end base flying) w → used + reserved_for_writer profile block_size w ≤ all
+    → used + (if flying then block_count_for block_size base else 0) + block_count_for block_size base ≤ all
 room_ended profile block_size end base true w used all kept room =
     let is : max end base ≡ length w.contents = kept.size in
     let large : inline_limit profile block_size < max end base = kept.fits.large in
-    let two = list_block_count_for_size-more block_size base (length w.contents) (omega arith) in
+    let two = block_count_for-more block_size base (length w.contents) (omega arith) in
     let e = held_turned profile block_size w kept.fits.dirty (omega arith) (kept.fits.turned refl) in
     omega arith
 room_ended profile block_size end base false w used all kept room =
     let is : max end base ≡ length w.contents = kept.size in
     let large : inline_limit profile block_size < max end base = kept.fits.large in
-    let two = list_block_count_for_size-more block_size base (length w.contents) (omega arith) in
+    let two = block_count_for-more block_size base (length w.contents) (omega arith) in
     let e = held_once profile block_size w kept.fits.dirty (omega arith) in
     omega arith
 
 -- ---- which form a write leaves
 
-pub written_few : (limit place count : ℕ) (form : ContentsStorageForm) → max (contents_size_of_storage_form form) (place + count) ≤ limit → storage_form_after_write limit place count form ≡ InMemory (max (contents_size_of_storage_form form) (place + count))
+pub written_few : (limit place count : ℕ) (form : StorageForm) → max (form_size form) (place + count) ≤ limit → written_form limit place count form ≡ InMemory (max (form_size form) (place + count))
 written_few limit place count form few =
-    ap (λ (t : Bool). if t then InMemory (max (contents_size_of_storage_form form) (place + count)) else storage_form_after_write_beginning_within_contents (min place (contents_size_of_storage_form form)) (place + count) form) (le-leb (max (contents_size_of_storage_form form) (place + count)) limit few)
+    ap (λ (t : Bool). if t then InMemory (max (form_size form) (place + count)) else form_after_inner (min place (form_size form)) (place + count) form) (le-leb (max (form_size form) (place + count)) limit few)
 
-pub written_many : (limit place count : ℕ) (form : ContentsStorageForm) → limit < max (contents_size_of_storage_form form) (place + count) → storage_form_after_write limit place count form ≡ storage_form_after_write_beginning_within_contents (min place (contents_size_of_storage_form form)) (place + count) form
+pub written_many : (limit place count : ℕ) (form : StorageForm) → limit < max (form_size form) (place + count) → written_form limit place count form ≡ form_after_inner (min place (form_size form)) (place + count) form
 written_many limit place count form many =
-    ap (λ (t : Bool). if t then InMemory (max (contents_size_of_storage_form form) (place + count)) else storage_form_after_write_beginning_within_contents (min place (contents_size_of_storage_form form)) (place + count) form) (lt-leb (max (contents_size_of_storage_form form) (place + count)) limit many)
+    ap (λ (t : Bool). if t then InMemory (max (form_size form) (place + count)) else form_after_inner (min place (form_size form)) (place + count) form) (lt-leb (max (form_size form) (place + count)) limit many)
 
 -- a write to contents in hand, by what it makes of the list and its base
 pub written_hand : (limit place count end base : ℕ) (flying : Bool) (size under : ℕ) (waits : Bool) → limit < max end base → size ≡ place + count
     → (end ≡ min place (max end base) → (under ≡ base) × (waits ≡ flying)) → (end ≢ min place (max end base) → (under ≡ max end base) × (waits ≡ true))
-    → InHand size under waits ≡ storage_form_after_write limit place count (InHand end base flying)
+    → InHand size under waits ≡ written_form limit place count (InHand end base flying)
 written_hand limit place count end base flying size under waits large is on anew =
     let begin : ℕ = min place (max end base) in
     let stop : ℕ = place + count in

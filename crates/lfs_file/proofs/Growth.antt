@@ -5,38 +5,38 @@ use Rattle.std.specs.List.{slice_get}
 use Rattle.std.proofs.lemmas.List.{take_all, take_at, take-append-drop}
 use Rattle.std.proofs.Math.Seq.{drop-append-add}
 use Rattle.std.proofs.lemmas.List.Elements.{All-append, Contains-append_left}
-use Rattle.lfs_model.specs.Blocks.{Blocks}
-use Rattle.lfs_model.specs.BlockSets.{BlockState, BlockStateList, IsBlockFree, IsBlockInFlight}
-use Rattle.lfs_model.specs.BlockSets.BlockState.{Free, InFlight, Used}
-use Rattle.lfs_model.specs.History.{DeviceCallEvent, ArePossibleBlocksAfterPowerLossInCall, IsTrueAfterAnyPowerLossSince}
-use Rattle.lfs_model.proofs.Histories.{goes_on_by, IsTrueOfEachCallSince-weaker}
-use Rattle.lfs_file.specs.Growing.{GrowingList, blocks_kept_when_growing}
-use Rattle.lfs_file.specs.BlocksApart.{GrowsListInFreeBlocks, IsUsedOrInFlightButNotUnwritten, KeepsBytesOfTakenBlocksExceptUnwritten, KeepsUnprogrammedInTakenBlocksExceptUnwritten}
-use Rattle.lfs_file.specs.TakenBlocks.{ChangesOnlyFreeBlocksInMap}
+use Rattle.lfs_model.specs.format.Blocks.{Blocks}
+use Rattle.lfs_model.specs.layers.BlockSets.{BlockState, BlockStates, IsFree, IsInFlight}
+use Rattle.lfs_model.specs.layers.BlockSets.BlockState.{Free, InFlight, Used}
+use Rattle.lfs_model.specs.session.History.{CallEvent, LossLeavesAtWorst, HoldsAtLosses}
+use Rattle.lfs_model.proofs.Histories.{goes_on_by, AllCallsSince-weaker}
+use Rattle.lfs_file.specs.Growing.{GrowingList, kept_blocks}
+use Rattle.lfs_file.specs.BlocksApart.{GrowsInFree, IsTakenWritten, KeepsTakenBytes, TakenStayUnprogrammed}
+use Rattle.lfs_file.specs.TakenBlocks.{ChangesOnlyFree}
 
 -- whether a block is free
-pub cases_free : (sets : BlockStateList) (b : ℕ) → IsBlockFree sets b ⊎ (¬ (IsBlockFree sets b))
+pub cases_free : (sets : BlockStates) (b : ℕ) → IsFree sets b ⊎ (¬ (IsFree sets b))
 cases_free sets b = go (slice_get sets b) refl
   where
-    go : (s : Option BlockState) → slice_get sets b ≡ s → IsBlockFree sets b ⊎ (¬ (IsBlockFree sets b))
+    go : (s : Option BlockState) → slice_get sets b ≡ s → IsFree sets b ⊎ (¬ (IsFree sets b))
     go None is = inr (λ e. cc)
     go (Some Free) is = inl is
     go (Some InFlight) is = inr (λ e. cc)
     go (Some Used) is = inr (λ e. cc)
 
-pub cases_in_flight : (sets : BlockStateList) (b : ℕ) → IsBlockInFlight sets b ⊎ (¬ (IsBlockInFlight sets b))
+pub cases_in_flight : (sets : BlockStates) (b : ℕ) → IsInFlight sets b ⊎ (¬ (IsInFlight sets b))
 cases_in_flight sets b = go (slice_get sets b) refl
   where
-    go : (s : Option BlockState) → slice_get sets b ≡ s → IsBlockInFlight sets b ⊎ (¬ (IsBlockInFlight sets b))
+    go : (s : Option BlockState) → slice_get sets b ≡ s → IsInFlight sets b ⊎ (¬ (IsInFlight sets b))
     go None is = inr (λ e. cc)
     go (Some Free) is = inr (λ e. cc)
     go (Some InFlight) is = inl is
     go (Some Used) is = inr (λ e. cc)
 
-pub Keeps-refl : (sets : BlockStateList) → ChangesOnlyFreeBlocksInMap sets sets
+pub Keeps-refl : (sets : BlockStates) → ChangesOnlyFree sets sets
 Keeps-refl sets = record { count = refl; states = λ b nf. refl; used = refl }
 
-pub Keeps-trans : {a b c : BlockStateList} → ChangesOnlyFreeBlocksInMap a b → ChangesOnlyFreeBlocksInMap b c → ChangesOnlyFreeBlocksInMap a c
+pub Keeps-trans : {a b c : BlockStates} → ChangesOnlyFree a b → ChangesOnlyFree b c → ChangesOnlyFree a c
 Keeps-trans {a} {b} {c} first second = record {
   count = second.count ∙ first.count;
   states = λ k nf. second.states k (λ free. nf (sym (first.states k nf) ∙ free)) ∙ first.states k nf;
@@ -44,36 +44,36 @@ Keeps-trans {a} {b} {c} first second = record {
 }
 
 -- a block that became free was so before
-pub free_before : (a b : BlockStateList) (k : ℕ) → ChangesOnlyFreeBlocksInMap a b → IsBlockFree b k → IsBlockFree a k
+pub free_before : (a b : BlockStates) (k : ℕ) → ChangesOnlyFree a b → IsFree b k → IsFree a k
 free_before a b k keeps free = ⊎_elim (λ was. was) (λ nf. absurd (nf (sym (keeps.states k nf) ∙ free))) (cases_free a k)
 
-pub Spares-refl : (map : BlockStateList) (pending : List ℕ) (d : Blocks) → KeepsBytesOfTakenBlocksExceptUnwritten map pending d d
+pub Spares-refl : (map : BlockStates) (pending : List ℕ) (d : Blocks) → KeepsTakenBytes map pending d d
 Spares-refl map pending d = record { count = refl; sizes = λ b. refl; same = λ b apart. refl }
 
-pub Spares-trans : (map later : BlockStateList) (pending then : List ℕ) (a b c : Blocks) → ((k : ℕ) → IsUsedOrInFlightButNotUnwritten map pending k → IsUsedOrInFlightButNotUnwritten later then k) → KeepsBytesOfTakenBlocksExceptUnwritten map pending a b → KeepsBytesOfTakenBlocksExceptUnwritten later then b c → KeepsBytesOfTakenBlocksExceptUnwritten map pending a c
+pub Spares-trans : (map later : BlockStates) (pending then : List ℕ) (a b c : Blocks) → ((k : ℕ) → IsTakenWritten map pending k → IsTakenWritten later then k) → KeepsTakenBytes map pending a b → KeepsTakenBytes later then b c → KeepsTakenBytes map pending a c
 Spares-trans map later pending then a b c apart first second = record {
   count = second.count ∙ first.count;
   sizes = λ k. second.sizes k ∙ first.sizes k;
   same = λ k here. second.same k (apart k here) ∙ first.same k here;
 }
 
-pub KeepsUnprogrammedInTakenBlocksExceptUnwritten-trans : (map later : BlockStateList) (pending then : List ℕ) (a b c : List DeviceCallEvent) → ((k : ℕ) → IsUsedOrInFlightButNotUnwritten map pending k → IsUsedOrInFlightButNotUnwritten later then k) → KeepsUnprogrammedInTakenBlocksExceptUnwritten map pending a b → KeepsUnprogrammedInTakenBlocksExceptUnwritten later then b c → KeepsUnprogrammedInTakenBlocksExceptUnwritten map pending a c
-KeepsUnprogrammedInTakenBlocksExceptUnwritten-trans map later pending then a b c apart first second = record { stays = λ k i here was. second.stays k i (apart k here) (first.stays k i here was) }
+pub TakenStayUnprogrammed-trans : (map later : BlockStates) (pending then : List ℕ) (a b c : List CallEvent) → ((k : ℕ) → IsTakenWritten map pending k → IsTakenWritten later then k) → TakenStayUnprogrammed map pending a b → TakenStayUnprogrammed later then b c → TakenStayUnprogrammed map pending a c
+TakenStayUnprogrammed-trans map later pending then a b c apart first second = record { stays = λ k i here was. second.stays k i (apart k here) (first.stays k i here was) }
 
 -- a stop in either of two stretches
-pub stops_trans : (map later : BlockStateList) (pending then : List ℕ) (from to : Blocks) (a b c : List DeviceCallEvent) → ((k : ℕ) → IsUsedOrInFlightButNotUnwritten map pending k → IsUsedOrInFlightButNotUnwritten later then k)
-    → IsTrueAfterAnyPowerLossSince ArePossibleBlocksAfterPowerLossInCall a b (KeepsBytesOfTakenBlocksExceptUnwritten map pending from) → KeepsBytesOfTakenBlocksExceptUnwritten map pending from to → IsTrueAfterAnyPowerLossSince ArePossibleBlocksAfterPowerLossInCall b c (KeepsBytesOfTakenBlocksExceptUnwritten later then to) → IsTrueAfterAnyPowerLossSince ArePossibleBlocksAfterPowerLossInCall a c (KeepsBytesOfTakenBlocksExceptUnwritten map pending from)
+pub stops_trans : (map later : BlockStates) (pending then : List ℕ) (from to : Blocks) (a b c : List CallEvent) → ((k : ℕ) → IsTakenWritten map pending k → IsTakenWritten later then k)
+    → HoldsAtLosses LossLeavesAtWorst a b (KeepsTakenBytes map pending from) → KeepsTakenBytes map pending from to → HoldsAtLosses LossLeavesAtWorst b c (KeepsTakenBytes later then to) → HoldsAtLosses LossLeavesAtWorst a c (KeepsTakenBytes map pending from)
 stops_trans map later pending then from to a b c apart first between second =
-    goes_on_by first (IsTrueOfEachCallSince-weaker (λ e all left stop. Spares-trans map later pending then from to left apart between (all left stop)) second)
+    goes_on_by first (AllCallsSince-weaker (λ e all left stop. Spares-trans map later pending then from to left apart between (all left stop)) second)
 
 -- ---- a list that grows
 
-pub GrowsListInFreeBlocks-refl : (map : BlockStateList) (d : Blocks) (g : GrowingList) → GrowsListInFreeBlocks map d g map d g
-GrowsListInFreeBlocks-refl map d g = record {
+pub GrowsInFree-refl : (map : BlockStates) (d : Blocks) (g : GrowingList) → GrowsInFree map d g map d g
+GrowsInFree-refl map d g = record {
   apart = λ b here. here;
   flying = λ b is. inl is;
-  front = take_all (length (blocks_kept_when_growing d g)) (blocks_kept_when_growing d g) (omega arith);
-  fresh = λ k x l. absurd (omega (arith, l, length-drop (length (blocks_kept_when_growing d g)) (blocks_kept_when_growing d g)));
+  front = take_all (length (kept_blocks d g)) (kept_blocks d g) (omega arith);
+  fresh = λ k x l. absurd (omega (arith, l, length-drop (length (kept_blocks d g)) (kept_blocks d g)));
   count = refl;
 }
 
@@ -88,18 +88,18 @@ split front all is = sym (take-append-drop (length front) all) ∙ ap (λ (l : L
 drop_front : (front rest : List ℕ) → drop (length front) (front ++ rest) ≡ rest
 drop_front front rest = ap (λ n. drop n (front ++ rest)) (let z : length front ≡ length front + 0 = omega arith in z) ∙ drop-append-add front rest 0
 
-pub GrowsListInFreeBlocks-trans : (a b c : BlockStateList) (d e f : Blocks) (g h i : GrowingList) → ChangesOnlyFreeBlocksInMap a b → GrowsListInFreeBlocks a d g b e h → GrowsListInFreeBlocks b e h c f i → GrowsListInFreeBlocks a d g c f i
-GrowsListInFreeBlocks-trans a b c d e f g h i keeps first second =
-    let x : List ℕ = blocks_kept_when_growing d g in
-    let y : List ℕ = blocks_kept_when_growing e h in
-    let z : List ℕ = blocks_kept_when_growing f i in
+pub GrowsInFree-trans : (a b c : BlockStates) (d e f : Blocks) (g h i : GrowingList) → ChangesOnlyFree a b → GrowsInFree a d g b e h → GrowsInFree b e h c f i → GrowsInFree a d g c f i
+GrowsInFree-trans a b c d e f g h i keeps first second =
+    let x : List ℕ = kept_blocks d g in
+    let y : List ℕ = kept_blocks e h in
+    let z : List ℕ = kept_blocks f i in
     let all : z ≡ x ++ (drop (length x) y ++ drop (length y) z) =
     split y z second.front ∙ ap (λ (l : List ℕ). l ++ drop (length y) z) (split x y first.front) ∙ append_assoc x (drop (length x) y) (drop (length y) z) in
     record {
       apart = λ k here. second.apart k (first.apart k here);
       flying = λ k is. ⊎_elim (λ was. ⊎_elim (λ long. inl long) (λ has. inr (in_longer y z k second.front has)) (first.flying k was)) (λ has. inr has) (second.flying k is);
       front = ap (take (length x)) all ∙ take_at x (drop (length x) y ++ drop (length y) z) (length x) refl;
-      fresh = subst (All (IsBlockFree a)) (sym (ap (drop (length x)) all ∙ drop_front x (drop (length x) y ++ drop (length y) z)))
-          (All-append (IsBlockFree a) (drop (length x) y) (drop (length y) z) first.fresh (λ k v l. free_before a b (get_or (drop (length y) z) k v) keeps (second.fresh k v l)));
+      fresh = subst (All (IsFree a)) (sym (ap (drop (length x)) all ∙ drop_front x (drop (length x) y ++ drop (length y) z)))
+          (All-append (IsFree a) (drop (length x) y) (drop (length y) z) first.fresh (λ k v l. free_before a b (get_or (drop (length y) z) k v) keeps (second.fresh k v l)));
       count = omega (arith, first.count, second.count);
     }

@@ -7,18 +7,18 @@ use Rattle.std.proofs.lemmas.List.{take-take, take-append-le, drop-append-le, ta
 use Rattle.std.proofs.lemmas.Grind.{get_or_default_zero}
 use Rattle.std.proofs.lemmas.List.Elements.{All-append, All-contains, All-take, Contains-append_left, Contains-append_cases}
 use Rattle.std.proofs.lemmas.Map.Keys.{apart_from_distinct}
-use Rattle.lfs_model.specs.Blocks.{Blocks}
-use Rattle.lfs_model.specs.BlockSets.{BlockStateList, IsBlockFree}
-use Rattle.lfs_model.specs.BlockSets.BlockState.{Free, Used}
-use Rattle.lfs_model.specs.SkipLists.{list_block_count_for_size}
-use Rattle.lfs_file.specs.Growing.{GrowingList, HasGrowingListOnDisk, blocks_of_growing_list, are_last_bytes_of_list_only_in_buffer, blocks_kept_when_growing, unwritten_block_of_list, growing_list_size_with_block_size}
-use Rattle.lfs_file.specs.Growing.{unwritten_block_after_full_blocks}
+use Rattle.lfs_model.specs.format.Blocks.{Blocks}
+use Rattle.lfs_model.specs.layers.BlockSets.{BlockStates, IsFree}
+use Rattle.lfs_model.specs.layers.BlockSets.BlockState.{Free, Used}
+use Rattle.lfs_model.specs.format.SkipLists.{block_count_for}
+use Rattle.lfs_file.specs.Growing.{GrowingList, IsOnDisk, growing_blocks, rest_lacks_block, kept_blocks, unwritten_block, growing_size_with}
+use Rattle.lfs_file.specs.Growing.{unwritten_after_full}
 use Rattle.lfs_file.specs.declared.rest.RestLocation.{RestLocation}
 use Rattle.lfs_file.specs.declared.rest.RestLocation.TheVariants.{Closed, Shared, Handed, Held}
-use Rattle.lfs_file.specs.BlocksApart.{GrowsListInFreeBlocks, IsUsedOrInFlightButNotUnwritten, HasGrowingListBlocksTaken, KeepsBytesOfTakenBlocksExceptUnwritten}
-use Rattle.lfs_file.specs.Bases.{list_blocks_by_head_and_size}
-use Rattle.lfs_file.specs.Hand.{GrowingListSharesOnlyFirstBlocksWithBase, CanEndGrowingListOverBase, IsFinishedListConsistentWithMapAndDisk}
-use Rattle.lfs_file.specs.TakenBlocks.{ChangesOnlyFreeBlocksInMap}
+use Rattle.lfs_file.specs.BlocksApart.{GrowsInFree, IsTakenWritten, HasBlocksTaken, KeepsTakenBytes}
+use Rattle.lfs_file.specs.Bases.{list_blocks_from}
+use Rattle.lfs_file.specs.Hand.{SharesFirstBlocks, CanEndOver, FinishedListOnDisk}
+use Rattle.lfs_file.specs.TakenBlocks.{ChangesOnlyFree}
 use Rattle.lfs_file.specs.declared.stored_list.StoredList.{StoredList}
 use Rattle.lfs_file.proofs.Bases.{blocks_stay, list_stays}
 use Rattle.lfs_file.proofs.Growth.{in_longer, split}
@@ -49,34 +49,34 @@ distinct_parts n xs b distinct (i, lt, is) k x l same =
 
 -- ---- growth
 
-pub hand_grows : (map later : BlockStateList) (d e : Blocks) (block_size : ℕ) (g h : GrowingList) (base : StoredList) (shared : ℕ) → GrowingListSharesOnlyFirstBlocksWithBase map d block_size g base shared → KeepsBytesOfTakenBlocksExceptUnwritten map (unwritten_block_of_list g) d e → ChangesOnlyFreeBlocksInMap map later
-    → GrowsListInFreeBlocks map d g later e h → HasGrowingListOnDisk e h → HasGrowingListBlocksTaken later e h → blocks_of_growing_list e h ≡ blocks_kept_when_growing e h → length (blocks_kept_when_growing e h) ≡ list_block_count_for_size block_size (growing_list_size_with_block_size block_size h) → are_last_bytes_of_list_only_in_buffer h ≡ false → CanEndGrowingListOverBase later e block_size h base shared
+pub hand_grows : (map later : BlockStates) (d e : Blocks) (block_size : ℕ) (g h : GrowingList) (base : StoredList) (shared : ℕ) → SharesFirstBlocks map d block_size g base shared → KeepsTakenBytes map (unwritten_block g) d e → ChangesOnlyFree map later
+    → GrowsInFree map d g later e h → IsOnDisk e h → HasBlocksTaken later e h → growing_blocks e h ≡ kept_blocks e h → length (kept_blocks e h) ≡ block_count_for block_size (growing_size_with block_size h) → rest_lacks_block h ≡ false → CanEndOver later e block_size h base shared
 hand_grows map later d e block_size g h base shared begun spared keeps grown growing marked own many listed =
-    let bb : List ℕ = list_blocks_by_head_and_size d block_size base.head base.size in
-    let stay : list_blocks_by_head_and_size e block_size base.head base.size ≡ bb = blocks_stay map (unwritten_block_of_list g) d e block_size base.head base.size spared begun.apart in
-    let x : List ℕ = blocks_kept_when_growing d g in
-    let y : List ℕ = blocks_kept_when_growing e h in
+    let bb : List ℕ = list_blocks_from d block_size base.head base.size in
+    let stay : list_blocks_from e block_size base.head base.size ≡ bb = blocks_stay map (unwritten_block g) d e block_size base.head base.size spared begun.apart in
+    let x : List ℕ = kept_blocks d g in
+    let y : List ℕ = kept_blocks e h in
     let all : y ≡ x ++ drop (length x) y = split x y grown.front in
     let size : length (take shared x) ≡ length (take shared bb) = ap length begun.front in
-    let long = length_back d (list_block_count_for_size block_size base.size) base.head in
+    let long = length_back d (block_count_for block_size base.size) base.head in
     let few : shared ≤ length x = (let p = length-take shared x in let q = length-take-le shared bb (let f = begun.few in omega arith) in omega arith) in
     record {
       begun = record {
         growing = growing;
         marked = marked;
-        list = ⊎_elim (λ none. inl none) (λ list. inr (list_stays map (unwritten_block_of_list g) d e block_size base.head base.size spared begun.apart list)) begun.list;
-        apart = subst (All (IsUsedOrInFlightButNotUnwritten later (unwritten_block_of_list h))) (sym stay) (λ k v l. grown.apart (get_or bb k v) (begun.apart k v l));
+        list = ⊎_elim (λ none. inl none) (λ list. inr (list_stays map (unwritten_block g) d e block_size base.head base.size spared begun.apart list)) begun.list;
+        apart = subst (All (IsTakenWritten later (unwritten_block h))) (sym stay) (λ k v l. grown.apart (get_or bb k v) (begun.apart k v l));
         few = begun.few;
         front = ap (take shared) all ∙ take-append-le shared x (drop (length x) y) few ∙ begun.front ∙ ap (take shared) (sym stay);
         behind = subst (λ (l : List ℕ). All (λ b. All (λ c. c ≢ b) l) (drop shared y)) (sym stay)
             (subst (All (λ b. All (λ c. c ≢ b) bb)) (sym (ap (drop shared) all ∙ drop-append-le shared x (drop (length x) y) few))
             (All-append (λ b. All (λ c. c ≢ b) bb) (drop shared x) (drop (length x) y) begun.behind
-            (λ k v l i w m same. (begun.apart i w m).0 (subst (IsBlockFree map) (sym same) (grown.fresh k v l)))));
+            (λ k v l i w m same. (begun.apart i w m).0 (subst (IsFree map) (sym same) (grown.fresh k v l)))));
         taken = λ b has used.
             let was = used_back (keeps_used keeps) b used in
             ⊎_elim
             (λ front. subst (λ (l : List ℕ). Contains l b) (sym stay) (begun.taken b front was))
-            (λ fresh. absurd (let free = All-contains (IsBlockFree map) (drop (length x) y) b grown.fresh fresh in let both : Some Free ≡ Some Used = sym free ∙ was in cc))
+            (λ fresh. absurd (let free = All-contains (IsFree map) (drop (length x) y) b grown.fresh fresh in let both : Some Free ≡ Some Used = sym free ∙ was in cc))
             (Contains-append_cases x (drop (length x) y) b (subst (λ (l : List ℕ). Contains l b) all has));
         flying = λ b is. ⊎_elim
             (λ was. ⊎_elim (λ has. inl (in_longer x y b grown.front has)) (λ both. inr (both.0, subst (λ (l : List ℕ). Contains l b) (sym stay) both.1)) (begun.flying b was))
@@ -90,11 +90,11 @@ hand_grows map later d e block_size g h base shared begun spared keeps grown gro
 
 -- ---- the beginning
 
-pub begins : (map : BlockStateList) (d : Blocks) (block_size : ℕ) (g : GrowingList) (base : StoredList) (full : ℕ) → IsFinishedListConsistentWithMapAndDisk map d block_size base → HasGrowingListOnDisk d g → unwritten_block_of_list g ≡ []
-    → blocks_kept_when_growing d g ≡ take full (list_blocks_by_head_and_size d block_size base.head base.size) → g.full ≡ full → GrowingListSharesOnlyFirstBlocksWithBase map d block_size g base full
+pub begins : (map : BlockStates) (d : Blocks) (block_size : ℕ) (g : GrowingList) (base : StoredList) (full : ℕ) → FinishedListOnDisk map d block_size base → IsOnDisk d g → unwritten_block g ≡ []
+    → kept_blocks d g ≡ take full (list_blocks_from d block_size base.head base.size) → g.full ≡ full → SharesFirstBlocks map d block_size g base full
 begins map d block_size g base full stored growing none kept is =
-    let bb : List ℕ = list_blocks_by_head_and_size d block_size base.head base.size in
-    let long = length_back d (list_block_count_for_size block_size base.size) base.head in
+    let bb : List ℕ = list_blocks_from d block_size base.head base.size in
+    let long = length_back d (block_count_for block_size base.size) base.head in
     let many = length-kept d g in
     let empty = ap length none in
     let part = length-take full bb in
@@ -103,25 +103,25 @@ begins map d block_size g base full stored growing none kept is =
       growing = growing;
       marked = record {
         count = stored.count;
-        kept = subst (All (λ b. ¬ (IsBlockFree map b))) (sym kept) (All-take (λ b. ¬ (IsBlockFree map b)) full bb stored.marked);
+        kept = subst (All (λ b. ¬ (IsFree map b))) (sym kept) (All-take (λ b. ¬ (IsFree map b)) full bb stored.marked);
         pending = λ k x l. absurd (omega (arith, l));
       };
       list = stored.base;
       apart = λ k x l. (stored.marked k x l, λ i y m. absurd (omega (arith, m)));
       few = omega arith;
       front = ap (take full) kept ∙ take-take full full bb (omega arith);
-      behind = λ k x l. absurd (omega (arith, l, length-drop full (blocks_kept_when_growing d g), ap length kept));
+      behind = λ k x l. absurd (omega (arith, l, length-drop full (kept_blocks d g), ap length kept));
       taken = λ b has used. Contains-take full bb b (subst (λ (l : List ℕ). Contains l b) kept has);
       flying = λ b flying. inr (stored.flying b flying);
     }
 
-pub pending_none : (t : RestLocation) → length (unwritten_block_after_full_blocks t) ≡ 0 → unwritten_block_after_full_blocks t ≡ []
+pub pending_none : (t : RestLocation) → length (unwritten_after_full t) ≡ 0 → unwritten_after_full t ≡ []
 pending_none Closed e = refl
 pending_none (Shared b) e = refl
 pending_none (Handed b) e = absurd (omega (arith, e))
 pending_none Held e = refl
 
-pub none_pending : (d : Blocks) (g : GrowingList) → blocks_kept_when_growing d g ≡ [] → (unwritten_block_of_list g ≡ []) × (g.full ≡ 0)
+pub none_pending : (d : Blocks) (g : GrowingList) → kept_blocks d g ≡ [] → (unwritten_block g ≡ []) × (g.full ≡ 0)
 none_pending d g none =
     let many = length-kept d g in
     let empty = ap length none in

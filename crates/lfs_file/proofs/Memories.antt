@@ -3,17 +3,17 @@ use Rattle.std.proofs.Common.{ℕ, ◌≡◌, ◌+◌, ◌*◌, ◌-◌, ◌≤�
 use Rattle.std.proofs.lemmas.Bool.{cases_lt}
 use Rattle.std.proofs.lemmas.List.{append-nil, take_at, drop_all, drop-take, take-append-le, take-append-drop, take-take, length-replicate, length-take-le}
 use Rattle.std.proofs.Math.Seq.{take-append-add}
-use Rattle.lfs_model.specs.Blocks.{bytes_after_overwrite_at}
-use Rattle.lfs_model.specs.SkipLists.{pointer_count_of_list_block}
-use Rattle.lfs_model.specs.Writers.{contents_after_write as with_bytes}
+use Rattle.lfs_model.specs.format.Blocks.{overwritten_at}
+use Rattle.lfs_model.specs.format.SkipLists.{pointer_count}
+use Rattle.lfs_model.specs.session.Writers.{written_contents as with_bytes}
 
 -- after no full block the rest stands where the buffer begins
-pub rest_at : (items : List ℕ) (full filled : ℕ) → full ≡ 0 → take (filled - 4 * pointer_count_of_list_block full) (drop (4 * pointer_count_of_list_block full) items) ≡ take filled items
+pub rest_at : (items : List ℕ) (full filled : ℕ) → full ≡ 0 → take (filled - 4 * pointer_count full) (drop (4 * pointer_count full) items) ≡ take filled items
 rest_at items full filled none =
-    ap (λ k. take (filled - 4 * pointer_count_of_list_block k) (drop (4 * pointer_count_of_list_block k) items)) none ∙ ap (λ k. take k items) (let all : filled - 4 * pointer_count_of_list_block 0 ≡ filled = omega arith in all)
+    ap (λ k. take (filled - 4 * pointer_count k) (drop (4 * pointer_count k) items)) none ∙ ap (λ k. take k items) (let all : filled - 4 * pointer_count 0 ≡ filled = omega arith in all)
 
 -- bytes that were written over the first ones
-pub held_front : (items new bytes : List ℕ) → new ≡ bytes_after_overwrite_at items 0 bytes → take (length bytes - 4 * 0) (drop (4 * 0) new) ≡ bytes
+pub held_front : (items new bytes : List ℕ) → new ≡ overwritten_at items 0 bytes → take (length bytes - 4 * 0) (drop (4 * 0) new) ≡ bytes
 held_front items new bytes is = rest_at new 0 (length bytes) refl ∙ ap (take (length bytes)) is ∙ take_at bytes (drop (0 + length bytes) items) (length bytes) refl
 
 module _ (items bytes : List ℕ) (filled at : ℕ) (has : filled ≤ length items) (room : at + length bytes ≤ length items) where
@@ -24,7 +24,7 @@ module _ (items bytes : List ℕ) (filled at : ℕ) (has : filled ≤ length ite
   rest = take filled items
 
   abbrev padded : List ℕ
-  padded = bytes_after_overwrite_at items filled zeros
+  padded = overwritten_at items filled zeros
 
   rest_long : length rest ≡ filled
   rest_long = length-take-le filled items has
@@ -59,14 +59,14 @@ module _ (items bytes : List ℕ) (filled at : ℕ) (has : filled ≤ length ite
       within le =
           let none : max filled at - filled ≡ 0 = omega arith in
           let same : padded ≡ items =
-          ap (λ k. bytes_after_overwrite_at items filled (replicate k 0)) none ∙ ap₂ (λ (l : List ℕ) k. l ++ drop k items) (append-nil rest) (let s : filled + 0 ≡ filled = omega arith in s) ∙ take-append-drop filled items in
+          ap (λ k. overwritten_at items filled (replicate k 0)) none ∙ ap₂ (λ (l : List ℕ) k. l ++ drop k items) (append-nil rest) (let s : filled + 0 ≡ filled = omega arith in s) ∙ take-append-drop filled items in
           let left : max filled (at + length bytes) - (at + length bytes) ≡ filled - (at + length bytes) = omega arith in
           let whole : at + length bytes + (filled - (at + length bytes)) ≡ filled = omega arith in
           ap₂ (λ k (l : List ℕ). take k (drop (at + length bytes) l)) left same
           ∙ sym (drop-take (at + length bytes) (filled - (at + length bytes)) items)
           ∙ ap (λ k. drop (at + length bytes) (take k items)) whole
 
-  pub put_bytes : (new : List ℕ) → new ≡ bytes_after_overwrite_at padded at bytes → take (max filled (at + length bytes)) new ≡ with_bytes rest at bytes
+  pub put_bytes : (new : List ℕ) → new ≡ overwritten_at padded at bytes → take (max filled (at + length bytes)) new ≡ with_bytes rest at bytes
   put_bytes new is =
       let long : length (take at padded ++ bytes) ≡ at + length bytes = omega (arith, length-append (take at padded) bytes, before_long) in
       let split : max filled (at + length bytes) ≡ length (take at padded ++ bytes) + (max filled (at + length bytes) - (at + length bytes)) = omega (arith, long) in

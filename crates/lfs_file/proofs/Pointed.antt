@@ -8,14 +8,14 @@ use Rattle.std.proofs.lemmas.Nat.{mul-le}
 use Rattle.std.proofs.lemmas.Nat.Bits.{bit_at-trailing_zeros}
 use Rattle.std.specs.Int.Count.{trailing_of_zero}
 use Rattle.std.specs.Int.{w32, trailing_zeros}
-use Rattle.lfs_model.specs.SkipLists.{pointer_count_of_list_block}
-use Rattle.lfs_file.specs.Known.{AreBlockPointersKnown, AreKnownIndicesBelow, ArePointedBlocksKnown, IsKnownIndex, no_known_blocks, row_of_index}
+use Rattle.lfs_model.specs.format.SkipLists.{pointer_count}
+use Rattle.lfs_file.specs.Known.{ArePointersKnown, OnlyBelowKnown, ArePointedKnown, IsKnownIndex, no_known_blocks, index_row}
 use Rattle.lfs_file.specs.declared.known.KnownBlocks.{KnownBlocks}
-use Rattle.lfs_file.proofs.Chains.{pointer_count_of_list_block-pos}
+use Rattle.lfs_file.proofs.Chains.{pointer_count-pos}
 use Rattle.lfs_file.proofs.TrailingZeros.{factor-pos, multiple_of_power, zeros32-back, zeros32-between}
 
 -- only a block after the first one has a pointer
-pub pointed_some : (n k : ℕ) → k < pointer_count_of_list_block n → 0 < n
+pub pointed_some : (n k : ℕ) → k < pointer_count n → 0 < n
 pointed_some zero k lt = absurd (omega arith)
 pointed_some (suc n) k lt = omega arith
 
@@ -25,11 +25,11 @@ pow_less j k less =
     let power = one-le-pow j 2 (omega arith) in
     omega (arith, more, power, pow-suc 2 j, ap (λ e. 2 ^ e) (add-one j))
 
-pub none_below : (count : ℕ) → AreKnownIndicesBelow count no_known_blocks
+pub none_below : (count : ℕ) → OnlyBelowKnown count no_known_blocks
 none_below count row lt small = (let none : slice_index (replicate 32 4294967295) row ≡ 4294967295 = get_or-replicate 32 row 4294967295 0 lt in absurd (omega (arith, none, small)))
 
 -- the row of a block to which a later one has a pointer is past all smaller numbers of zeros
-high_row : (n k i z : ℕ) → n < 2 ^ 32 → k ≤ trailing_zeros w32 n → k ≤ 31 → z < k → n - 2 ^ k ≡ i → z < row_of_index i
+high_row : (n k i z : ℕ) → n < 2 ^ 32 → k ≤ trailing_zeros w32 n → k ≤ 31 → z < k → n - 2 ^ k ≡ i → z < index_row i
 high_row n k zero z low le few less is = omega (arith, trailing_of_zero 32)
 high_row n k (suc i) z low le few less is =
     let many = zeros32-back n k low le (omega arith) in
@@ -37,26 +37,26 @@ high_row n k (suc i) z low le few less is =
     omega arith
 
 -- a block between them is in another row
-pub other_row : (n m k : ℕ) → n < 2 ^ 32 → m < n → k < pointer_count_of_list_block n → n - 2 ^ k < m → row_of_index (n - 2 ^ k) ≢ row_of_index m
+pub other_row : (n m k : ℕ) → n < 2 ^ 32 → m < n → k < pointer_count n → n - 2 ^ k < m → index_row (n - 2 ^ k) ≢ index_row m
 other_row n m k low less lt more is =
-    let many = pointer_count_of_list_block-pos n (omega arith) in
+    let many = pointer_count-pos n (omega arith) in
     let few = (bit_at-trailing_zeros w32 n (omega arith) low).0 in
     let fewer = zeros32-between n m k low (omega arith) less more in
     let high = high_row n k (n - 2 ^ k) (trailing_zeros w32 m) low (omega arith) (omega arith) fewer refl in
     omega arith
 
 -- a block's pointer leads back by no more than its index
-pub pointer_reach : (n k : ℕ) → n < 2 ^ 32 → k < pointer_count_of_list_block n → (1 ≤ 2 ^ k) × ((2 ^ k ≤ n) × (k ≤ 31))
+pub pointer_reach : (n k : ℕ) → n < 2 ^ 32 → k < pointer_count n → (1 ≤ 2 ^ k) × ((2 ^ k ≤ n) × (k ≤ 31))
 pointer_reach n k low lt =
     let some : 0 < n = pointed_some n k lt in
-    let many = pointer_count_of_list_block-pos n some in
+    let many = pointer_count-pos n some in
     let few = (bit_at-trailing_zeros w32 n some low).0 in
     let whole = multiple_of_power n k some low (omega arith) in
     let factor = mul-le 1 (2 ^ k) whole.0 (2 ^ k) (factor-pos whole.0 (2 ^ k) n whole.1 some) (omega arith) in
     (one-le-pow k 2 (omega arith), (omega (arith, factor, whole.1), omega arith))
 
 -- the blocks to which a block has pointers are in different rows
-pub pointers_apart : (n j k : ℕ) → n < 2 ^ 32 → j < k → k < pointer_count_of_list_block n → row_of_index (n - 2 ^ j) ≢ row_of_index (n - 2 ^ k)
+pub pointers_apart : (n j k : ℕ) → n < 2 ^ 32 → j < k → k < pointer_count n → index_row (n - 2 ^ j) ≢ index_row (n - 2 ^ k)
 pointers_apart n j k low less lt is =
     let far = pointer_reach n k low lt in
     let near = pointer_reach n j low (omega arith) in
@@ -64,12 +64,12 @@ pointers_apart n j k low less lt is =
     other_row n (n - 2 ^ j) k low (omega (arith, near.0, near.1.0)) lt (omega (arith, far.1.0, more)) (sym is)
 
 -- the pointers of the next block are among those that are known
-pub next_pointers : (n : ℕ) (known : KnownBlocks) → n < 2 ^ 32 → ArePointedBlocksKnown n known → AreBlockPointersKnown n known
+pub next_pointers : (n : ℕ) (known : KnownBlocks) → n < 2 ^ 32 → ArePointedKnown n known → ArePointersKnown n known
 next_pointers n known low all k lt = (let far = pointer_reach n k low lt in all n k (omega arith) low lt (omega (arith, far.0, far.1.0)))
 
 -- with one more block that is known
-pub pointed_more : (count : ℕ) (known later : KnownBlocks) → IsKnownIndex later count → ((i : ℕ) → row_of_index i ≢ row_of_index count → IsKnownIndex known i → IsKnownIndex later i) → ArePointedBlocksKnown count known
-    → ArePointedBlocksKnown (count + 1) later
+pub pointed_more : (count : ℕ) (known later : KnownBlocks) → IsKnownIndex later count → ((i : ℕ) → index_row i ≢ index_row count → IsKnownIndex known i → IsKnownIndex later i) → ArePointedKnown count known
+    → ArePointedKnown (count + 1) later
 pointed_more count known later here others all n k le low lt less =
     ⊎_elim
     (λ below. others (n - 2 ^ k) (other_row n count k low (omega arith) lt below) (all n k (omega arith) low lt below))

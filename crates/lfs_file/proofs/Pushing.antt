@@ -6,20 +6,20 @@ use Rattle.std.proofs.lemmas.Bool.{cases_lt, eqb-false}
 use Rattle.std.proofs.lemmas.List.{append-nil, get_or_append_left, get_or-append-add, get_or-take, length-take-le, take_more, get_or_default}
 use Rattle.std.proofs.lemmas.List.Elements.{All-cons, All-nil}
 use Rattle.std.proofs.lemmas.Map.Keys.{apart_from_distinct}
-use Rattle.lfs_model.specs.Blocks.{Blocks}
-use Rattle.lfs_model.specs.History.{DeviceCallEvent, AreBytesStillUnprogrammed}
-use Rattle.lfs_model.proofs.Histories.{AreBytesStillUnprogrammed-trans, AreBytesStillUnprogrammed-wider}
-use Rattle.lfs_model.specs.SkipLists.{data_capacity_of_list_block, list_blocks_from_head, list_block_count_for_size}
+use Rattle.lfs_model.specs.format.Blocks.{Blocks}
+use Rattle.lfs_model.specs.session.History.{CallEvent, StayUnprogrammed}
+use Rattle.lfs_model.proofs.Histories.{StayUnprogrammed-trans, StayUnprogrammed-wider}
+use Rattle.lfs_model.specs.format.SkipLists.{block_capacity, blocks_to_head, block_count_for}
 use Rattle.lfs_file.specs.declared.rest.RestLocation.{RestLocation}
 use Rattle.lfs_file.specs.declared.rest.RestLocation.TheVariants.{Closed, Shared, Handed, Held}
-use Rattle.lfs_file.specs.Growing.{GrowingList, unwritten_block_after_full_blocks, block_after_full_blocks, are_last_bytes_of_list_only_in_buffer, have_last_bytes_no_block, unwritten_block_of_list, blocks_kept_when_growing, blocks_of_growing_list, growing_list_size_with_block_size, block_for_next_bytes_with_used_count, AreLastBytesAtLocation, HasGrowingListOnDisk}
-use Rattle.lfs_file.proofs.Sizes.{list_block_count_for_size-above, list_block_count_for_size-within}
+use Rattle.lfs_file.specs.Growing.{GrowingList, unwritten_after_full, rest_block, rest_lacks_block, lacks_last_block, unwritten_block, kept_blocks, growing_blocks, growing_size_with, block_for_next, LastBytesAreAt, IsOnDisk}
+use Rattle.lfs_file.proofs.Sizes.{block_count_for-above, block_count_for-within}
 use Rattle.lfs_file.proofs.Chains.{length_back}
 
 -- one of the blocks is written
-pub stays_one : (bs : List ℕ) (block : ℕ) (old mid new : List DeviceCallEvent) → ((other : ℕ) → All (λ b. b ≢ other) bs → block ≢ other) → AreBytesStillUnprogrammed bs old mid → AreBytesStillUnprogrammed (block ∷ []) mid new → AreBytesStillUnprogrammed bs old new
+pub stays_one : (bs : List ℕ) (block : ℕ) (old mid new : List CallEvent) → ((other : ℕ) → All (λ b. b ≢ other) bs → block ≢ other) → StayUnprogrammed bs old mid → StayUnprogrammed (block ∷ []) mid new → StayUnprogrammed bs old new
 stays_one bs block old mid new among first second =
-    AreBytesStillUnprogrammed-trans first (AreBytesStillUnprogrammed-wider bs (λ other apart. All-cons (λ b. b ≢ other) block [] (among other apart) (All-nil (λ b. b ≢ other))) second)
+    StayUnprogrammed-trans first (StayUnprogrammed-wider bs (λ other apart. All-cons (λ b. b ≢ other) block [] (among other apart) (All-nil (λ b. b ≢ other))) second)
 
 -- one of those handed in is among them
 pub among_handed : (pending blocks : List ℕ) (used : ℕ) → used < length blocks → (other : ℕ) → All (λ b. b ≢ other) (pending ++ blocks) → slice_index blocks used ≢ other
@@ -27,8 +27,8 @@ among_handed pending blocks used lt other apart is =
     apart (length pending + used) 0 (omega (arith, length-append pending blocks)) (get_or-append-add pending blocks used 0 ∙ is)
 
 -- the block that takes the next bytes is among them
-pub next_among : (t : RestLocation) (handed pending blocks : List ℕ) (used : ℕ) → handed ≡ pending ++ blocks → (unwritten_block_after_full_blocks t ≡ [] → used < length blocks)
-    → ((other : ℕ) → All (λ b. b ≢ other) handed → All (λ b. b ≢ other) (unwritten_block_after_full_blocks t)) → (other : ℕ) → All (λ b. b ≢ other) handed → (block_for_next_bytes_with_used_count t blocks used).0 ≢ other
+pub next_among : (t : RestLocation) (handed pending blocks : List ℕ) (used : ℕ) → handed ≡ pending ++ blocks → (unwritten_after_full t ≡ [] → used < length blocks)
+    → ((other : ℕ) → All (λ b. b ≢ other) handed → All (λ b. b ≢ other) (unwritten_after_full t)) → (other : ℕ) → All (λ b. b ≢ other) handed → (block_for_next t blocks used).0 ≢ other
 next_among Closed handed pending blocks used is some among other apart = among_handed pending blocks used (some refl) other (subst (All (λ b. b ≢ other)) is apart)
 next_among (Shared b) handed pending blocks used is some among other apart = among_handed pending blocks used (some refl) other (subst (All (λ b. b ≢ other)) is apart)
 next_among (Handed b) handed pending blocks used is some among other apart = among other apart 0 0 (omega arith)
@@ -50,24 +50,24 @@ apart_before back front blocks used lt is distinct apart k x l e =
     eqb-false (get_or blocks i x) (get_or blocks used x) (apart_from_distinct nat_eq blocks i used x distinct (omega arith) lt) (sym there ∙ e ∙ get_or_default blocks used 0 x lt))
     (cases_lt k (length front))
 
-pub next_apart : (d : Blocks) (full head : ℕ) (rest : List ℕ) (t : RestLocation) (front blocks : List ℕ) (used : ℕ) → AreLastBytesAtLocation d full head rest t → (unwritten_block_after_full_blocks t ≡ [] → used < length blocks)
-    → list_blocks_from_head d full head ++ unwritten_block_after_full_blocks t ≡ front ++ take used blocks → IsDistinct nat_eq blocks → All (λ b. All (λ c. c ≢ b) front) blocks → All (λ c. c ≢ (block_for_next_bytes_with_used_count t blocks used).0) (list_blocks_from_head d full head)
-next_apart d full head rest Closed front blocks used stand some is distinct apart = apart_before (list_blocks_from_head d full head) front blocks used (some refl) (sym (append-nil (list_blocks_from_head d full head)) ∙ is) distinct apart
+pub next_apart : (d : Blocks) (full head : ℕ) (rest : List ℕ) (t : RestLocation) (front blocks : List ℕ) (used : ℕ) → LastBytesAreAt d full head rest t → (unwritten_after_full t ≡ [] → used < length blocks)
+    → blocks_to_head d full head ++ unwritten_after_full t ≡ front ++ take used blocks → IsDistinct nat_eq blocks → All (λ b. All (λ c. c ≢ b) front) blocks → All (λ c. c ≢ (block_for_next t blocks used).0) (blocks_to_head d full head)
+next_apart d full head rest Closed front blocks used stand some is distinct apart = apart_before (blocks_to_head d full head) front blocks used (some refl) (sym (append-nil (blocks_to_head d full head)) ∙ is) distinct apart
 next_apart d full head rest (Shared b) front blocks used stand some is distinct apart =
-    apart_before (list_blocks_from_head d full head) front blocks used (some refl) (sym (append-nil (list_blocks_from_head d full head)) ∙ is) distinct apart
+    apart_before (blocks_to_head d full head) front blocks used (some refl) (sym (append-nil (blocks_to_head d full head)) ∙ is) distinct apart
 next_apart d full head rest (Handed b) front blocks used stand some is distinct apart = stand.apart
 next_apart d full head rest Held front blocks used stand some is distinct apart =
-    apart_before (list_blocks_from_head d full head) front blocks used (some refl) (sym (append-nil (list_blocks_from_head d full head)) ∙ is) distinct apart
+    apart_before (blocks_to_head d full head) front blocks used (some refl) (sym (append-nil (blocks_to_head d full head)) ∙ is) distinct apart
 
 -- and it is on the device
-pub next_inside : (d : Blocks) (full head : ℕ) (rest : List ℕ) (t : RestLocation) (blocks : List ℕ) (used n : ℕ) → length d ≡ n → AreLastBytesAtLocation d full head rest t → (unwritten_block_after_full_blocks t ≡ [] → used < length blocks) → All (λ b. b < n) blocks
-    → (block_for_next_bytes_with_used_count t blocks used).0 < n
+pub next_inside : (d : Blocks) (full head : ℕ) (rest : List ℕ) (t : RestLocation) (blocks : List ℕ) (used n : ℕ) → length d ≡ n → LastBytesAreAt d full head rest t → (unwritten_after_full t ≡ [] → used < length blocks) → All (λ b. b < n) blocks
+    → (block_for_next t blocks used).0 < n
 next_inside d full head rest Closed blocks used n count stand some inside = inside used 0 (some refl)
 next_inside d full head rest (Shared b) blocks used n count stand some inside = inside used 0 (some refl)
 next_inside d full head rest (Handed b) blocks used n count stand some inside = omega (arith, stand.in_range, count)
 next_inside d full head rest Held blocks used n count stand some inside = inside used 0 (some refl)
 
-pub next_some : (t : RestLocation) (blocks : List ℕ) (used : ℕ) → (unwritten_block_after_full_blocks t ≡ [] → used < length blocks) → used ≤ length blocks → (block_for_next_bytes_with_used_count t blocks used).1 ≤ length blocks
+pub next_some : (t : RestLocation) (blocks : List ℕ) (used : ℕ) → (unwritten_after_full t ≡ [] → used < length blocks) → used ≤ length blocks → (block_for_next t blocks used).1 ≤ length blocks
 next_some Closed blocks used some le = let lt = some refl in omega arith
 next_some (Shared b) blocks used some le = let lt = some refl in omega arith
 next_some (Handed b) blocks used some le = le
@@ -79,8 +79,8 @@ one_used back front blocks used lt is =
     ∙ append_assoc front (take used blocks) (slice_index blocks used ∷ [])
     ∙ ap (λ (l : List ℕ). front ++ l) (sym (take_more blocks used 0 lt))
 
-pub next_kept : (t : RestLocation) (back front blocks : List ℕ) (used : ℕ) → (unwritten_block_after_full_blocks t ≡ [] → used < length blocks) → back ++ unwritten_block_after_full_blocks t ≡ front ++ take used blocks
-    → back ++ (block_for_next_bytes_with_used_count t blocks used).0 ∷ [] ≡ front ++ take (block_for_next_bytes_with_used_count t blocks used).1 blocks
+pub next_kept : (t : RestLocation) (back front blocks : List ℕ) (used : ℕ) → (unwritten_after_full t ≡ [] → used < length blocks) → back ++ unwritten_after_full t ≡ front ++ take used blocks
+    → back ++ (block_for_next t blocks used).0 ∷ [] ≡ front ++ take (block_for_next t blocks used).1 blocks
 next_kept Closed back front blocks used some is = one_used back front blocks used (some refl) is
 next_kept (Shared b) back front blocks used some is = one_used back front blocks used (some refl) is
 next_kept (Handed b) back front blocks used some is = is
@@ -89,45 +89,45 @@ next_kept Held back front blocks used some is = one_used back front blocks used 
 -- ---- how many are used
 
 -- the full blocks and the pending one
-pub kept_count : (d e : Blocks) (was now : GrowingList) (blocks : List ℕ) (used : ℕ) → used ≤ length blocks → blocks_kept_when_growing e now ≡ blocks_kept_when_growing d was ++ take used blocks
-    → now.full + length (unwritten_block_of_list now) ≡ was.full + length (unwritten_block_of_list was) + used
+pub kept_count : (d e : Blocks) (was now : GrowingList) (blocks : List ℕ) (used : ℕ) → used ≤ length blocks → kept_blocks e now ≡ kept_blocks d was ++ take used blocks
+    → now.full + length (unwritten_block now) ≡ was.full + length (unwritten_block was) + used
 kept_count d e was now blocks used le is =
     omega (
       arith,
       ap length is,
-      length-append (list_blocks_from_head e now.full now.head) (unwritten_block_of_list now),
-      length-append (list_blocks_from_head d was.full was.head) (unwritten_block_of_list was),
-      length-append (blocks_kept_when_growing d was) (take used blocks),
+      length-append (blocks_to_head e now.full now.head) (unwritten_block now),
+      length-append (blocks_to_head d was.full was.head) (unwritten_block was),
+      length-append (kept_blocks d was) (take used blocks),
       length_back e now.full now.head,
       length_back d was.full was.head,
       length-take-le used blocks le,
     )
 
 -- while bytes are left and no block is pending there is one to take
-pub still_some : (d e : Blocks) (block_size : ℕ) (was now : GrowingList) (blocks : List ℕ) (used done total : ℕ) → 1024 ≤ block_size → used ≤ length blocks → blocks_kept_when_growing e now ≡ blocks_kept_when_growing d was ++ take used blocks
-    → length blocks ≡ list_block_count_for_size block_size (growing_list_size_with_block_size block_size was + total) - (was.full + length (unwritten_block_of_list was)) → growing_list_size_with_block_size block_size now ≡ growing_list_size_with_block_size block_size was + done → done < total → unwritten_block_of_list now ≡ [] → used < length blocks
+pub still_some : (d e : Blocks) (block_size : ℕ) (was now : GrowingList) (blocks : List ℕ) (used done total : ℕ) → 1024 ≤ block_size → used ≤ length blocks → kept_blocks e now ≡ kept_blocks d was ++ take used blocks
+    → length blocks ≡ block_count_for block_size (growing_size_with block_size was + total) - (was.full + length (unwritten_block was)) → growing_size_with block_size now ≡ growing_size_with block_size was + done → done < total → unwritten_block now ≡ [] → used < length blocks
 still_some d e block_size was now blocks used done total large le is count sum less none =
     let counted = kept_count d e was now blocks used le is in
-    let more = list_block_count_for_size-above block_size (growing_list_size_with_block_size block_size was + total) now.full large (omega arith) in
+    let more = block_count_for-above block_size (growing_size_with block_size was + total) now.full large (omega arith) in
     omega (arith, counted, more, count, ap length none)
 
 -- at the end all are used
-size_fits : (d : Blocks) (block_size : ℕ) (g : GrowingList) → 1024 ≤ block_size → HasGrowingListOnDisk d g → length g.rest < data_capacity_of_list_block block_size g.full → blocks_of_growing_list d g ≡ blocks_kept_when_growing d g → are_last_bytes_of_list_only_in_buffer g ≡ false
-    → list_block_count_for_size block_size (growing_list_size_with_block_size block_size g) ≤ g.full + length (unwritten_block_of_list g)
+size_fits : (d : Blocks) (block_size : ℕ) (g : GrowingList) → 1024 ≤ block_size → IsOnDisk d g → length g.rest < block_capacity block_size g.full → growing_blocks d g ≡ kept_blocks d g → rest_lacks_block g ≡ false
+    → block_count_for block_size (growing_size_with block_size g) ≤ g.full + length (unwritten_block g)
 size_fits d block_size g large held short own listed = go g.stand held.stand listed own
   where
-    go : (t : RestLocation) → AreLastBytesAtLocation d g.full g.head g.rest t → have_last_bytes_no_block t ≡ false → list_blocks_from_head d g.full g.head ++ block_after_full_blocks t ≡ list_blocks_from_head d g.full g.head ++ unwritten_block_after_full_blocks t
-        → list_block_count_for_size block_size (growing_list_size_with_block_size block_size g) ≤ g.full + length (unwritten_block_after_full_blocks t)
-    go Closed none out e = let w = list_block_count_for_size-within block_size (growing_list_size_with_block_size block_size g) g.full large (omega (arith, ap length none)) in omega arith
+    go : (t : RestLocation) → LastBytesAreAt d g.full g.head g.rest t → lacks_last_block t ≡ false → blocks_to_head d g.full g.head ++ rest_block t ≡ blocks_to_head d g.full g.head ++ unwritten_after_full t
+        → block_count_for block_size (growing_size_with block_size g) ≤ g.full + length (unwritten_after_full t)
+    go Closed none out e = let w = block_count_for-within block_size (growing_size_with block_size g) g.full large (omega (arith, ap length none)) in omega arith
     go (Shared b) shared out e =
-        absurd (omega (arith, ap length e, length-append (list_blocks_from_head d g.full g.head) (b ∷ []), length-append (list_blocks_from_head d g.full g.head) []))
-    go (Handed b) handed out e = let w = list_block_count_for_size-within block_size (growing_list_size_with_block_size block_size g) (suc g.full) large (omega arith) in omega arith
+        absurd (omega (arith, ap length e, length-append (blocks_to_head d g.full g.head) (b ∷ []), length-append (blocks_to_head d g.full g.head) []))
+    go (Handed b) handed out e = let w = block_count_for-within block_size (growing_size_with block_size g) (suc g.full) large (omega arith) in omega arith
     go Held none out e = absurd (cc)
 
-pub all_used : (d e : Blocks) (block_size : ℕ) (was now : GrowingList) (blocks : List ℕ) (used total : ℕ) → 1024 ≤ block_size → used ≤ length blocks → blocks_kept_when_growing e now ≡ blocks_kept_when_growing d was ++ take used blocks
-    → length blocks ≡ list_block_count_for_size block_size (growing_list_size_with_block_size block_size was + total) - (was.full + length (unwritten_block_of_list was)) → growing_list_size_with_block_size block_size now ≡ growing_list_size_with_block_size block_size was + total → HasGrowingListOnDisk e now → length now.rest < data_capacity_of_list_block block_size now.full → blocks_of_growing_list e now ≡ blocks_kept_when_growing e now
-    → are_last_bytes_of_list_only_in_buffer now ≡ false → length blocks ≤ used
+pub all_used : (d e : Blocks) (block_size : ℕ) (was now : GrowingList) (blocks : List ℕ) (used total : ℕ) → 1024 ≤ block_size → used ≤ length blocks → kept_blocks e now ≡ kept_blocks d was ++ take used blocks
+    → length blocks ≡ block_count_for block_size (growing_size_with block_size was + total) - (was.full + length (unwritten_block was)) → growing_size_with block_size now ≡ growing_size_with block_size was + total → IsOnDisk e now → length now.rest < block_capacity block_size now.full → growing_blocks e now ≡ kept_blocks e now
+    → rest_lacks_block now ≡ false → length blocks ≤ used
 all_used d e block_size was now blocks used total large le is count sum held short own listed =
     let counted = kept_count d e was now blocks used le is in
     let fits = size_fits e block_size now large held short own listed in
-    omega (arith, counted, fits, count, ap (list_block_count_for_size block_size) sum)
+    omega (arith, counted, fits, count, ap (block_count_for block_size) sum)

@@ -1,43 +1,43 @@
 -- Reads that go on from a block that was found.
 use Rattle.std.proofs.Common.{ℕ, ◌≡◌, ◌+◌, ◌*◌, ◌-◌, ◌<◌, ◌≤◌, ◌^◌, min, List, Result, Ok, Err, subst, arith}
 use Rattle.std.specs.Prelude.{OnOk}
-use Rattle.lfs_model.specs.Blocks.{Blocks}
-use Rattle.lfs_model.specs.SkipLists.{IsPlaceOfByteInList, list_block_count_for_size, list_blocks_from_head}
-use Rattle.lfs_model.specs.History.{DeviceCallEvent, read_count_of_history}
-use Rattle.lfs_file.specs.Known.{AreKnownListBlocks, FindsByFewReads, IsKnownIndex, ReadsFewPointers, ReadsKnownList}
+use Rattle.lfs_model.specs.format.Blocks.{Blocks}
+use Rattle.lfs_model.specs.format.SkipLists.{IsBytePlace, block_count_for, blocks_to_head}
+use Rattle.lfs_model.specs.session.History.{CallEvent, read_count}
+use Rattle.lfs_file.specs.Known.{AreKnownBlocks, FindsFew, IsKnownIndex, ReadsFewPointers, ReadsKnownList}
 use Rattle.lfs_file.specs.declared.known.KnownBlocks.{KnownBlocks}
 
 -- a block was found, and so many reads came after
-pub record FindsWithMoreReads (known : KnownBlocks) (count last : ℕ) (later : KnownBlocks) (old new : List DeviceCallEvent) (more : ℕ) : Type 0 where
+pub record FindsWithMoreReads (known : KnownBlocks) (count last : ℕ) (later : KnownBlocks) (old new : List CallEvent) (more : ℕ) : Type 0 where
   pub now : IsKnownIndex later last
-  pub few : (m : ℕ) → count ≤ 2 ^ m → read_count_of_history new ≤ read_count_of_history old + 2 * m + more
-  pub near : (i : ℕ) → IsKnownIndex known i → last ≤ i → i < count → read_count_of_history new ≤ read_count_of_history old + (i - last) + more
+  pub few : (m : ℕ) → count ≤ 2 ^ m → read_count new ≤ read_count old + 2 * m + more
+  pub near : (i : ℕ) → IsKnownIndex known i → last ≤ i → i < count → read_count new ≤ read_count old + (i - last) + more
 
 -- known blocks of a list whose length is said in another way
-pub known_by : (d : Blocks) (head n m : ℕ) (known : KnownBlocks) → n ≡ m → AreKnownListBlocks (list_blocks_from_head d n head) known → AreKnownListBlocks (list_blocks_from_head d m head) known
-known_by d head n m known e there = subst (λ k. AreKnownListBlocks (list_blocks_from_head d k head) known) e there
+pub known_by : (d : Blocks) (head n m : ℕ) (known : KnownBlocks) → n ≡ m → AreKnownBlocks (blocks_to_head d n head) known → AreKnownBlocks (blocks_to_head d m head) known
+known_by d head n m known e there = subst (λ k. AreKnownBlocks (blocks_to_head d k head) known) e there
 
-pub found_by : {known later : KnownBlocks} {n m last more : ℕ} {old new : List DeviceCallEvent} → n ≡ m → FindsWithMoreReads known n last later old new more → FindsWithMoreReads known m last later old new more
+pub found_by : {known later : KnownBlocks} {n m last more : ℕ} {old new : List CallEvent} → n ≡ m → FindsWithMoreReads known n last later old new more → FindsWithMoreReads known m last later old new more
 found_by {known} {later} {last = last} {more = more} {old = old} {new = new} e there = subst (λ k. FindsWithMoreReads known k last later old new more) e there
 
-pub found_at : {known later : KnownBlocks} {count last other more less : ℕ} {old new : List DeviceCallEvent} → last ≡ other → more ≡ less → FindsWithMoreReads known count last later old new more → FindsWithMoreReads known count other later old new less
+pub found_at : {known later : KnownBlocks} {count last other more less : ℕ} {old new : List CallEvent} → last ≡ other → more ≡ less → FindsWithMoreReads known count last later old new more → FindsWithMoreReads known count other later old new less
 found_at {known} {later} {count} {last} {other} {more} {less} {old} {new} e f there = subst (λ k. FindsWithMoreReads known count k later old new less) e (subst (λ k. FindsWithMoreReads known count last later old new k) f there)
 
-pub found_first : {known later : KnownBlocks} {old new : List DeviceCallEvent} {head last count : ℕ} → head + 1 ≡ count → FindsByFewReads known head last later old new → FindsWithMoreReads known count last later old new 0
+pub found_first : {known later : KnownBlocks} {old new : List CallEvent} {head last count : ℕ} → head + 1 ≡ count → FindsFew known head last later old new → FindsWithMoreReads known count last later old new 0
 found_first is found = record {
   now = found.now;
   few = λ m le. (let k = found.few m (omega arith) in omega arith);
   near = λ i there low high. (let k = found.near i there low (omega arith) in omega arith);
 }
 
-pub read_more : {known later : KnownBlocks} {old mid new : List DeviceCallEvent} {last count more : ℕ} (n : ℕ) → read_count_of_history new ≤ read_count_of_history mid + n → FindsWithMoreReads known count last later old mid more → FindsWithMoreReads known count last later old new (more + n)
+pub read_more : {known later : KnownBlocks} {old mid new : List CallEvent} {last count more : ℕ} (n : ℕ) → read_count new ≤ read_count mid + n → FindsWithMoreReads known count last later old mid more → FindsWithMoreReads known count last later old new (more + n)
 read_more n few found = record {
   now = found.now;
   few = λ m le. (let k = found.few m le in omega arith);
   near = λ i there low high. (let k = found.near i there low high in omega arith);
 }
 
-pub all_read : {known later : KnownBlocks} {old new : List DeviceCallEvent} {first last count more : ℕ} (bytes : ℕ) → more ≤ 2 * (last - first) + 1 → FindsWithMoreReads known count last later old new more → ReadsFewPointers known count first last bytes later old new
+pub all_read : {known later : KnownBlocks} {old new : List CallEvent} {first last count more : ℕ} (bytes : ℕ) → more ≤ 2 * (last - first) + 1 → FindsWithMoreReads known count last later old new more → ReadsFewPointers known count first last bytes later old new
 all_read bytes few found = record {
   now = λ some. found.now;
   few = λ m le. (let k = found.few m le in omega arith);
@@ -45,7 +45,7 @@ all_read bytes few found = record {
 }
 
 -- where nothing was to be read
-pub none_read : {known : KnownBlocks} {old : List DeviceCallEvent} {first last count : ℕ} (bytes : ℕ) → bytes ≡ 0 → ReadsFewPointers known count first last bytes known old old
+pub none_read : {known : KnownBlocks} {old : List CallEvent} {first last count : ℕ} (bytes : ℕ) → bytes ≡ 0 → ReadsFewPointers known count first last bytes known old old
 none_read bytes none = record {
   now = λ some. absurd (omega arith);
   few = λ m le. omega arith;
@@ -53,8 +53,8 @@ none_read bytes none = record {
 }
 
 -- the bound of a read that begins with no known blocks
-pub few_at_once : {X : Type 0} (known later : KnownBlocks) (block_size size position count : ℕ) (old new : List DeviceCallEvent) (result : Result ℕ X) (m first last off end : ℕ) → OnOk result (ReadsKnownList block_size size position count known later old new)
-    → list_block_count_for_size block_size size ≤ 2 ^ m → IsPlaceOfByteInList block_size position first off → IsPlaceOfByteInList block_size (position + min count (size - position) - 1) last end
-    → OnOk result (read_count_of_history new ≤ read_count_of_history old + 2 * m + 2 * (last - first) + 1)
+pub few_at_once : {X : Type 0} (known later : KnownBlocks) (block_size size position count : ℕ) (old new : List CallEvent) (result : Result ℕ X) (m first last off end : ℕ) → OnOk result (ReadsKnownList block_size size position count known later old new)
+    → block_count_for block_size size ≤ 2 ^ m → IsBytePlace block_size position first off → IsBytePlace block_size (position + min count (size - position) - 1) last end
+    → OnOk result (read_count new ≤ read_count old + 2 * m + 2 * (last - first) + 1)
 few_at_once known later block_size size position count old new (Ok n) m first last off end reads le is there = (reads first last off end is there).few m le
 few_at_once known later block_size size position count old new (Err e) m first last off end reads le is there = tt

@@ -1,40 +1,40 @@
 -- The bytes of an extender that do not fill a block.
 use Rattle.std.proofs.Common.{Global, Vec, ℕ, ◌≡◌, ◌<◌, ◌+◌, ◌-◌, ◌*◌, ◌^◌, length, drop, sym, subst, arith, length-drop}
 use Rattle.std.proofs.lemmas.List.{length-take-le}
-use Rattle.lfs_model.specs.SkipLists.{pointer_count_of_list_block}
+use Rattle.lfs_model.specs.format.SkipLists.{pointer_count}
 use Rattle.lfs_file.specs.declared.block.FullBlocks.{FullBlocks}
 use Rattle.lfs_file.specs.declared.extender.ExtenderState.{ExtenderState}
-use Rattle.lfs_file.specs.Fields.{HasOneBlockBufferAndConsistentNumbers, growing_list_view}
-use Rattle.lfs_file.specs.Filled.{AreExtenderNumbersConsistent}
-use Rattle.lfs_file.specs.Known.{AreKnownIndicesBelow}
-use Rattle.lfs_file.specs.Growing.{GrowingList, AreLastBytesShorterThanBlock, size_of_growing_list}
+use Rattle.lfs_file.specs.Fields.{IsExtender, growing_view}
+use Rattle.lfs_file.specs.Filled.{AreConsistent}
+use Rattle.lfs_file.specs.Known.{OnlyBelowKnown}
+use Rattle.lfs_file.specs.Growing.{GrowingList, LastBytesShort, growing_size}
 
 -- how many there are
-pub rest_long : (e : ExtenderState) → HasOneBlockBufferAndConsistentNumbers e → length (growing_list_view e).rest + 4 * pointer_count_of_list_block e.front.count ≡ e.filled
+pub rest_long : (e : ExtenderState) → IsExtender e → length (growing_view e).rest + 4 * pointer_count e.front.count ≡ e.filled
 rest_long e has =
-    let p : ℕ = 4 * pointer_count_of_list_block e.front.count in
+    let p : ℕ = 4 * pointer_count e.front.count in
     omega (arith, length-take-le (e.filled - p) (drop p e.buffer.items) (omega (arith, has.one_block, has.in_step.high, length-drop p e.buffer.items)), has.in_step.low)
 
 -- the invariant of a state that is lent
-pub lent : {e f : ExtenderState} → e ≡ f → HasOneBlockBufferAndConsistentNumbers f → HasOneBlockBufferAndConsistentNumbers e
-lent same has = subst HasOneBlockBufferAndConsistentNumbers (sym same) has
+pub lent : {e f : ExtenderState} → e ≡ f → IsExtender f → IsExtender e
+lent same has = subst IsExtender (sym same) has
 
 -- and of one from whose buffer a block was written
-pub after_write : (e : ExtenderState) (buffer : Vec ℕ Global) (front : FullBlocks) → HasOneBlockBufferAndConsistentNumbers e → length buffer.items ≡ e.geometry.block_size → front.count ≡ e.front.count
-    → (AreKnownIndicesBelow e.front.count e.front.known → AreKnownIndicesBelow front.count front.known) → HasOneBlockBufferAndConsistentNumbers (record e { buffer = buffer; front = front })
+pub after_write : (e : ExtenderState) (buffer : Vec ℕ Global) (front : FullBlocks) → IsExtender e → length buffer.items ≡ e.geometry.block_size → front.count ≡ e.front.count
+    → (OnlyBelowKnown e.front.count e.front.known → OnlyBelowKnown front.count front.known) → IsExtender (record e { buffer = buffer; front = front })
 after_write e buffer front has size same below = record {
   one_block = size;
-  in_step = subst (λ n. AreExtenderNumbersConsistent e.geometry.block_size n e.filled e.size) (sym same) has.in_step;
+  in_step = subst (λ n. AreConsistent e.geometry.block_size n e.filled e.size) (sym same) has.in_step;
   known = below has.known;
 }
 
 -- they do not fill a block, and the size counts them
 pub record IsCounted (g : GrowingList) (size : ℕ) : Type 0 where
-  pub short : AreLastBytesShorterThanBlock g.geometry.block_size g
-  pub sum : size ≡ size_of_growing_list g
+  pub short : LastBytesShort g.geometry.block_size g
+  pub sum : size ≡ growing_size g
   pub fits : size < 2 ^ 31
 
-pub counted : (e : ExtenderState) (g : GrowingList) → HasOneBlockBufferAndConsistentNumbers e → growing_list_view e ≡ g → IsCounted g e.size
+pub counted : (e : ExtenderState) (g : GrowingList) → IsExtender e → growing_view e ≡ g → IsCounted g e.size
 counted e g has is =
     let rest = rest_long e has in
     subst (λ (v : GrowingList). IsCounted v e.size) is

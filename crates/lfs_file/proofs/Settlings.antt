@@ -6,20 +6,20 @@ use Rattle.std.proofs.lemmas.List.{length-set}
 use Rattle.std.proofs.lemmas.Option.{slice_get-get_or}
 use Rattle.std.proofs.lemmas.List.Elements.{All-cons, All-contains}
 use Rattle.lfs_device.specs.declared.error.Error.{Error}
-use Rattle.lfs_model.specs.Blocks.{Blocks}
-use Rattle.lfs_model.specs.BlockSets.{BlockState, BlockStateList, IsBlockMarkedUsedInMap}
-use Rattle.lfs_model.specs.BlockSets.BlockState.{Free, InFlight, Used}
-use Rattle.lfs_model.specs.SkipLists.{list_blocks_from_head}
+use Rattle.lfs_model.specs.format.Blocks.{Blocks}
+use Rattle.lfs_model.specs.layers.BlockSets.{BlockState, BlockStates, IsUsedBlock}
+use Rattle.lfs_model.specs.layers.BlockSets.BlockState.{Free, InFlight, Used}
+use Rattle.lfs_model.specs.format.SkipLists.{blocks_to_head}
 use Rattle.lfs_model.proofs.BlockSets.{slice_get-set_same, slice_get-set_other}
 use Rattle.lfs_model.proofs.ListSizes.{head_of_back}
-use Rattle.lfs_file.specs.SettledMaps.{MarksNewListUsedAndOldFree, PutsBlocksInState}
+use Rattle.lfs_file.specs.SettledMaps.{SettlesList, PutsInState}
 use Rattle.lfs_file.proofs.Releasings.{drop_here}
 
 -- the head is the last block
-pub head_is : (d : Blocks) (count head : ℕ) → 0 < count → head ≡ slice_index (list_blocks_from_head d count head) (count - 1)
+pub head_is : (d : Blocks) (count head : ℕ) → 0 < count → head ≡ slice_index (blocks_to_head d count head) (count - 1)
 head_is d count head some =
     let e : count - 1 + 1 ≡ count = omega arith in
-    sym (head_of_back d (count - 1) head) ∙ ap (λ n. slice_index (list_blocks_from_head d n head) (count - 1)) e
+    sym (head_of_back d (count - 1) head) ∙ ap (λ n. slice_index (blocks_to_head d n head) (count - 1)) e
 
 -- a list's blocks are all there
 pub never_corrupt : {T : Type 0} (x : Error) → (x ≡ Error.Io) ⊎ (x ≡ Error.Corrupt) → (◌≡◌ {A = Result T Error} (Err x) (Err Error.Corrupt) → ⊥) → x ≡ Error.Io
@@ -27,11 +27,11 @@ never_corrupt x (inl is) other = is
 never_corrupt x (inr is) other = absurd (other (ap Err is))
 
 module _ (state : BlockState) where
-  pub puts_none : (sets : BlockStateList) → PutsBlocksInState state sets sets []
+  pub puts_none : (sets : BlockStates) → PutsInState state sets sets []
   puts_none sets = record { count = refl; put = λ k x l. absurd (omega (arith, l)); others = λ b apart. refl }
 
   -- a block is set to it
-  pub puts_one : (sets new : BlockStateList) (b : ℕ) → b < length sets → new ≡ set sets b state → PutsBlocksInState state sets new (b ∷ [])
+  pub puts_one : (sets new : BlockStates) (b : ℕ) → b < length sets → new ≡ set sets b state → PutsInState state sets new (b ∷ [])
   puts_one sets new b lt is = record {
     count = ap length is ∙ length-set sets b state;
     put = All-cons (λ x. slice_get new x ≡ Some state) b [] (ap (λ m. slice_get m b) is ∙ slice_get-set_same sets b state lt) (λ k x l. absurd (omega (arith, l)));
@@ -39,7 +39,7 @@ module _ (state : BlockState) where
   }
 
   -- a block is in it already
-  pub puts_kept : (sets new : BlockStateList) (b : ℕ) → slice_get sets b ≡ Some state → new ≡ sets → PutsBlocksInState state sets new (b ∷ [])
+  pub puts_kept : (sets new : BlockStates) (b : ℕ) → slice_get sets b ≡ Some state → new ≡ sets → PutsInState state sets new (b ∷ [])
   puts_kept sets new b here is = record {
     count = ap length is;
     put = All-cons (λ x. slice_get new x ≡ Some state) b [] (ap (λ m. slice_get m b) is ∙ here) (λ k x l. absurd (omega (arith, l)));
@@ -47,7 +47,7 @@ module _ (state : BlockState) where
   }
 
   -- one more
-  pub puts_more : (old mid new : BlockStateList) (b : ℕ) (bs : List ℕ) → PutsBlocksInState state old mid bs → PutsBlocksInState state mid new (b ∷ []) → PutsBlocksInState state old new (b ∷ bs)
+  pub puts_more : (old mid new : BlockStates) (b : ℕ) (bs : List ℕ) → PutsInState state old mid bs → PutsInState state mid new (b ∷ []) → PutsInState state old new (b ∷ bs)
   puts_more old mid new b bs first second =
       let here : slice_get new b ≡ Some state = second.put 0 0 (omega arith) in
       let there : (other : ℕ) → other ≢ b → slice_get new other ≡ slice_get mid other = λ other ne. second.others other (All-cons (λ x. x ≢ other) b [] (λ e. ne (sym e)) (λ k x l. absurd (omega (arith, l)))) in
@@ -61,14 +61,14 @@ module _ (state : BlockState) where
       }
 
   -- a block more of a list
-  pub puts_here : (old mid new : BlockStateList) (d : Blocks) (count head index block : ℕ) → index < count → block ≡ slice_index (list_blocks_from_head d count head) index
-      → PutsBlocksInState state old mid (drop (index + 1) (list_blocks_from_head d count head)) → PutsBlocksInState state mid new (block ∷ []) → PutsBlocksInState state old new (drop index (list_blocks_from_head d count head))
+  pub puts_here : (old mid new : BlockStates) (d : Blocks) (count head index block : ℕ) → index < count → block ≡ slice_index (blocks_to_head d count head) index
+      → PutsInState state old mid (drop (index + 1) (blocks_to_head d count head)) → PutsInState state mid new (block ∷ []) → PutsInState state old new (drop index (blocks_to_head d count head))
   puts_here old mid new d count head index block lt is first second =
-      subst (λ (l : List ℕ). PutsBlocksInState state old new l) (ap (λ b. b ∷ drop (index + 1) (list_blocks_from_head d count head)) is ∙ sym (drop_here d count head index lt))
-      (puts_more old mid new block (drop (index + 1) (list_blocks_from_head d count head)) first second)
+      subst (λ (l : List ℕ). PutsInState state old new l) (ap (λ b. b ∷ drop (index + 1) (blocks_to_head d count head)) is ∙ sym (drop_here d count head index lt))
+      (puts_more old mid new block (drop (index + 1) (blocks_to_head d count head)) first second)
 
 -- one list is freed, and then another one used
-pub settles : (old mid new : BlockStateList) (gone kept : List ℕ) → PutsBlocksInState Free old mid gone → PutsBlocksInState Used mid new kept → MarksNewListUsedAndOldFree old new gone kept
+pub settles : (old mid new : BlockStates) (gone kept : List ℕ) → PutsInState Free old mid gone → PutsInState Used mid new kept → SettlesList old new gone kept
 settles old mid new gone kept first second = record {
   count = second.count ∙ first.count;
   used = second.put;
@@ -77,10 +77,10 @@ settles old mid new gone kept first second = record {
 }
 
 -- a block that is neither free nor in flight is used
-pub used_else : (sets : BlockStateList) (b : ℕ) → b < length sets → (slice_get sets b ≡ Some InFlight → ⊥) → (slice_get sets b ≡ Some Free → ⊥) → IsBlockMarkedUsedInMap sets b
+pub used_else : (sets : BlockStates) (b : ℕ) → b < length sets → (slice_get sets b ≡ Some InFlight → ⊥) → (slice_get sets b ≡ Some Free → ⊥) → IsUsedBlock sets b
 used_else sets b lt flying free = go (get_or sets b Free) (slice_get-get_or sets b Free lt)
   where
-    go : (s : BlockState) → slice_get sets b ≡ Some s → IsBlockMarkedUsedInMap sets b
+    go : (s : BlockState) → slice_get sets b ≡ Some s → IsUsedBlock sets b
     go Free is = absurd (free is)
     go InFlight is = absurd (flying is)
     go Used is = is

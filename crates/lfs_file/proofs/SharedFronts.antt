@@ -5,15 +5,15 @@ use Rattle.std.specs.List.{IsDistinct, slice_get}
 use Rattle.std.proofs.lemmas.Bool.{cases_lt}
 use Rattle.std.proofs.lemmas.List.{get_or-take, take-append-drop, take_more}
 use Rattle.std.proofs.lemmas.List.Elements.{All-contains, Contains-append_cases, Contains-append_left, Contains-get_or}
-use Rattle.lfs_model.specs.Blocks.{Blocks, block_bytes_by_number}
-use Rattle.lfs_model.specs.BlockSets.{BlockStateList, IsBlockMarkedUsedInMap}
-use Rattle.lfs_model.specs.BlockSets.BlockState.{Free, Used}
-use Rattle.lfs_model.specs.SkipLists.{AreListBlocks, list_blocks_from_head, word_at_offset}
-use Rattle.lfs_model.proofs.BlockSets.{occurrence_count_of_number-Contains}
-use Rattle.lfs_model.proofs.Counts.{occurrence_count_of_number, count_append, once_from_distinct}
+use Rattle.lfs_model.specs.format.Blocks.{Blocks, block_bytes}
+use Rattle.lfs_model.specs.layers.BlockSets.{BlockStates, IsUsedBlock}
+use Rattle.lfs_model.specs.layers.BlockSets.BlockState.{Free, Used}
+use Rattle.lfs_model.specs.format.SkipLists.{AreListBlocks, blocks_to_head, word_at}
+use Rattle.lfs_model.proofs.BlockSets.{number_count-Contains}
+use Rattle.lfs_model.proofs.Counts.{number_count, count_append, once_from_distinct}
 use Rattle.lfs_model.proofs.Files.{length_back}
-use Rattle.lfs_file.specs.SettledMaps.{MarksNewListUsedAndOldFree, PutsBlocksInState, AreSharedBlocksUsed}
-use Rattle.lfs_file.specs.SharedBlocks.{IsCountOfSharedFrontBlocks, count_of_unshared_blocks_in_both_lists}
+use Rattle.lfs_file.specs.SettledMaps.{SettlesList, PutsInState, AreSharedUsed}
+use Rattle.lfs_file.specs.SharedBlocks.{IsSharedCount, unshared_count}
 use Rattle.lfs_file.proofs.Others.{Contains-behind}
 use Rattle.lfs_file.proofs.Releasings.{before_in}
 use Rattle.lfs_file.proofs.Takings.{member}
@@ -22,17 +22,17 @@ use Rattle.lfs_file.proofs.Takings.{member}
 
 module _ (d : Blocks) (count_one head count_other other : ℕ) (chain : AreListBlocks d count_one head) (twin : AreListBlocks d count_other other) where
   abbrev xs : List ℕ
-  xs = list_blocks_from_head d count_one head
+  xs = blocks_to_head d count_one head
 
   abbrev ys : List ℕ
-  ys = list_blocks_from_head d count_other other
+  ys = blocks_to_head d count_other other
 
   before_both : (m : ℕ) → suc m < count_one → suc m < count_other → slice_index xs (suc m) ≡ slice_index ys (suc m) → slice_index xs m ≡ slice_index ys m
   before_both m one two same =
       let e : suc m - 1 ≡ m = omega arith in
       ap (slice_index xs) (sym e)
       ∙ sym (before_in d count_one head (suc m) (slice_index xs (suc m)) chain (omega arith) one refl)
-      ∙ ap (λ b. word_at_offset (block_bytes_by_number d b) 0) same
+      ∙ ap (λ b. word_at (block_bytes d b) 0) same
       ∙ before_in d count_other other (suc m) (slice_index ys (suc m)) twin (omega arith) two refl
       ∙ ap (slice_index ys) e
 
@@ -60,25 +60,25 @@ module _ (d : Blocks) (count_one head count_other other : ℕ) (chain : AreListB
       ∙ ap (λ k. take k ys) (sym f)
 
   pub is_shared : (n : ℕ) → n ≤ count_one → n ≤ count_other → (0 < n → slice_index xs (n - 1) ≡ slice_index ys (n - 1))
-      → (n < count_one → n < count_other → slice_index xs n ≢ slice_index ys n) → IsCountOfSharedFrontBlocks xs ys n
+      → (n < count_one → n < count_other → slice_index xs n ≢ slice_index ys n) → IsSharedCount xs ys n
   is_shared n one two same most = record {
     within = (omega (arith, length_back d count_one head), omega (arith, length_back d count_other other));
     same = fronts_same n one two same;
     most = λ first second. most (omega (arith, length_back d count_one head)) (omega (arith, length_back d count_other other));
   }
 
-pub apart_is : (d : Blocks) (count_one head count_other other n : ℕ) → count_of_unshared_blocks_in_both_lists (list_blocks_from_head d count_one head) (list_blocks_from_head d count_other other) n ≡ (count_one - n) + (count_other - n)
+pub apart_is : (d : Blocks) (count_one head count_other other n : ℕ) → unshared_count (blocks_to_head d count_one head) (blocks_to_head d count_other other) n ≡ (count_one - n) + (count_other - n)
 apart_is d count_one head count_other other n =
-    omega (arith, length-drop n (list_blocks_from_head d count_one head), length-drop n (list_blocks_from_head d count_other other), length_back d count_one head, length_back d count_other other)
+    omega (arith, length-drop n (blocks_to_head d count_one head), length-drop n (blocks_to_head d count_other other), length_back d count_one head, length_back d count_other other)
 
 -- ---- there is only one such number
 
-not_more : (xs ys : List ℕ) (n m : ℕ) → IsCountOfSharedFrontBlocks xs ys n → IsCountOfSharedFrontBlocks xs ys m → n < m → ⊥
+not_more : (xs ys : List ℕ) (n m : ℕ) → IsSharedCount xs ys n → IsSharedCount xs ys m → n < m → ⊥
 not_more xs ys n m few many lt =
     few.most (omega (arith, many.within.0)) (omega (arith, many.within.1))
     (sym (get_or-take m xs n 0 lt) ∙ ap (λ (l : List ℕ). slice_index l n) many.same ∙ get_or-take m ys n 0 lt)
 
-pub shared_once : (xs ys : List ℕ) (n m : ℕ) → IsCountOfSharedFrontBlocks xs ys n → IsCountOfSharedFrontBlocks xs ys m → n ≡ m
+pub shared_once : (xs ys : List ℕ) (n m : ℕ) → IsSharedCount xs ys n → IsSharedCount xs ys m → n ≡ m
 shared_once xs ys n m one two =
     ⊎_elim (λ lt. absurd (not_more xs ys n m one two lt))
     (λ le. ⊎_elim (λ lt. absurd (not_more xs ys m n two one lt)) (λ other. omega arith) (cases_lt m n))
@@ -103,17 +103,17 @@ not_behind : (n : ℕ) (xs : List ℕ) (b : ℕ) → IsDistinct nat_eq xs → Co
 not_behind n xs b distinct front =
     ⊎_elim
     (λ behind.
-    let one = occurrence_count_of_number-Contains (take n xs) b front in
-    let two = occurrence_count_of_number-Contains (drop n xs) b behind in
+    let one = number_count-Contains (take n xs) b front in
+    let two = number_count-Contains (drop n xs) b behind in
     let sum = count_append b (take n xs) (drop n xs) in
-    let all = ap (occurrence_count_of_number b) (take-append-drop n xs) in
+    let all = ap (number_count b) (take-append-drop n xs) in
     let once = once_from_distinct xs distinct b in
     absurd (omega arith))
     (λ away. away) (member (drop n xs) b)
 
-module _ (old mid new : BlockStateList) (gone kept : List ℕ) (n : ℕ) (distinct : IsDistinct nat_eq gone) (same : take n gone ≡ take n kept) (shared : AreSharedBlocksUsed old gone kept)
-    (first : PutsBlocksInState Free old mid (drop n gone)) (second : PutsBlocksInState Used mid new (drop n kept)) where
-  used_at : (b : ℕ) → Contains kept b → IsBlockMarkedUsedInMap new b
+module _ (old mid new : BlockStates) (gone kept : List ℕ) (n : ℕ) (distinct : IsDistinct nat_eq gone) (same : take n gone ≡ take n kept) (shared : AreSharedUsed old gone kept)
+    (first : PutsInState Free old mid (drop n gone)) (second : PutsInState Used mid new (drop n kept)) where
+  used_at : (b : ℕ) → Contains kept b → IsUsedBlock new b
   used_at b has =
       ⊎_elim
       (λ behind. All-contains (λ x. slice_get new x ≡ Some Used) (drop n kept) b second.put behind)
@@ -130,7 +130,7 @@ module _ (old mid new : BlockStateList) (gone kept : List ℕ) (n : ℕ) (distin
       (from_front n kept b (subst (λ (l : List ℕ). Contains l b) same (front_or_behind n gone b has away))) refl))
       (member (drop n gone) b)
 
-  pub settles_apart : MarksNewListUsedAndOldFree old new gone kept
+  pub settles_apart : SettlesList old new gone kept
   settles_apart = record {
     count = second.count ∙ first.count;
     used = λ k x l. used_at (get_or kept k x) (Contains-get_or kept k x l);

@@ -6,10 +6,10 @@ use Rattle.std.proofs.Math.Nat.{mul-suc, div-add-mod}
 use Rattle.std.proofs.lemmas.Nat.{mul-le, mod_below}
 use Rattle.std.proofs.lemmas.Bool.{cases_lt}
 use lib.Count.{ones, ones_step, ones-le, count_trailing_zeros, trailing_le}
-pub use Rattle.lfs_model.proofs.ListSizes.{data_capacity_of_list_block-pos, pointer_count_of_list_block-le}
-pub use Rattle.lfs_model.proofs.ListParts.{byte_count_before_list_block-more, place-lt, place-mono}
+pub use Rattle.lfs_model.proofs.ListSizes.{block_capacity-pos, pointer_count-le}
+pub use Rattle.lfs_model.proofs.ListParts.{bytes_before_block-more, place-lt, place-mono}
 use Rattle.lfs_file.proofs.TrailingZeros.{zeros_even, zeros_odd}
-use Rattle.lfs_model.specs.SkipLists.{pointer_count_of_list_block, data_capacity_of_list_block, byte_count_before_list_block, IsPlaceOfByteInList, list_block_count_from_index, list_block_count_for_size}
+use Rattle.lfs_model.specs.format.SkipLists.{pointer_count, block_capacity, bytes_before_block, IsBytePlace, blocks_from_index, block_count_for}
 
 -- ---- the ones of a number and of the next one differ by its zeros behind
 
@@ -43,12 +43,12 @@ ones_next (suc k) n h = go (λ p l. ones_next k p l) (suc n % 2) (suc n / 2) ref
 -- ---- the bytes before a block
 
 -- blocks 0 to n hold so many
-pub byte_count_before_list_block-suc : (block_size n : ℕ) → 1024 ≤ block_size → n < 2 ^ 32 → byte_count_before_list_block block_size (suc n) ≡ (block_size - 8) * n + block_size + 4 * ones n
-byte_count_before_list_block-suc block_size zero le h =
+pub bytes_before_block-suc : (block_size n : ℕ) → 1024 ≤ block_size → n < 2 ^ 32 → bytes_before_block block_size (suc n) ≡ (block_size - 8) * n + block_size + 4 * ones n
+bytes_before_block-suc block_size zero le h =
     let none = ones-le 0 0 (omega arith) in
     omega arith
-byte_count_before_list_block-suc block_size (suc n) le h =
-    let ih = byte_count_before_list_block-suc block_size n le (omega arith) in
+bytes_before_block-suc block_size (suc n) le h =
+    let ih = bytes_before_block-suc block_size n le (omega arith) in
     let next = ones_next 32 n h in
     let few = trailing_le 32 (suc n) in
     let product = mul-suc (block_size - 8) n in
@@ -57,25 +57,25 @@ byte_count_before_list_block-suc block_size (suc n) le h =
 -- ---- the place of a byte
 
 module _ (block_size pos : ℕ) (large : 1024 ≤ block_size) where
-  place_at : (i : ℕ) → i < 2 ^ 32 → byte_count_before_list_block block_size i ≤ pos → pos < (block_size - 8) * i + block_size + 4 * ones i
-      → (4 * ones i ≤ pos - (block_size - 8) * i) × IsPlaceOfByteInList block_size pos i (pos - (block_size - 8) * i - 4 * ones i)
+  place_at : (i : ℕ) → i < 2 ^ 32 → bytes_before_block block_size i ≤ pos → pos < (block_size - 8) * i + block_size + 4 * ones i
+      → (4 * ones i ≤ pos - (block_size - 8) * i) × IsBytePlace block_size pos i (pos - (block_size - 8) * i - 4 * ones i)
   place_at zero h from below =
       let none = ones-le 0 0 (omega arith) in
       (omega arith, record { from = omega arith; below = omega arith; at = omega arith })
   place_at (suc n) h from below =
-      let before = byte_count_before_list_block-suc block_size n large (omega arith) in
+      let before = bytes_before_block-suc block_size n large (omega arith) in
       let next = ones_next 32 n h in
       let few = trailing_le 32 (suc n) in
       let product = mul-suc (block_size - 8) n in
       (omega arith, record { from = omega arith; below = omega arith; at = omega arith })
 
   abbrev pub IsPlaceBy : ℕ → Type 0
-  IsPlaceBy i = (4 * ones i ≤ pos - (block_size - 8) * i) × IsPlaceOfByteInList block_size pos i (pos - (block_size - 8) * i - 4 * ones i)
+  IsPlaceBy i = (4 * ones i ≤ pos - (block_size - 8) * i) × IsBytePlace block_size pos i (pos - (block_size - 8) * i - 4 * ones i)
 
-  byte_count_before_list_block-le : (g : ℕ) → suc g < 2 ^ 32 → (block_size - 8) * suc g ≤ pos → byte_count_before_list_block block_size g ≤ pos
-  byte_count_before_list_block-le zero h le = omega arith
-  byte_count_before_list_block-le (suc n) h le =
-      let before = byte_count_before_list_block-suc block_size n large (omega arith) in
+  bytes_before_block-le : (g : ℕ) → suc g < 2 ^ 32 → (block_size - 8) * suc g ≤ pos → bytes_before_block block_size g ≤ pos
+  bytes_before_block-le zero h le = omega arith
+  bytes_before_block-le (suc n) h le =
+      let before = bytes_before_block-suc block_size n large (omega arith) in
       let few = ones-le 32 n (omega arith) in
       let product = mul-suc (block_size - 8) n in
       let product_next = mul-suc (block_size - 8) (suc n) in
@@ -92,8 +92,8 @@ module _ (block_size pos : ℕ) (large : 1024 ≤ block_size) where
           let product_next = mul-suc (block_size - 8) (suc g) in
           let guess : suc g < 2 ^ 32 = omega (arith, mul-le 1 (suc g) (block_size - 8) (suc g) (omega arith) (omega arith)) in
           let few = ones-le 32 g (omega arith) in
-          let before = byte_count_before_list_block-suc block_size g large (omega arith) in
-          ((λ less. place_at g (omega arith) (byte_count_before_list_block-le g guess (omega arith)) (omega arith)), (λ more. place_at (suc g) guess (omega arith) (omega arith)))
+          let before = bytes_before_block-suc block_size g large (omega arith) in
+          ((λ less. place_at g (omega arith) (bytes_before_block-le g guess (omega arith)) (omega arith)), (λ more. place_at (suc g) guess (omega arith) (omega arith)))
 
   module _ (low : pos < 2 ^ 32) (some : pos / (block_size - 8) ≡ 0 → ⊥) where
     guessed : pos / (block_size - 8) ≡ suc (pos / (block_size - 8) - 1)
@@ -107,115 +107,115 @@ module _ (block_size pos : ℕ) (large : 1024 ≤ block_size) where
 
 -- ---- the blocks that hold so many bytes
 
-pub byte_count_before_list_block-least : (block_size i : ℕ) → 1024 ≤ block_size → 892 * i ≤ byte_count_before_list_block block_size i
-byte_count_before_list_block-least block_size zero large = omega arith
-byte_count_before_list_block-least block_size (suc i) large =
-    let before = byte_count_before_list_block-least block_size i large in
-    let one = data_capacity_of_list_block-pos block_size i large in
+pub bytes_before_block-least : (block_size i : ℕ) → 1024 ≤ block_size → 892 * i ≤ bytes_before_block block_size i
+bytes_before_block-least block_size zero large = omega arith
+bytes_before_block-least block_size (suc i) large =
+    let before = bytes_before_block-least block_size i large in
+    let one = block_capacity-pos block_size i large in
     omega arith
 
-list_block_count_from_index-none : (steps block_size i : ℕ) → list_block_count_from_index steps block_size i 0 ≡ 0
-list_block_count_from_index-none zero block_size i = refl
-list_block_count_from_index-none (suc steps) block_size i = refl
+blocks_from_index-none : (steps block_size i : ℕ) → blocks_from_index steps block_size i 0 ≡ 0
+blocks_from_index-none zero block_size i = refl
+blocks_from_index-none (suc steps) block_size i = refl
 
-list_block_count_from_index-some : (steps block_size i size : ℕ) → 1 ≤ size → list_block_count_from_index (suc steps) block_size i size ≡ 1 + list_block_count_from_index steps block_size (i + 1) (size - data_capacity_of_list_block block_size i)
-list_block_count_from_index-some steps block_size i size some =
+blocks_from_index-some : (steps block_size i size : ℕ) → 1 ≤ size → blocks_from_index (suc steps) block_size i size ≡ 1 + blocks_from_index steps block_size (i + 1) (size - block_capacity block_size i)
+blocks_from_index-some steps block_size i size some =
     let no : (size == 0) ≡ false = grind (arith, nat_tests) in
-    ap (λ t. if t then 0 else 1 + list_block_count_from_index steps block_size (i + 1) (size - data_capacity_of_list_block block_size i)) no
+    ap (λ t. if t then 0 else 1 + blocks_from_index steps block_size (i + 1) (size - block_capacity block_size i)) no
 
 -- counted from block i on, up to the block n in which the last byte stands
-list_block_count_from_index-last : (block_size n total : ℕ) → 1024 ≤ block_size → byte_count_before_list_block block_size n < total → total ≤ byte_count_before_list_block block_size n + data_capacity_of_list_block block_size n
-    → (steps i rest : ℕ) → i ≤ n → rest ≤ steps → byte_count_before_list_block block_size i + rest ≡ total → i + list_block_count_from_index steps block_size i rest ≡ suc n
-list_block_count_from_index-last block_size n total large above within steps i zero le enough is = let more = byte_count_before_list_block-more block_size i n le in absurd (omega arith)
-list_block_count_from_index-last block_size n total large above within zero i (suc rest) le enough is = absurd (omega arith)
-list_block_count_from_index-last block_size n total large above within (suc steps) i (suc rest) le enough is =
+blocks_from_index-last : (block_size n total : ℕ) → 1024 ≤ block_size → bytes_before_block block_size n < total → total ≤ bytes_before_block block_size n + block_capacity block_size n
+    → (steps i rest : ℕ) → i ≤ n → rest ≤ steps → bytes_before_block block_size i + rest ≡ total → i + blocks_from_index steps block_size i rest ≡ suc n
+blocks_from_index-last block_size n total large above within steps i zero le enough is = let more = bytes_before_block-more block_size i n le in absurd (omega arith)
+blocks_from_index-last block_size n total large above within zero i (suc rest) le enough is = absurd (omega arith)
+blocks_from_index-last block_size n total large above within (suc steps) i (suc rest) le enough is =
     ⊎_elim
     (λ inside.
-    let more = byte_count_before_list_block-more block_size (suc i) n (omega arith) in
-    let one = data_capacity_of_list_block-pos block_size i large in
-    let next : suc i + list_block_count_from_index steps block_size (suc i) (suc rest - data_capacity_of_list_block block_size i) ≡ suc n =
-    list_block_count_from_index-last block_size n total large above within steps (suc i) (suc rest - data_capacity_of_list_block block_size i) (omega arith) (omega arith) (omega arith) in
-    omega (arith, list_block_count_from_index-some steps block_size i (suc rest) (omega arith), ap (λ k. list_block_count_from_index steps block_size k (suc rest - data_capacity_of_list_block block_size i)) (add-one i)))
+    let more = bytes_before_block-more block_size (suc i) n (omega arith) in
+    let one = block_capacity-pos block_size i large in
+    let next : suc i + blocks_from_index steps block_size (suc i) (suc rest - block_capacity block_size i) ≡ suc n =
+    blocks_from_index-last block_size n total large above within steps (suc i) (suc rest - block_capacity block_size i) (omega arith) (omega arith) (omega arith) in
+    omega (arith, blocks_from_index-some steps block_size i (suc rest) (omega arith), ap (λ k. blocks_from_index steps block_size k (suc rest - block_capacity block_size i)) (add-one i)))
     (λ last.
     let same : i ≡ n = omega arith in
-    let here : suc rest ≤ data_capacity_of_list_block block_size i = subst (λ k. byte_count_before_list_block block_size k + suc rest ≡ total → suc rest ≤ data_capacity_of_list_block block_size k) (sym same) (λ e. omega arith) is in
-    let none : suc rest - data_capacity_of_list_block block_size i ≡ 0 = omega arith in
-    omega (arith, list_block_count_from_index-some steps block_size i (suc rest) (omega arith), ap (list_block_count_from_index steps block_size (i + 1)) none, list_block_count_from_index-none steps block_size (i + 1)))
+    let here : suc rest ≤ block_capacity block_size i = subst (λ k. bytes_before_block block_size k + suc rest ≡ total → suc rest ≤ block_capacity block_size k) (sym same) (λ e. omega arith) is in
+    let none : suc rest - block_capacity block_size i ≡ 0 = omega arith in
+    omega (arith, blocks_from_index-some steps block_size i (suc rest) (omega arith), ap (blocks_from_index steps block_size (i + 1)) none, blocks_from_index-none steps block_size (i + 1)))
     (cases_lt i n)
 
 -- the byte before the end is in the last block
-pub list_block_count_for_size-place : (block_size size index offset : ℕ) → 1024 ≤ block_size → 1 ≤ size → IsPlaceOfByteInList block_size (size - 1) index offset → list_block_count_for_size block_size size ≡ index + 1
-list_block_count_for_size-place block_size size index offset large some is =
-    let counted = list_block_count_from_index-last block_size index size large (omega arith) (omega arith) size 0 size (omega arith) (omega arith) (omega arith) in
+pub block_count_for-place : (block_size size index offset : ℕ) → 1024 ≤ block_size → 1 ≤ size → IsBytePlace block_size (size - 1) index offset → block_count_for block_size size ≡ index + 1
+block_count_for-place block_size size index offset large some is =
+    let counted = blocks_from_index-last block_size index size large (omega arith) (omega arith) size 0 size (omega arith) (omega arith) (omega arith) in
     omega arith
 
 -- a list has fewer blocks than bytes
-pub place-le : (block_size pos index offset : ℕ) → 1024 ≤ block_size → IsPlaceOfByteInList block_size pos index offset → 892 * index ≤ pos
-place-le block_size pos index offset large is = let k = byte_count_before_list_block-least block_size index large in omega arith
+pub place-le : (block_size pos index offset : ℕ) → 1024 ≤ block_size → IsBytePlace block_size pos index offset → 892 * index ≤ pos
+place-le block_size pos index offset large is = let k = bytes_before_block-least block_size index large in omega arith
 
 -- ---- places in order
 
 -- each byte has a place
-pub placed : (block_size pos : ℕ) → 1024 ≤ block_size → (i : ℕ) × ((off : ℕ) × IsPlaceOfByteInList block_size pos i off)
+pub placed : (block_size pos : ℕ) → 1024 ≤ block_size → (i : ℕ) × ((off : ℕ) × IsBytePlace block_size pos i off)
 placed block_size zero large = (0, (0, record { from = omega arith; below = omega arith; at = omega arith }))
 placed block_size (suc pos) large =
     let before = placed block_size pos large in
     let i : ℕ = before.0 in
     let low = before.1.1.from in
     let high = before.1.1.below in
-    let one = data_capacity_of_list_block-pos block_size (suc i) large in
+    let one = block_capacity-pos block_size (suc i) large in
     ⊎_elim
-    (λ same. (i, (4 * pointer_count_of_list_block i + (suc pos - byte_count_before_list_block block_size i), record { from = omega arith; below = same; at = refl })))
-    (λ next. (suc i, (4 * pointer_count_of_list_block (suc i) + (suc pos - byte_count_before_list_block block_size (suc i)), record { from = omega arith; below = omega arith; at = refl })))
-    (cases_lt (suc pos) (byte_count_before_list_block block_size i + data_capacity_of_list_block block_size i))
+    (λ same. (i, (4 * pointer_count i + (suc pos - bytes_before_block block_size i), record { from = omega arith; below = same; at = refl })))
+    (λ next. (suc i, (4 * pointer_count (suc i) + (suc pos - bytes_before_block block_size (suc i)), record { from = omega arith; below = omega arith; at = refl })))
+    (cases_lt (suc pos) (bytes_before_block block_size i + block_capacity block_size i))
 
-pub place_unique : (block_size p i j off end : ℕ) → IsPlaceOfByteInList block_size p i off → IsPlaceOfByteInList block_size p j end → i ≡ j
+pub place_unique : (block_size p i j off end : ℕ) → IsBytePlace block_size p i off → IsBytePlace block_size p j end → i ≡ j
 place_unique block_size p i j off end is there =
     let a = place-mono block_size p p i j off end is there (omega arith) in
     let b = place-mono block_size p p j i end off there is (omega arith) in
     omega arith
 
 -- the last byte before a block is in the block before it
-pub place_before : (block_size p i j off : ℕ) → 1024 ≤ block_size → IsPlaceOfByteInList block_size p j off → suc p ≡ byte_count_before_list_block block_size i → i ≡ suc j
+pub place_before : (block_size p i j off : ℕ) → 1024 ≤ block_size → IsBytePlace block_size p j off → suc p ≡ bytes_before_block block_size i → i ≡ suc j
 place_before block_size p i j off large is e =
     let low = is.from in
     let high = is.below in
     ⊎_elim
     (λ above. ⊎_elim
-    (λ past. let more = byte_count_before_list_block-more block_size (suc (suc j)) i (omega arith) in let one = data_capacity_of_list_block-pos block_size (suc j) large in absurd (omega arith))
+    (λ past. let more = bytes_before_block-more block_size (suc (suc j)) i (omega arith) in let one = block_capacity-pos block_size (suc j) large in absurd (omega arith))
     (λ le. omega arith)
     (cases_lt (suc j) i))
-    (λ below. let more = byte_count_before_list_block-more block_size i j (omega arith) in absurd (omega arith))
+    (λ below. let more = bytes_before_block-more block_size i j (omega arith) in absurd (omega arith))
     (cases_lt j i)
 
 -- the last byte is in the last block
 pub blocks_for-last : (block_size size : ℕ) → 1024 ≤ block_size → 1 ≤ size
-    → (n : ℕ) × ((list_block_count_for_size block_size size ≡ suc n) × ((byte_count_before_list_block block_size n < size) × (size ≤ byte_count_before_list_block block_size n + data_capacity_of_list_block block_size n)))
+    → (n : ℕ) × ((block_count_for block_size size ≡ suc n) × ((bytes_before_block block_size n < size) × (size ≤ bytes_before_block block_size n + block_capacity block_size n)))
 blocks_for-last block_size size large some =
     let last = placed block_size (size - 1) large in
     let low = last.1.1.from in
     let high = last.1.1.below in
-    (last.0, (list_block_count_for_size-place block_size size last.0 last.1.0 large some last.1.1 ∙ add-one last.0, (omega arith, omega arith)))
+    (last.0, (block_count_for-place block_size size last.0 last.1.0 large some last.1.1 ∙ add-one last.0, (omega arith, omega arith)))
 
 -- more bytes than the blocks before one hold need that one
-pub list_block_count_for_size-above : (block_size total n : ℕ) → 1024 ≤ block_size → byte_count_before_list_block block_size n < total → n < list_block_count_for_size block_size total
-list_block_count_for_size-above block_size total n large above =
+pub block_count_for-above : (block_size total n : ℕ) → 1024 ≤ block_size → bytes_before_block block_size n < total → n < block_count_for block_size total
+block_count_for-above block_size total n large above =
     let last = blocks_for-last block_size total large (omega arith) in
     let count = last.1.0 in
     let within = last.1.1.1 in
     ⊎_elim
-    (λ less. let more = byte_count_before_list_block-more block_size (suc last.0) n (omega arith) in absurd (omega arith))
+    (λ less. let more = bytes_before_block-more block_size (suc last.0) n (omega arith) in absurd (omega arith))
     (λ ge. omega arith)
     (cases_lt last.0 n)
 
 -- and those that it holds need no further one
-pub list_block_count_for_size-within : (block_size total n : ℕ) → 1024 ≤ block_size → total ≤ byte_count_before_list_block block_size n → list_block_count_for_size block_size total ≤ n
-list_block_count_for_size-within block_size zero n large within = omega arith
-list_block_count_for_size-within block_size (suc total) n large within =
+pub block_count_for-within : (block_size total n : ℕ) → 1024 ≤ block_size → total ≤ bytes_before_block block_size n → block_count_for block_size total ≤ n
+block_count_for-within block_size zero n large within = omega arith
+block_count_for-within block_size (suc total) n large within =
     let last = blocks_for-last block_size (suc total) large (omega arith) in
     let count = last.1.0 in
     let above = last.1.1.0 in
     ⊎_elim
-    (λ less. let more = byte_count_before_list_block-more block_size n last.0 (omega arith) in absurd (omega arith))
+    (λ less. let more = bytes_before_block-more block_size n last.0 (omega arith) in absurd (omega arith))
     (λ ge. omega arith)
     (cases_lt n (suc last.0))

@@ -7,10 +7,10 @@ use Rattle.std.proofs.lemmas.List.{length-set, get_or_at, get_or_append_left}
 use Rattle.std.proofs.lemmas.List.Elements.{All-append, All-cons}
 use Rattle.std.proofs.lemmas.Map.Keys.{IsDistinct-from_apart, apart_from_distinct}
 use Rattle.std.proofs.lemmas.Option.{slice_get_within}
-use Rattle.lfs_model.specs.BlockSets.{BlockStateList, IsBlockFree, IsBlockInFlight, in_flight_block_count, used_count}
-use Rattle.lfs_model.specs.BlockSets.BlockState.{Free, InFlight}
+use Rattle.lfs_model.specs.layers.BlockSets.{BlockStates, IsFree, IsInFlight, in_flight_count, used_count}
+use Rattle.lfs_model.specs.layers.BlockSets.BlockState.{Free, InFlight}
 use Rattle.lfs_model.proofs.BlockSets.{Contains-head, Contains-tail, slice_get-set_same, slice_get-set_other, counts_from_none_free}
-use Rattle.lfs_file.specs.TakenBlocks.{ChangesOnlyFreeBlocksInMap, TakesFreeBlocks}
+use Rattle.lfs_file.specs.TakenBlocks.{ChangesOnlyFree, TakesFreeBlocks}
 
 -- a block is one of them, or apart from each
 pub member : (bs : List ℕ) (b : ℕ) → Contains bs b ⊎ All (λ x. x ≢ b) bs
@@ -20,7 +20,7 @@ member (x ∷ bs) b = ⊎_elim
     (λ ne. ⊎_elim (λ has. inl (Contains-tail x b bs has)) (λ apart. inr (All-cons (λ y. y ≢ b) x bs ne apart)) (member bs b))
     (cases_eq x b)
 
-pub takes_none : (sets : BlockStateList) → TakesFreeBlocks sets sets []
+pub takes_none : (sets : BlockStates) → TakesFreeBlocks sets sets []
 unfolding IsDistinct
 takes_none sets = record {
   count = refl;
@@ -31,13 +31,13 @@ takes_none sets = record {
 }
 
 -- blocks that weren't free are as they were
-pub others_stay : (old new : BlockStateList) (bs : List ℕ) → TakesFreeBlocks old new bs → (b : ℕ) → ¬ (IsBlockFree old b) → slice_get new b ≡ slice_get old b
-others_stay old new bs takes b not_free = takes.others b (λ k x l e. not_free (subst (IsBlockFree old) e (takes.free k x l)))
+pub others_stay : (old new : BlockStates) (bs : List ℕ) → TakesFreeBlocks old new bs → (b : ℕ) → ¬ (IsFree old b) → slice_get new b ≡ slice_get old b
+others_stay old new bs takes b not_free = takes.others b (λ k x l e. not_free (subst (IsFree old) e (takes.free k x l)))
 
 -- a block of these isn't a free one
-not_taken : (old mid : BlockStateList) (bs : List ℕ) (b : ℕ) → TakesFreeBlocks old mid bs → IsBlockFree mid b → All (λ x. x ≢ b) bs
+not_taken : (old mid : BlockStates) (bs : List ℕ) (b : ℕ) → TakesFreeBlocks old mid bs → IsFree mid b → All (λ x. x ≢ b) bs
 not_taken old mid bs b takes free k x l e =
-    let flying : IsBlockInFlight mid b = subst (IsBlockInFlight mid) e (takes.taken k x l) in
+    let flying : IsInFlight mid b = subst (IsInFlight mid) e (takes.taken k x l) in
     let both : Some Free ≡ Some InFlight = sym free ∙ flying in cc
 
 distinct_more : (bs : List ℕ) (b : ℕ) → IsDistinct nat_eq bs → All (λ x. x ≢ b) bs → IsDistinct nat_eq (bs ++ b ∷ [])
@@ -50,29 +50,29 @@ distinct_more bs b distinct apart = IsDistinct-from_apart nat_eq (bs ++ b ∷ []
     (cases_lt j (length bs))))
 
 -- a block more is taken
-pub takes_more : (old mid new : BlockStateList) (bs : List ℕ) (b : ℕ) → TakesFreeBlocks old mid bs → IsBlockFree mid b → new ≡ set mid b InFlight → TakesFreeBlocks old new (bs ++ b ∷ [])
+pub takes_more : (old mid new : BlockStates) (bs : List ℕ) (b : ℕ) → TakesFreeBlocks old mid bs → IsFree mid b → new ≡ set mid b InFlight → TakesFreeBlocks old new (bs ++ b ∷ [])
 takes_more old mid new bs b takes free is =
     let apart : All (λ x. x ≢ b) bs = not_taken old mid bs b takes free in
     let within = slice_get_within mid b Free free in
-    let here : IsBlockInFlight new b = ap (λ m. slice_get m b) is ∙ slice_get-set_same mid b InFlight within in
+    let here : IsInFlight new b = ap (λ m. slice_get m b) is ∙ slice_get-set_same mid b InFlight within in
     let there : (other : ℕ) → other ≢ b → slice_get new other ≡ slice_get mid other = λ other ne. ap (λ m. slice_get m other) is ∙ slice_get-set_other mid b other InFlight ne in
     record {
       count = ap length is ∙ length-set mid b InFlight ∙ takes.count;
-      free = All-append (IsBlockFree old) bs (b ∷ []) takes.free (All-cons (IsBlockFree old) b [] (sym (takes.others b apart) ∙ free) (λ k x l. absurd (omega (arith, l))));
+      free = All-append (IsFree old) bs (b ∷ []) takes.free (All-cons (IsFree old) b [] (sym (takes.others b apart) ∙ free) (λ k x l. absurd (omega (arith, l))));
       distinct = distinct_more bs b takes.distinct apart;
-      taken = All-append (IsBlockInFlight new) bs (b ∷ []) (λ k x l. there (get_or bs k x) (apart k x l) ∙ takes.taken k x l) (All-cons (IsBlockInFlight new) b [] here (λ k x l. absurd (omega (arith, l))));
+      taken = All-append (IsInFlight new) bs (b ∷ []) (λ k x l. there (get_or bs k x) (apart k x l) ∙ takes.taken k x l) (All-cons (IsInFlight new) b [] here (λ k x l. absurd (omega (arith, l))));
       others = λ other away.
           let ne : other ≢ b = λ e. away (length bs) 0 (omega (arith, length-append bs (b ∷ []))) (get_or_at bs b [] 0 (length bs) refl ∙ sym e) in
           there other ne ∙ takes.others other (λ k x l e. away k x (omega (arith, l, length-append bs (b ∷ []))) (get_or_append_left bs (b ∷ []) x k l ∙ e));
     }
 
 -- some block is free where the two sets don't have all
-pub some_free : (sets : BlockStateList) → used_count sets + in_flight_block_count sets < length sets → ((b : ℕ) → ¬ (IsBlockFree sets b)) → ⊥
+pub some_free : (sets : BlockStates) → used_count sets + in_flight_count sets < length sets → ((b : ℕ) → ¬ (IsFree sets b)) → ⊥
 some_free sets room none = absurd (omega (arith, counts_from_none_free sets none, room))
 
-pub keeps_by : (old new : BlockStateList) (bs : List ℕ) → TakesFreeBlocks old new bs → used_count new ≡ used_count old → ChangesOnlyFreeBlocksInMap old new
+pub keeps_by : (old new : BlockStates) (bs : List ℕ) → TakesFreeBlocks old new bs → used_count new ≡ used_count old → ChangesOnlyFree old new
 keeps_by old new bs takes used = record { count = takes.count; states = others_stay old new bs takes; used = used }
 
 -- what came into flight
-pub came : (old new : BlockStateList) (bs : List ℕ) → TakesFreeBlocks old new bs → (b : ℕ) → IsBlockInFlight new b → IsBlockInFlight old b ⊎ Contains bs b
+pub came : (old new : BlockStates) (bs : List ℕ) → TakesFreeBlocks old new bs → (b : ℕ) → IsInFlight new b → IsInFlight old b ⊎ Contains bs b
 came old new bs takes b flying = ⊎_elim (λ has. inr has) (λ apart. inl (sym (takes.others b apart) ∙ flying)) (member bs b)

@@ -2,9 +2,9 @@
 use Rattle.std.proofs.Common.{ℕ, zero, suc, ◌≡◌, ◌≤◌, cond, [], ◌∷◌, length, Some, refl, sym, ap, subst, arith}
 use Rattle.std.proofs.lemmas.List.Sums.{sum_by-cons}
 use Rattle.std.proofs.lemmas.Option.{same_Some}
-use Rattle.lfs_model.specs.BlockSets.{BlockState, BlockStateList, IsBlockMarkedUsedInMap, is_used, used_count}
-use Rattle.lfs_model.specs.BlockSets.BlockState.{Free, InFlight, Used}
-use Rattle.lfs_file.specs.Hand.{KeepsUsedBlocksInMap}
+use Rattle.lfs_model.specs.layers.BlockSets.{BlockState, BlockStates, IsUsedBlock, is_used, used_count}
+use Rattle.lfs_model.specs.layers.BlockSets.BlockState.{Free, InFlight, Used}
+use Rattle.lfs_file.specs.Hand.{KeepsUsedBlocks}
 
 -- ---- as many blocks are used, so they are the same ones
 
@@ -21,10 +21,10 @@ number_is Free some = absurd (omega (arith, some))
 number_is InFlight some = absurd (omega (arith, some))
 number_is Used some = refl
 
-here_to : (x y : BlockState) (xs ys : BlockStateList) → ((b : ℕ) → IsBlockMarkedUsedInMap (x ∷ xs) b → IsBlockMarkedUsedInMap (y ∷ ys) b) → x ≡ Used → y ≡ Used
+here_to : (x y : BlockState) (xs ys : BlockStates) → ((b : ℕ) → IsUsedBlock (x ∷ xs) b → IsUsedBlock (y ∷ ys) b) → x ≡ Used → y ≡ Used
 here_to x y xs ys stays is = same_Some y Used (stays 0 (ap Some is))
 
-count_le : (old new : BlockStateList) → length new ≡ length old → ((b : ℕ) → IsBlockMarkedUsedInMap old b → IsBlockMarkedUsedInMap new b) → used_count old ≤ used_count new
+count_le : (old new : BlockStates) → length new ≡ length old → ((b : ℕ) → IsUsedBlock old b → IsUsedBlock new b) → used_count old ≤ used_count new
 count_le [] new size stays = omega arith
 count_le (x ∷ xs) [] size stays = absurd (omega (arith, size))
 count_le (x ∷ xs) (y ∷ ys) size stays =
@@ -34,7 +34,7 @@ count_le (x ∷ xs) (y ∷ ys) size stays =
     let f = sum_by-cons number y ys in
     omega arith
 
-pub used_before : (old new : BlockStateList) → length new ≡ length old → used_count new ≡ used_count old → ((b : ℕ) → IsBlockMarkedUsedInMap old b → IsBlockMarkedUsedInMap new b) → (b : ℕ) → IsBlockMarkedUsedInMap new b → IsBlockMarkedUsedInMap old b
+pub used_before : (old new : BlockStates) → length new ≡ length old → used_count new ≡ used_count old → ((b : ℕ) → IsUsedBlock old b → IsUsedBlock new b) → (b : ℕ) → IsUsedBlock new b → IsUsedBlock old b
 used_before [] [] size count stays b used = used
 used_before [] (y ∷ ys) size count stays b used = absurd (omega (arith, size))
 used_before (x ∷ xs) [] size count stays b used = absurd (omega (arith, size))
@@ -51,5 +51,5 @@ used_before (x ∷ xs) (y ∷ ys) size count stays (suc b) used =
     let f = sum_by-cons number y ys in
     used_before xs ys (omega (arith, size)) (omega arith) (λ c u. stays (suc c) u) b used
 
-pub used_back : {old new : BlockStateList} → KeepsUsedBlocksInMap old new → (b : ℕ) → IsBlockMarkedUsedInMap new b → IsBlockMarkedUsedInMap old b
+pub used_back : {old new : BlockStates} → KeepsUsedBlocks old new → (b : ℕ) → IsUsedBlock new b → IsUsedBlock old b
 used_back {old} {new} keeps b used = used_before old new keeps.count keeps.used keeps.stays b used

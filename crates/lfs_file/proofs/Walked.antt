@@ -13,18 +13,18 @@ use Rattle.std.proofs.lemmas.Bool.{cases_lt}
 use Rattle.std.proofs.lemmas.List.Folds.{Any-from_list_any}
 use Rattle.std.proofs.lemmas.Map.Steps.{length-le_from_distinct_below}
 use Rattle.std.proofs.lemmas.Map.Keys.{IsDistinct-from_apart, apart_from_distinct}
-use Rattle.lfs_model.specs.Blocks.{Blocks, block_bytes_by_number}
-use Rattle.lfs_model.specs.SkipLists.{word_at_offset, pointer_count_of_list_block, list_blocks_from_head, AreListBlocks}
-use Rattle.lfs_file.specs.Right.{AllLaterPointersToIndexNameBlock, AreBlockPointersCopiedToWordList}
+use Rattle.lfs_model.specs.format.Blocks.{Blocks, block_bytes}
+use Rattle.lfs_model.specs.format.SkipLists.{word_at, pointer_count, blocks_to_head, AreListBlocks}
+use Rattle.lfs_file.specs.Right.{LaterPointersName, ArePointersCopied}
 use Rattle.lfs_file.proofs.Back.{power_below}
 use lib.Count.{count_trailing_zeros}
 use Rattle.std.specs.Int.{w32, trailing_zeros}
 use Rattle.lfs_file.proofs.TrailingZeros.{zeros32-multiple, zeros-le, factor-pos}
-use Rattle.lfs_file.proofs.Chains.{length_back, pointer_count_of_list_block-pos, back-pointer0}
+use Rattle.lfs_file.proofs.Chains.{length_back, pointer_count-pos, back-pointer0}
 
 module _ (d : Blocks) (n head : ℕ) where
   abbrev bs : List ℕ
-  bs = list_blocks_from_head d n head
+  bs = blocks_to_head d n head
 
   -- ---- where the first block comes once
 
@@ -34,7 +34,7 @@ module _ (d : Blocks) (n head : ℕ) where
   same_first (suc i) zero less lt e = absurd (omega arith)
   same_first (suc i) (suc j) less lt e =
       same_first i j (omega arith) (omega arith)
-      (sym (back-pointer0 d n head i (omega arith)) ∙ ap (λ b. word_at_offset (block_bytes_by_number d b) 0) e ∙ back-pointer0 d n head j lt)
+      (sym (back-pointer0 d n head i (omega arith)) ∙ ap (λ b. word_at (block_bytes d b) 0) e ∙ back-pointer0 d n head j lt)
       ∙ ap (slice_index bs) (let k : j - i ≡ suc j - suc i = omega arith in k)
 
   apart : (x y : ℕ) → x ≢ y → nat_eq x y ≡ false
@@ -104,12 +104,12 @@ between_none i j k some less low above here there =
 
 -- what it has checked of the blocks after a place
 pub record IsChecked (d : Blocks) (last head first count index : ℕ) (words : List ℕ) : Type 0 where
-  pub in_range : (j : ℕ) → index < j → j ≤ last → slice_index (list_blocks_from_head d (last + 1) head) j < count
-  pub other : (j : ℕ) → index < j → j ≤ last → slice_index (list_blocks_from_head d (last + 1) head) j ≢ first
+  pub in_range : (j : ℕ) → index < j → j ≤ last → slice_index (blocks_to_head d (last + 1) head) j < count
+  pub other : (j : ℕ) → index < j → j ≤ last → slice_index (blocks_to_head d (last + 1) head) j ≢ first
   -- their pointers to one another are right, and the others are noted
-  pub right : (j k : ℕ) → index < j → j ≤ last → k < pointer_count_of_list_block j → index < j - 2 ^ k
-      → word_at_offset (block_bytes_by_number d (slice_index (list_blocks_from_head d (last + 1) head) j)) (4 * k) ≡ slice_index (list_blocks_from_head d (last + 1) head) (j - 2 ^ k)
-  pub noted : (j k : ℕ) → index < j → j ≤ last → k < pointer_count_of_list_block j → j - 2 ^ k ≤ index → word_at_offset words (4 * k) ≡ word_at_offset (block_bytes_by_number d (slice_index (list_blocks_from_head d (last + 1) head) j)) (4 * k)
+  pub right : (j k : ℕ) → index < j → j ≤ last → k < pointer_count j → index < j - 2 ^ k
+      → word_at (block_bytes d (slice_index (blocks_to_head d (last + 1) head) j)) (4 * k) ≡ slice_index (blocks_to_head d (last + 1) head) (j - 2 ^ k)
+  pub noted : (j k : ℕ) → index < j → j ≤ last → k < pointer_count j → j - 2 ^ k ≤ index → word_at words (4 * k) ≡ word_at (block_bytes d (slice_index (blocks_to_head d (last + 1) head) j)) (4 * k)
 
 pub none_checked : (d : Blocks) (last head first count : ℕ) (words : List ℕ) → IsChecked d last head first count last words
 none_checked d last head first count words = record {
@@ -123,13 +123,13 @@ one_more : (P : ℕ → Type 0) (index last : ℕ) → ((j : ℕ) → index < j 
 one_more P index last checked here j above le = ⊎_elim (λ more. checked j more le) (λ most. subst P (let e : index ≡ j = omega arith in e) here) (cases_lt index j)
 
 module _ (d : Blocks) (last head first count index block : ℕ) (words new : List ℕ) (low : last < 2 ^ 32) (some : 0 < index) (checked : IsChecked d last head first count index words)
-    (is : block ≡ slice_index (list_blocks_from_head d (last + 1) head) index) (named : AllLaterPointersToIndexNameBlock words block index last) (notes : AreBlockPointersCopiedToWordList d block index words new) where
+    (is : block ≡ slice_index (blocks_to_head d (last + 1) head) index) (named : LaterPointersName words block index last) (notes : ArePointersCopied d block index words new) where
   abbrev all : List ℕ
-  all = list_blocks_from_head d (last + 1) head
+  all = blocks_to_head d (last + 1) head
 
-  right_before : (j k : ℕ) → index < j → j ≤ last → k < pointer_count_of_list_block j → index - 1 < j - 2 ^ k → word_at_offset (block_bytes_by_number d (slice_index all j)) (4 * k) ≡ slice_index all (j - 2 ^ k)
+  right_before : (j k : ℕ) → index < j → j ≤ last → k < pointer_count j → index - 1 < j - 2 ^ k → word_at (block_bytes d (slice_index all j)) (4 * k) ≡ slice_index all (j - 2 ^ k)
   right_before j k above le few over =
-      let many = pointer_count_of_list_block-pos j (omega arith) in
+      let many = pointer_count-pos j (omega arith) in
       let small = power_small j k (omega arith) (omega arith) (omega arith) in
       ⊎_elim (λ more. checked.right j k above le few more)
       (λ most.
@@ -137,14 +137,14 @@ module _ (d : Blocks) (last head first count index block : ℕ) (words new : Lis
       sym (checked.noted j k above le few (omega arith)) ∙ named k (omega (arith, small.0)) (zeros_less j k index (omega arith) (omega arith) (omega arith) here) ∙ is ∙ ap (slice_index all) (sym here))
       (cases_lt index (j - 2 ^ k))
 
-  noted_before : (j k : ℕ) → index < j → j ≤ last → k < pointer_count_of_list_block j → j - 2 ^ k ≤ index - 1 → word_at_offset new (4 * k) ≡ word_at_offset (block_bytes_by_number d (slice_index all j)) (4 * k)
+  noted_before : (j k : ℕ) → index < j → j ≤ last → k < pointer_count j → j - 2 ^ k ≤ index - 1 → word_at new (4 * k) ≡ word_at (block_bytes d (slice_index all j)) (4 * k)
   noted_before j k above le few under =
-      let many = pointer_count_of_list_block-pos j (omega arith) in
-      let own = pointer_count_of_list_block-pos index some in
+      let many = pointer_count-pos j (omega arith) in
+      let own = pointer_count-pos index some in
       let small = power_small j k (omega arith) (omega arith) (omega arith) in
       ⊎_elim (λ less. absurd (between_none index j k some above (omega arith) (omega arith) (omega arith) (omega arith)))
       (λ more. notes.others k more small.1 ∙ checked.noted j k above le few (omega arith))
-      (cases_lt k (pointer_count_of_list_block index))
+      (cases_lt k (pointer_count index))
 
   pub more_checked : index ≤ last → block < count → block ≢ first → IsChecked d last head first count (index - 1) new
   more_checked within lt other = record {
@@ -156,50 +156,50 @@ module _ (d : Blocks) (last head first count index block : ℕ) (words new : Lis
     noted = λ j k above le few under. ⊎_elim (λ more. noted_before j k more le few under)
         (λ most.
         let here : index ≡ j = omega arith in
-        notes.own k (subst (λ i. k < pointer_count_of_list_block i) (sym here) few) ∙ ap (λ b. word_at_offset (block_bytes_by_number d b) (4 * k)) (is ∙ ap (slice_index all) here))
+        notes.own k (subst (λ i. k < pointer_count i) (sym here) few) ∙ ap (λ b. word_at (block_bytes d b) (4 * k)) (is ∙ ap (slice_index all) here))
         (cases_lt index j);
   }
 
-pub chain_of_walk : (d : Blocks) (last head first : ℕ) (words : List ℕ) → last < 2 ^ 32 → IsChecked d last head first (length d) 0 words → slice_index (list_blocks_from_head d (last + 1) head) 0 ≡ first → first < length d
-    → AllLaterPointersToIndexNameBlock words first 0 last → AreListBlocks d (last + 1) head
+pub chain_of_walk : (d : Blocks) (last head first : ℕ) (words : List ℕ) → last < 2 ^ 32 → IsChecked d last head first (length d) 0 words → slice_index (blocks_to_head d (last + 1) head) 0 ≡ first → first < length d
+    → LaterPointersName words first 0 last → AreListBlocks d (last + 1) head
 chain_of_walk d last head first words low checked is lt named = record {
   in_range = λ k x l.
       let len = length_back d (last + 1) head in
-      let same = get_or_default (list_blocks_from_head d (last + 1) head) k x 0 l in
+      let same = get_or_default (blocks_to_head d (last + 1) head) k x 0 l in
       ⊎_elim (λ some. let there = checked.in_range k some (omega arith) in omega (arith, there, same))
-      (λ none. let here : slice_index (list_blocks_from_head d (last + 1) head) k ≡ first = ap (slice_index (list_blocks_from_head d (last + 1) head)) (let e : k ≡ 0 = omega arith in e) ∙ is in omega (arith, here, same, lt))
+      (λ none. let here : slice_index (blocks_to_head d (last + 1) head) k ≡ first = ap (slice_index (blocks_to_head d (last + 1) head)) (let e : k ≡ 0 = omega arith in e) ∙ is in omega (arith, here, same, lt))
       (cases_lt 0 k);
   distinct = distinct_of_first d (last + 1) head (λ j some l e. checked.other j some (omega arith) (e ∙ is));
   pointers = points;
 }
   where
-    points : (i k : ℕ) → i < last + 1 → k < pointer_count_of_list_block i → word_at_offset (block_bytes_by_number d (slice_index (list_blocks_from_head d (last + 1) head) i)) (4 * k) ≡ slice_index (list_blocks_from_head d (last + 1) head) (i - 2 ^ k)
+    points : (i k : ℕ) → i < last + 1 → k < pointer_count i → word_at (block_bytes d (slice_index (blocks_to_head d (last + 1) head) i)) (4 * k) ≡ slice_index (blocks_to_head d (last + 1) head) (i - 2 ^ k)
     points zero k l few = absurd (omega arith)
     points (suc i) k l few =
-        let many = pointer_count_of_list_block-pos (suc i) (omega arith) in
+        let many = pointer_count-pos (suc i) (omega arith) in
         let small = power_small (suc i) k (omega arith) (omega arith) (omega arith) in
         ⊎_elim (λ more. checked.right (suc i) k (omega arith) (omega arith) few more)
         (λ none.
         let here : suc i - 2 ^ k ≡ 0 = omega arith in
-        sym (checked.noted (suc i) k (omega arith) (omega arith) few (omega arith)) ∙ named k (omega (arith, small.0)) (omega (arith, none_zeros, small.1)) ∙ sym is ∙ ap (slice_index (list_blocks_from_head d (last + 1) head)) (sym here))
+        sym (checked.noted (suc i) k (omega arith) (omega arith) few (omega arith)) ∙ named k (omega (arith, small.0)) (omega (arith, none_zeros, small.1)) ∙ sym is ∙ ap (slice_index (blocks_to_head d (last + 1) head)) (sym here))
         (cases_lt 0 (suc i - 2 ^ k))
 
 -- and what it would have found in a list
 pub named_of_chain : (d : Blocks) (last head first count index : ℕ) (words : List ℕ) → last < 2 ^ 32 → IsChecked d last head first count index words → AreListBlocks d (last + 1) head → index ≤ last
-    → (block : ℕ) → block ≡ slice_index (list_blocks_from_head d (last + 1) head) index → AllLaterPointersToIndexNameBlock words block index last
+    → (block : ℕ) → block ≡ slice_index (blocks_to_head d (last + 1) head) index → LaterPointersName words block index last
 named_of_chain d last head first count index words low checked chain within block is k fits le =
     let power = one-le-pow k 2 (omega arith) in
     let more = zeros_more index k (omega arith) le in
-    let many = pointer_count_of_list_block-pos (index + 2 ^ k) (omega arith) in
+    let many = pointer_count-pos (index + 2 ^ k) (omega arith) in
     let back : index + 2 ^ k - 2 ^ k ≡ index = omega arith in
-    checked.noted (index + 2 ^ k) k (omega arith) (omega arith) (omega arith) (omega arith) ∙ chain.pointers (index + 2 ^ k) k (omega arith) (omega arith) ∙ ap (slice_index (list_blocks_from_head d (last + 1) head)) back ∙ sym is
+    checked.noted (index + 2 ^ k) k (omega arith) (omega arith) (omega arith) (omega arith) ∙ chain.pointers (index + 2 ^ k) k (omega arith) (omega arith) ∙ ap (slice_index (blocks_to_head d (last + 1) head)) back ∙ sym is
 
 -- a list has at most as many blocks as the disk
 pub chain_fits : (d : Blocks) (n head : ℕ) → AreListBlocks d n head → n ≤ length d
 chain_fits d n head chain =
     let len = length_back d n head in
-    let le = length-le_from_distinct_below (list_blocks_from_head d n head) (length d) chain.distinct (λ q there.
-    let found = Any-from_list_any (nat_eq q) (list_blocks_from_head d n head) there in
+    let le = length-le_from_distinct_below (blocks_to_head d n head) (length d) chain.distinct (λ q there.
+    let found = Any-from_list_any (nat_eq q) (blocks_to_head d n head) there in
     let same = eqb-true q found.1 found.4 in
     let low = chain.in_range found.0 found.1 found.2 in
     omega (arith, same, low, found.3)) in

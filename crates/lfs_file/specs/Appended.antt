@@ -1,8 +1,8 @@
 -- A block that was written after those of a list.
 use Rattle.std.specs.Prelude.{ℕ, ◌≡◌, ◌+◌, [], ◌∷◌, ◌++◌}
-use Rattle.lfs_model.specs.Blocks.{Blocks}
-use Rattle.lfs_model.specs.SkipLists.{AreListBlocks, list_blocks_from_head}
+use Rattle.lfs_model.specs.format.Blocks.{Blocks}
+use Rattle.lfs_model.specs.format.SkipLists.{AreListBlocks, blocks_to_head}
 
-pub record IsBlockAppendedToList (old new : Blocks) (full head block : ℕ) : Type 0 where
+pub record IsBlockAppended (old new : Blocks) (full head block : ℕ) : Type 0 where
   pub chain : AreListBlocks new (full + 1) block
-  pub back : list_blocks_from_head new (full + 1) block ≡ list_blocks_from_head old full head ++ block ∷ []
+  pub back : blocks_to_head new (full + 1) block ≡ blocks_to_head old full head ++ block ∷ []

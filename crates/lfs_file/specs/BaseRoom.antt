@@ -1,14 +1,14 @@
 -- How many blocks of a base may be in flight, and the room of a list beside them.
 use Rattle.std.specs.Prelude.{ℕ, ◌<◌, ◌≤◌, ◌+◌, ◌^◌, if◌then◌else◌, length}
-use Rattle.lfs_model.specs.BlockSets.{BlockStateList, used_count}
-use Rattle.lfs_model.specs.SkipLists.{list_block_count_for_size}
+use Rattle.lfs_model.specs.layers.BlockSets.{BlockStates, used_count}
+use Rattle.lfs_model.specs.format.SkipLists.{block_count_for}
 use Rattle.lfs_file.specs.declared.stored_list.StoredList.{StoredList}
 
-abbrev pub in_flight_block_limit_of_stored_list : ℕ → StoredList → ℕ
-in_flight_block_limit_of_stored_list block_size s = if s.in_flight then list_block_count_for_size block_size s.size else 0
+abbrev pub in_flight_limit : ℕ → StoredList → ℕ
+in_flight_limit block_size s = if s.in_flight then block_count_for block_size s.size else 0
 
 -- A list may grow from one size to another, a greater one: there are as many free blocks as it has then, besides so many in flight.
-pub record HasRoomForLongerList (map : BlockStateList) (block_size from to in_flight : ℕ) : Type 0 where
+pub record HasLongerRoom (map : BlockStates) (block_size from to in_flight : ℕ) : Type 0 where
   pub longer : from < to
   pub small : to < 2 ^ 31
-  pub room : used_count map + list_block_count_for_size block_size to + in_flight ≤ length map
+  pub room : used_count map + block_count_for block_size to + in_flight ≤ length map

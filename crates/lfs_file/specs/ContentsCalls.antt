@@ -2,22 +2,22 @@
 -- after.
 use Rattle.std.specs.Prelude.{ℕ, ◌≡◌, List}
 use Rattle.lfs_device.specs.declared.device.BlockDevice.{Ghosts}
-use Rattle.lfs_model.specs.BlockSets.{BlockStateList}
-use Rattle.lfs_model.specs.History.{ArePossibleBlocksAfterPowerLossInCall, IsTrueAfterAnyPowerLossSince}
-use Rattle.lfs_file.specs.BlocksApart.{KeepsBytesOfTakenBlocksExceptUnwritten, KeepsUnprogrammedInTakenBlocksExceptUnwritten}
-use Rattle.lfs_file.specs.Hand.{KeepsBytesOfUsedBlocks, KeepsUnprogrammedInUsedBlocks}
+use Rattle.lfs_model.specs.layers.BlockSets.{BlockStates}
+use Rattle.lfs_model.specs.session.History.{LossLeavesAtWorst, HoldsAtLosses}
+use Rattle.lfs_file.specs.BlocksApart.{KeepsTakenBytes, TakenStayUnprogrammed}
+use Rattle.lfs_file.specs.Hand.{KeepsUsedBytes, UsedStayUnprogrammed}
 
 -- No block that is apart changes, and its bytes that were unprogrammed still are. A loss of power during the call leaves it as it
 -- was.
-pub record CallKeepsTakenBlocksExceptUnwritten {D : Type 0} (g : Ghosts D) (map : BlockStateList) (pending : List ℕ) (old new : D) : Type 0 where
-  pub spared : KeepsBytesOfTakenBlocksExceptUnwritten map pending (g.blocks old) (g.blocks new)
-  pub pages : KeepsUnprogrammedInTakenBlocksExceptUnwritten map pending (g.history old) (g.history new)
+pub record CallKeepsTakenBlocksExceptUnwritten {D : Type 0} (g : Ghosts D) (map : BlockStates) (pending : List ℕ) (old new : D) : Type 0 where
+  pub spared : KeepsTakenBytes map pending (g.blocks old) (g.blocks new)
+  pub pages : TakenStayUnprogrammed map pending (g.history old) (g.history new)
   pub geometry : g.geometry new ≡ g.geometry old
-  pub at_worst : IsTrueAfterAnyPowerLossSince ArePossibleBlocksAfterPowerLossInCall (g.history old) (g.history new) (KeepsBytesOfTakenBlocksExceptUnwritten map pending (g.blocks old))
+  pub at_worst : HoldsAtLosses LossLeavesAtWorst (g.history old) (g.history new) (KeepsTakenBytes map pending (g.blocks old))
 
 -- the same of the used blocks
-pub record CallKeepsUsedBlocks {D : Type 0} (g : Ghosts D) (map : BlockStateList) (old new : D) : Type 0 where
-  pub spared : KeepsBytesOfUsedBlocks map (g.blocks old) (g.blocks new)
-  pub pages : KeepsUnprogrammedInUsedBlocks map (g.history old) (g.history new)
+pub record CallKeepsUsedBytes {D : Type 0} (g : Ghosts D) (map : BlockStates) (old new : D) : Type 0 where
+  pub spared : KeepsUsedBytes map (g.blocks old) (g.blocks new)
+  pub pages : UsedStayUnprogrammed map (g.history old) (g.history new)
   pub geometry : g.geometry new ≡ g.geometry old
-  pub at_worst : IsTrueAfterAnyPowerLossSince ArePossibleBlocksAfterPowerLossInCall (g.history old) (g.history new) (KeepsBytesOfUsedBlocks map (g.blocks old))
+  pub at_worst : HoldsAtLosses LossLeavesAtWorst (g.history old) (g.history new) (KeepsUsedBytes map (g.blocks old))

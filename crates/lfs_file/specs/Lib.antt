@@ -4,7 +4,7 @@ pub mod BaseRoom
 pub mod Bases
 pub mod BlockOwners
 pub mod BlocksApart
-pub mod Calls
+pub mod FileCalls
 pub mod Contents
 pub mod ContentsCalls
 pub mod Counts

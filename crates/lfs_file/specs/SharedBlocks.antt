@@ -2,11 +2,11 @@
 use Rattle.std.specs.Prelude.{ℕ, ◌≡◌, ◌≢◌, ◌<◌, ◌≤◌, ◌+◌, List, length, take, drop, slice_index}
 
 -- how many blocks two lists have in common at their beginnings
-pub record IsCountOfSharedFrontBlocks (xs ys : List ℕ) (n : ℕ) : Type 0 where
+pub record IsSharedCount (xs ys : List ℕ) (n : ℕ) : Type 0 where
   pub within : (n ≤ length xs) × (n ≤ length ys)
   pub same : take n xs ≡ take n ys
   pub most : n < length xs → n < length ys → slice_index xs n ≢ slice_index ys n
 
 -- how many blocks each list has after those
-abbrev pub count_of_unshared_blocks_in_both_lists : List ℕ → List ℕ → ℕ → ℕ
-count_of_unshared_blocks_in_both_lists xs ys n = length (drop n xs) + length (drop n ys)
+abbrev pub unshared_count : List ℕ → List ℕ → ℕ → ℕ
+unshared_count xs ys n = length (drop n xs) + length (drop n ys)

@@ -1,17 +1,17 @@
 ghost use Rattle.std.specs.Prelude.{[], ◌∷◌, ◌≡◌, ◌≤◌, ◌<◌, ◌+◌, ◌-◌, ◌*◌, ◌%◌, ◌^◌, ◌++◌, ℕ, List, length, take, drop, OnOk, slice_index};
 ghost use Rattle.byteorder.specs.Endian.{little_bytes};
-ghost use Rattle.lfs_file.specs.Appended.{IsBlockAppendedToList};
-ghost use Rattle.lfs_file.specs.Calls.{ReportsNoErrorButIo};
-ghost use Rattle.lfs_file.specs.Counts.{AddsOneEraseAndProgramPerBlock};
+ghost use Rattle.lfs_file.specs.Appended.{IsBlockAppended};
+ghost use Rattle.lfs_file.specs.FileCalls.{ReportsNoErrorButIo};
+ghost use Rattle.lfs_file.specs.Counts.{WritesOnce};
 ghost use Rattle.lfs_file.specs.Extending.{IsDeviceBlockOutsideFullBlocksOfList};
-ghost use Rattle.lfs_file.specs.Front.{KeepsFullBlocks, ReadsOnlyUnknownPointers};
-ghost use Rattle.lfs_file.specs.Known.{AreBlockPointersKnown, AreKnownIndicesBelow, AreKnownListBlocks, ArePointedBlocksKnown};
-ghost use Rattle.lfs_device.specs.Calls.{ChangesOnlyThisBlock, ReadsOnly};
-ghost use Rattle.lfs_model.specs.Blocks.{block_bytes_by_number};
-ghost use Rattle.lfs_model.specs.SkipLists.{AreListBlocks, list_blocks_from_head, pointer_count_of_list_block, word_at_offset};
+ghost use Rattle.lfs_file.specs.Front.{KeepsFullBlocks, ReadsUnknownPointers};
+ghost use Rattle.lfs_file.specs.Known.{ArePointersKnown, OnlyBelowKnown, AreKnownBlocks, ArePointedKnown};
+ghost use Rattle.lfs_device.specs.DeviceCalls.{ChangesOnlyThisBlock, ReadsOnly};
+ghost use Rattle.lfs_model.specs.format.Blocks.{block_bytes};
+ghost use Rattle.lfs_model.specs.format.SkipLists.{AreListBlocks, blocks_to_head, pointer_count, word_at};
 
 use crate::known::KnownBlocks;
-use crate::read::pointer_count_at_index;
+use crate::read::pointer_count_at;
 use byteorder::{ByteOrder, LittleEndian};
 use lfs_device::{BlockDevice, Error};
 
@@ -29,8 +29,8 @@ impl FullBlocks {
     // Makes the full blocks of a list by their number and the last one.
     pub(crate) fn new(count: u32, head: u32) -> FullBlocks
         ensures made { result ≡ record { count = count; head = head; known = result.known } }
-        ensures known { (all : List ℕ) → AreKnownListBlocks all result.known }
-        ensures below { (n : ℕ) → AreKnownIndicesBelow n result.known }
+        ensures known { (all : List ℕ) → AreKnownBlocks all result.known }
+        ensures below { (n : ℕ) → OnlyBelowKnown n result.known }
     {
         FullBlocks {
             count,
@@ -42,18 +42,18 @@ impl FullBlocks {
     // Makes the full blocks of a list before the block at an index. The bytes begin with the pointers
     // of that block, and those lead to known blocks.
     pub(crate) fn before_block(index: u32, bytes: &[u8]) -> FullBlocks
-        requires { 4 * pointer_count_of_list_block index ≤ length bytes.now }
+        requires { 4 * pointer_count index ≤ length bytes.now }
         ensures made { result ≡ record { count = index; head = result.head; known = result.known } }
-        ensures head { 0 < index → result.head ≡ word_at_offset bytes.now 0 }
-        ensures known { (all : List ℕ) → ((k : ℕ) → k < pointer_count_of_list_block index → word_at_offset bytes.now (4 * k) ≡ slice_index all (index - 2 ^ k)) → AreKnownListBlocks all result.known }
-        ensures below { AreKnownIndicesBelow index result.known }
-        ensures pointers { AreBlockPointersKnown index result.known }
+        ensures head { 0 < index → result.head ≡ word_at bytes.now 0 }
+        ensures known { (all : List ℕ) → ((k : ℕ) → k < pointer_count index → word_at bytes.now (4 * k) ≡ slice_index all (index - 2 ^ k)) → AreKnownBlocks all result.known }
+        ensures below { OnlyBelowKnown index result.known }
+        ensures pointers { ArePointersKnown index result.known }
     {
         if index == 0 {
             return FullBlocks::new(0, 0);
         }
         let mut front = FullBlocks::new(index, LittleEndian::read_u32(&bytes[..4]));
-        for k in 0..pointer_count_at_index(index) {
+        for k in 0..pointer_count_at(index) {
             let at = 4 * k as usize;
             let block = LittleEndian::read_u32(&bytes[at..at + 4]);
             front.known.note(index - (1 << k), block);
@@ -64,11 +64,11 @@ impl FullBlocks {
     // Adds a block after them.
     pub(crate) fn add(&mut self, block: u32)
         requires few { self.old.count < 2 ^ 31 }
-        requires below { AreKnownIndicesBelow self.old.count self.old.known }
+        requires below { OnlyBelowKnown self.old.count self.old.known }
         ensures added { self.new ≡ record { count = self.old.count + 1; head = block; known = self.new.known } }
-        ensures below { AreKnownIndicesBelow self.new.count self.new.known }
-        ensures known { (all : List ℕ) → length all ≡ self.old.count → AreKnownListBlocks all self.old.known → AreKnownListBlocks (all ++ block ∷ []) self.new.known }
-        ensures later { ArePointedBlocksKnown self.old.count self.old.known → ArePointedBlocksKnown self.new.count self.new.known }
+        ensures below { OnlyBelowKnown self.new.count self.new.known }
+        ensures known { (all : List ℕ) → length all ≡ self.old.count → AreKnownBlocks all self.old.known → AreKnownBlocks (all ++ block ∷ []) self.new.known }
+        ensures later { ArePointedKnown self.old.count self.old.known → ArePointedKnown self.new.count self.new.known }
     {
         self.known.note(self.count, block);
         self.count += 1;
@@ -86,18 +86,18 @@ fn put_word(buf: &mut [u8], at: usize, word: u32)
 
 // Writes the pointers of the block after the full ones of a list to the beginning of the buffer.
 // The blocks that are read for that are known afterwards.
-fn write_pointers_of_block_to_buffer<D: BlockDevice>(
+fn write_pointers<D: BlockDevice>(
     dev: &mut D,
     front: &mut FullBlocks,
     buf: &mut [u8],
 ) -> Result<(), Error>
     requires chain { AreListBlocks (D.blocks dev.old) front.old.count front.old.head }
-    requires known { AreKnownListBlocks (list_blocks_from_head (D.blocks dev.old) front.old.count front.old.head) front.old.known }
+    requires known { AreKnownBlocks (blocks_to_head (D.blocks dev.old) front.old.count front.old.head) front.old.known }
     requires room { 1024 ≤ length buf.old }
-    ensures pointers { OnOk result ((k : ℕ) → k < pointer_count_of_list_block front.old.count → word_at_offset buf.new (4 * k) ≡ slice_index (list_blocks_from_head (D.blocks dev.old) front.old.count front.old.head) (front.old.count - 2 ^ k)) }
-    ensures rest { drop (4 * pointer_count_of_list_block front.old.count) buf.new ≡ drop (4 * pointer_count_of_list_block front.old.count) buf.old }
-    ensures front { KeepsFullBlocks (list_blocks_from_head (D.blocks dev.old) front.old.count front.old.head) front.old front.new }
-    ensures few { OnOk result (ReadsOnlyUnknownPointers front.old front.new (D.history dev.old) (D.history dev.new)) }
+    ensures pointers { OnOk result ((k : ℕ) → k < pointer_count front.old.count → word_at buf.new (4 * k) ≡ slice_index (blocks_to_head (D.blocks dev.old) front.old.count front.old.head) (front.old.count - 2 ^ k)) }
+    ensures rest { drop (4 * pointer_count front.old.count) buf.new ≡ drop (4 * pointer_count front.old.count) buf.old }
+    ensures front { KeepsFullBlocks (blocks_to_head (D.blocks dev.old) front.old.count front.old.head) front.old front.new }
+    ensures few { OnOk result (ReadsUnknownPointers front.old front.new (D.history dev.old) (D.history dev.new)) }
     ensures device { ReadsOnly D.BlockDevice dev.old dev.new }
     ensures io { ReportsNoErrorButIo D.BlockDevice dev.old dev.new result }
 {
@@ -124,22 +124,22 @@ pub(crate) fn write_block<D: BlockDevice>(
     end: u32,
 ) -> Result<(), Error>
     requires follows { IsDeviceBlockOutsideFullBlocksOfList D.BlockDevice dev.old front.old.count front.old.head block }
-    requires known { AreKnownListBlocks (list_blocks_from_head (D.blocks dev.old) front.old.count front.old.head) front.old.known }
+    requires known { AreKnownBlocks (blocks_to_head (D.blocks dev.old) front.old.count front.old.head) front.old.known }
     requires size { length buf.old ≡ (D.geometry dev.old).block_size }
     requires large { 1024 ≤ length buf.old }
     requires pages { end % (D.geometry dev.old).page ≡ 0 }
     requires room { end ≤ (D.geometry dev.old).block_size }
-    requires pointers { 4 * pointer_count_of_list_block front.old.count ≤ end }
-    ensures appended { OnOk result (IsBlockAppendedToList (D.blocks dev.old) (D.blocks dev.new) front.old.count front.old.head block) }
-    ensures bytes { OnOk result (take (end - 4 * pointer_count_of_list_block front.old.count) (drop (4 * pointer_count_of_list_block front.old.count) (block_bytes_by_number (D.blocks dev.new) block))
-        ≡ take (end - 4 * pointer_count_of_list_block front.old.count) (drop (4 * pointer_count_of_list_block front.old.count) buf.old)) }
-    ensures front { KeepsFullBlocks (list_blocks_from_head (D.blocks dev.old) front.old.count front.old.head) front.old front.new }
-    ensures writes { OnOk result (AddsOneEraseAndProgramPerBlock 0 1 (D.history dev.old) (D.history dev.new)) }
-    ensures few { OnOk result (ReadsOnlyUnknownPointers front.old front.new (D.history dev.old) (D.history dev.new)) }
+    requires pointers { 4 * pointer_count front.old.count ≤ end }
+    ensures appended { OnOk result (IsBlockAppended (D.blocks dev.old) (D.blocks dev.new) front.old.count front.old.head block) }
+    ensures bytes { OnOk result (take (end - 4 * pointer_count front.old.count) (drop (4 * pointer_count front.old.count) (block_bytes (D.blocks dev.new) block))
+        ≡ take (end - 4 * pointer_count front.old.count) (drop (4 * pointer_count front.old.count) buf.old)) }
+    ensures front { KeepsFullBlocks (blocks_to_head (D.blocks dev.old) front.old.count front.old.head) front.old front.new }
+    ensures writes { OnOk result (WritesOnce 0 1 (D.history dev.old) (D.history dev.new)) }
+    ensures few { OnOk result (ReadsUnknownPointers front.old front.new (D.history dev.old) (D.history dev.new)) }
     ensures device { ChangesOnlyThisBlock D.BlockDevice block dev.old dev.new }
     ensures io { ReportsNoErrorButIo D.BlockDevice dev.old dev.new result }
 {
-    write_pointers_of_block_to_buffer(dev, front, buf)?;
+    write_pointers(dev, front, buf)?;
     dev.erase(block)?;
     dev.prog(block, 0, &buf[..end as usize])?;
     Ok(())

@@ -1,19 +1,19 @@
 // Copies of the bytes of a base that follow those in hand.
 
 ghost use Rattle.std.specs.Prelude.{◌≡◌, ◌≤◌, ◌<◌, ◌+◌, ◌-◌, length, max, drop, IfOk, OnOk};
-ghost use Rattle.lfs_device.specs.Calls.{ReadsOnly};
-ghost use Rattle.lfs_model.specs.History.{read_count_of_history};
-ghost use Rattle.lfs_model.specs.SkipLists.{AreListBlocks, list_blocks_from_head};
-ghost use Rattle.lfs_file.specs.BaseCopies.{CanAppendRestOfBase, HasBytesOfBlockFrom};
-ghost use Rattle.lfs_file.specs.Calls.{ReportsIoOrNoMemory};
-ghost use Rattle.lfs_file.specs.Effects.{OnlyReadsAndReportsIo, WritesOnlyFreeAndPendingBlocks};
-ghost use Rattle.lfs_file.specs.Extensions.{IsGrowingListExtended};
-ghost use Rattle.lfs_file.specs.Growing.{unwritten_block_of_list, size_of_growing_list};
-ghost use Rattle.lfs_file.specs.Hand.{list_bytes_then_rest_of_base};
+ghost use Rattle.lfs_device.specs.DeviceCalls.{ReadsOnly};
+ghost use Rattle.lfs_model.specs.session.History.{read_count};
+ghost use Rattle.lfs_model.specs.format.SkipLists.{AreListBlocks, blocks_to_head};
+ghost use Rattle.lfs_file.specs.BaseCopies.{CanAppendBase, HasBlockBytes};
+ghost use Rattle.lfs_file.specs.FileCalls.{ReportsIoOrNoMemory};
+ghost use Rattle.lfs_file.specs.Effects.{OnlyReadsOrIo, WritesFreeAndPending};
+ghost use Rattle.lfs_file.specs.Extensions.{IsExtended};
+ghost use Rattle.lfs_file.specs.Growing.{unwritten_block, growing_size};
+ghost use Rattle.lfs_file.specs.Hand.{bytes_over_base};
 
-use crate::extensions::extend_list_in_free_blocks;
+use crate::extensions::extend_list;
 use crate::stored_list::StoredList;
-use crate::{Extender, blocks_for, head_of_list_before_block, place};
+use crate::{Extender, blocks_for, head_before_block, place};
 use lfs_blocks::BlockMap;
 use lfs_device::{BlockDevice, Error};
 use std::alloc::Global;
@@ -24,29 +24,29 @@ use std::alloc::Global;
 ///
 /// Errors: `Io` where the device failed. `NoMemory` where memory isn't granted. After either the
 /// list in hand can only be dropped.
-pub(crate) fn append_remaining_bytes_of_base_list<D: BlockDevice>(
+pub(crate) fn append_base_rest<D: BlockDevice>(
     alloc: Global,
     dev: &mut D,
     map: &mut BlockMap,
     list: &mut Extender,
     base: StoredList,
 ) -> Result<(), Error>
-    requires { CanAppendRestOfBase map.old (D.blocks dev.old) (D.geometry dev.old) list.old base }
-    ensures extended { OnOk result (IsGrowingListExtended map.old (D.blocks dev.old) list.old (list_bytes_then_rest_of_base (D.blocks dev.old) list.old.geometry.block_size list.old base)
-        (max (size_of_growing_list list.old) base.size) map.new (D.blocks dev.new) list.new) }
-    ensures writing { WritesOnlyFreeAndPendingBlocks D.BlockDevice map.old map.new (unwritten_block_of_list list.old) dev.old dev.new result }
+    requires { CanAppendBase map.old (D.blocks dev.old) (D.geometry dev.old) list.old base }
+    ensures extended { OnOk result (IsExtended map.old (D.blocks dev.old) list.old (bytes_over_base (D.blocks dev.old) list.old.geometry.block_size list.old base)
+        (max (growing_size list.old) base.size) map.new (D.blocks dev.new) list.new) }
+    ensures writing { WritesFreeAndPending D.BlockDevice map.old map.new (unwritten_block list.old) dev.old dev.new result }
 {
     if list.size() >= base.size {
         return Ok(());
     }
     let block_size = dev.geometry().block_size;
     let mut chunk = Vec::from_elem(alloc, 0u8, block_size as usize)?;
-    append_remaining_bytes_block_by_block(alloc, dev, map, list, base, chunk.as_mut_slice())?;
+    append_by_block(alloc, dev, map, list, base, chunk.as_mut_slice())?;
     Ok(())
 }
 
 // Appends to a list in hand the bytes that another list has after those in hand, a block at a time.
-fn append_remaining_bytes_block_by_block<D: BlockDevice>(
+fn append_by_block<D: BlockDevice>(
     alloc: Global,
     dev: &mut D,
     map: &mut BlockMap,
@@ -54,16 +54,16 @@ fn append_remaining_bytes_block_by_block<D: BlockDevice>(
     base: StoredList,
     chunk: &mut [u8],
 ) -> Result<(), Error>
-    requires can { CanAppendRestOfBase map.old (D.blocks dev.old) (D.geometry dev.old) list.old base }
-    requires behind { size_of_growing_list list.old < base.size }
+    requires can { CanAppendBase map.old (D.blocks dev.old) (D.geometry dev.old) list.old base }
+    requires behind { growing_size list.old < base.size }
     requires chunk { length chunk.old ≡ list.old.geometry.block_size }
-    ensures extended { OnOk result (IsGrowingListExtended map.old (D.blocks dev.old) list.old (list_bytes_then_rest_of_base (D.blocks dev.old) list.old.geometry.block_size list.old base)
-        (max (size_of_growing_list list.old) base.size) map.new (D.blocks dev.new) list.new) }
-    ensures writing { WritesOnlyFreeAndPendingBlocks D.BlockDevice map.old map.new (unwritten_block_of_list list.old) dev.old dev.new result }
+    ensures extended { OnOk result (IsExtended map.old (D.blocks dev.old) list.old (bytes_over_base (D.blocks dev.old) list.old.geometry.block_size list.old base)
+        (max (growing_size list.old) base.size) map.new (D.blocks dev.new) list.new) }
+    ensures writing { WritesFreeAndPending D.BlockDevice map.old map.new (unwritten_block list.old) dev.old dev.new result }
 {
     let block_size = dev.geometry().block_size;
     let (from, _) = place(block_size, list.size());
-    let blocks = list_blocks_from_index(
+    let blocks = blocks_from_index(
         alloc,
         dev,
         base.head,
@@ -74,14 +74,14 @@ fn append_remaining_bytes_block_by_block<D: BlockDevice>(
         let pos = list.size();
         let (index, off) = place(block_size, pos);
         let block = blocks[(index - from) as usize];
-        let count = read_bytes_of_block_from(dev, block, off, base.size - pos, chunk)?;
-        extend_list_in_free_blocks(alloc, dev, map, list, &chunk[..count])?;
+        let count = read_from_block(dev, block, off, base.size - pos, chunk)?;
+        extend_list(alloc, dev, map, list, &chunk[..count])?;
     }
     Ok(())
 }
 
 // Returns the blocks of a list from an index on. `count` is how many blocks the list has.
-fn list_blocks_from_index<D: BlockDevice>(
+fn blocks_from_index<D: BlockDevice>(
     alloc: Global,
     dev: &mut D,
     head: u32,
@@ -90,11 +90,11 @@ fn list_blocks_from_index<D: BlockDevice>(
 ) -> Result<Vec<u32>, Error>
     requires chain { AreListBlocks (D.blocks dev.old) count head }
     requires within { from ≤ count }
-    ensures blocks { IfOk result (λ v. v.items ≡ drop from (list_blocks_from_head (D.blocks dev.old) count head)) }
+    ensures blocks { IfOk result (λ v. v.items ≡ drop from (blocks_to_head (D.blocks dev.old) count head)) }
     ensures device { ReadsOnly D.BlockDevice dev.old dev.new }
     ensures reports { ReportsIoOrNoMemory D.BlockDevice dev.old dev.new result }
     // The list is walked once: one read for each of them.
-    ensures few { OnOk result (read_count_of_history (D.history dev.new) ≤ read_count_of_history (D.history dev.old) + (count - from)) }
+    ensures few { OnOk result (read_count (D.history dev.new) ≤ read_count (D.history dev.old) + (count - from)) }
 {
     let mut blocks = Vec::from_elem(alloc, 0u32, (count - from) as usize)?;
     let mut block = head;
@@ -102,13 +102,13 @@ fn list_blocks_from_index<D: BlockDevice>(
     'going: while index > from {
         index -= 1;
         blocks[(index - from) as usize] = block;
-        block = head_of_list_before_block(dev, block, index - from)?;
+        block = head_before_block(dev, block, index - from)?;
     }
     Ok(blocks)
 }
 
 // Reads the bytes of a block from an offset on, at most `most` of them.
-fn read_bytes_of_block_from<D: BlockDevice>(
+fn read_from_block<D: BlockDevice>(
     dev: &mut D,
     block: u32,
     off: u32,
@@ -118,9 +118,9 @@ fn read_bytes_of_block_from<D: BlockDevice>(
     requires place { (block < (D.geometry dev.old).block_count) × (off < (D.geometry dev.old).block_size) }
     requires some { 1 ≤ most }
     requires room { length buf.old ≡ (D.geometry dev.old).block_size }
-    ensures read { IfOk result (HasBytesOfBlockFrom (D.blocks dev.old) (D.geometry dev.old).block_size block off most buf.new) }
-    ensures reading { OnlyReadsAndReportsIo D.BlockDevice dev.old dev.new result }
-    ensures few { read_count_of_history (D.history dev.new) ≡ read_count_of_history (D.history dev.old) + 1 }
+    ensures read { IfOk result (HasBlockBytes (D.blocks dev.old) (D.geometry dev.old).block_size block off most buf.new) }
+    ensures reading { OnlyReadsOrIo D.BlockDevice dev.old dev.new result }
+    ensures few { read_count (D.history dev.new) ≡ read_count (D.history dev.old) + 1 }
 {
     let count = (buf.len() - off as usize).min(most as usize);
     dev.read(block, off, &mut buf[..count])?;

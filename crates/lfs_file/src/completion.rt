@@ -1,16 +1,16 @@
 // Contents that are finished for a commit, or dropped.
 
 ghost use Rattle.std.specs.Prelude.{ℕ, IfOk};
-ghost use Rattle.lfs_model.specs.BlockSets.{IsBlockInFlight};
-ghost use Rattle.lfs_file.specs.Calls.{ReportsIoOrNoMemory};
-ghost use Rattle.lfs_file.specs.ContentsCalls.{CallKeepsUsedBlocks};
-ghost use Rattle.lfs_file.specs.Contents.{CanFinishContents, AreConsistentContentsWithBytesAndForm, writer_contents_bytes_in_memory_or_blocks, storage_form_after_finish, storage_form_of_contents};
-ghost use Rattle.lfs_file.specs.Hand.{KeepsUsedBlocksInMap};
-ghost use Rattle.lfs_file.specs.BlockOwners.{AreUsedBlocksOfListAmongOwnBlocks, blocks_of_contents};
+ghost use Rattle.lfs_model.specs.layers.BlockSets.{IsInFlight};
+ghost use Rattle.lfs_file.specs.FileCalls.{ReportsIoOrNoMemory};
+ghost use Rattle.lfs_file.specs.ContentsCalls.{CallKeepsUsedBytes};
+ghost use Rattle.lfs_file.specs.Contents.{CanFinishContents, HaveForm, contents_bytes, form_after_finish, contents_form};
+ghost use Rattle.lfs_file.specs.Hand.{KeepsUsedBlocks};
+ghost use Rattle.lfs_file.specs.BlockOwners.{AreOwn, contents_blocks};
 
 use crate::contents::WriterContents;
 use crate::list_ends::end_unfinished_list;
-use crate::releases::release_block_in_flight;
+use crate::releases::release_block;
 use lfs_blocks::BlockMap;
 use lfs_device::{BlockDevice, Error};
 use std::alloc::Global;
@@ -29,11 +29,11 @@ pub fn finish_contents<D: BlockDevice>(
     contents: WriterContents,
 ) -> Result<WriterContents, Error>
     requires { CanFinishContents map.old (D.blocks dev.old) (D.geometry dev.old) contents }
-    ensures finished { IfOk result (λ c. AreConsistentContentsWithBytesAndForm map.new (D.blocks dev.new) (D.geometry dev.old) c
-        (writer_contents_bytes_in_memory_or_blocks (D.blocks dev.old) (D.geometry dev.old).block_size contents) (storage_form_after_finish (storage_form_of_contents contents))) }
-    ensures owned { IfOk result (λ c. AreUsedBlocksOfListAmongOwnBlocks map.new (blocks_of_contents (D.blocks dev.old) (D.geometry dev.old).block_size contents) (blocks_of_contents (D.blocks dev.new) (D.geometry dev.old).block_size c)) }
-    ensures map { KeepsUsedBlocksInMap map.old map.new }
-    ensures device { CallKeepsUsedBlocks D.BlockDevice map.old dev.old dev.new }
+    ensures finished { IfOk result (λ c. HaveForm map.new (D.blocks dev.new) (D.geometry dev.old) c
+        (contents_bytes (D.blocks dev.old) (D.geometry dev.old).block_size contents) (form_after_finish (contents_form contents))) }
+    ensures owned { IfOk result (λ c. AreOwn map.new (contents_blocks (D.blocks dev.old) (D.geometry dev.old).block_size contents) (contents_blocks (D.blocks dev.new) (D.geometry dev.old).block_size c)) }
+    ensures map { KeepsUsedBlocks map.old map.new }
+    ensures device { CallKeepsUsedBytes D.BlockDevice map.old dev.old dev.new }
     ensures reports { ReportsIoOrNoMemory D.BlockDevice dev.old dev.new result }
 {
     match contents {
@@ -47,14 +47,14 @@ pub fn finish_contents<D: BlockDevice>(
 }
 
 /// Releases all blocks in flight. No other file has blocks in flight, so no block is read.
-pub fn release_all_blocks_in_flight(map: &mut BlockMap)
-    ensures none { (b : ℕ) → ¬ (IsBlockInFlight map.new b) }
-    ensures map { KeepsUsedBlocksInMap map.old map.new }
+pub fn release_in_flight(map: &mut BlockMap)
+    ensures none { (b : ℕ) → ¬ (IsInFlight map.new b) }
+    ensures map { KeepsUsedBlocks map.old map.new }
 {
     let block_count = map.block_count();
     let mut block = 0;
     'abandoning: while block < block_count {
-        release_block_in_flight(map, block);
+        release_block(map, block);
         block += 1;
     }
 }

@@ -1,25 +1,25 @@
 // The contents of an open writer, and writes to them.
 
 ghost use Rattle.std.specs.Prelude.{◌≡◌, ◌<◌, ◌+◌, length, IfOk, IfErr};
-ghost use Rattle.lfs_model.specs.Blocks.{Blocks};
-ghost use Rattle.lfs_model.specs.BlockSets.{BlockStateList};
-ghost use Rattle.lfs_model.specs.Writers.{contents_after_write};
-ghost use Rattle.lfs_file.specs.Calls.{ReportsIoOrNoMemory};
-ghost use Rattle.lfs_file.specs.ContentsCalls.{CallKeepsUsedBlocks};
-ghost use Rattle.lfs_file.specs.Contents.{CanWriteContents, AreConsistentContentsWithBytesAndForm, HasNoBlockInFlight, writer_contents_bytes_in_memory_or_blocks, storage_form_of_contents, bytes_in_buffer};
-ghost use Rattle.lfs_file.specs.FinishedWrites.{CanWriteOverFinishedList};
+ghost use Rattle.lfs_model.specs.format.Blocks.{Blocks};
+ghost use Rattle.lfs_model.specs.layers.BlockSets.{BlockStates};
+ghost use Rattle.lfs_model.specs.session.Writers.{written_contents};
+ghost use Rattle.lfs_file.specs.FileCalls.{ReportsIoOrNoMemory};
+ghost use Rattle.lfs_file.specs.ContentsCalls.{CallKeepsUsedBytes};
+ghost use Rattle.lfs_file.specs.Contents.{CanWriteContents, HaveForm, NoneInFlight, contents_bytes, contents_form, buffered_bytes};
+ghost use Rattle.lfs_file.specs.FinishedWrites.{CanWriteOverFinished};
 ghost use Rattle.lfs_file.specs.Form as form;
-ghost use Rattle.lfs_file.specs.Form.{storage_form_after_write};
-ghost use Rattle.lfs_file.specs.Hand.{KeepsUsedBlocksInMap, bytes_of_stored_list};
-ghost use Rattle.lfs_file.specs.HandWrites.{IsWrittenUnfinishedListOfContentsEndingAt, contents_bytes_of_unfinished_list};
-ghost use Rattle.lfs_file.specs.BlockOwners.{AreUsedBlocksOfListAmongOwnBlocks, KeepsBlocksOfStoredList, blocks_of_contents};
+ghost use Rattle.lfs_file.specs.Form.{written_form};
+ghost use Rattle.lfs_file.specs.Hand.{KeepsUsedBlocks, stored_list_bytes};
+ghost use Rattle.lfs_file.specs.HandWrites.{IsWrittenTo, unfinished_bytes};
+ghost use Rattle.lfs_file.specs.BlockOwners.{AreOwn, KeepsStoredBlocks, contents_blocks};
 
 use crate::Extender;
-use crate::list_starts::begin_list_over_finished_list;
-use crate::memory::{load_first_bytes_of_list_into_memory, move_memory_contents_to_list_and_write};
-use crate::other_places::write_to_unfinished_list_at_position;
+use crate::list_starts::begin_over_finished;
+use crate::memory::{load_first_bytes, move_to_list};
+use crate::other_places::write_at_position;
 use crate::stored_list::StoredList;
-use crate::writes::{PendingList, fill_gap_and_write_bytes, write_within_block};
+use crate::writes::{PendingList, fill_and_write, write_within_block};
 use lfs_blocks::BlockMap;
 use lfs_device::{BlockDevice, Error, Geometry};
 use std::alloc::Global;
@@ -41,22 +41,22 @@ pub enum WriterContents {
 /// The caller's condition is that there are fewer bytes than a block has.
 ///
 /// Errors: `NoMemory` where memory for a block isn't granted.
-pub fn make_contents_in_memory(
+pub fn contents_in_memory(
     alloc: Global,
     geometry: Geometry,
     bytes: &[u8],
 ) -> Result<WriterContents, Error>
     requires { length bytes.now < geometry.block_size }
-    ensures holds { IfOk result (λ c. (map : BlockStateList) (disk : Blocks) → HasNoBlockInFlight map disk → AreConsistentContentsWithBytesAndForm map disk geometry c bytes.now (form.InMemory (length bytes.now))) }
+    ensures holds { IfOk result (λ c. (map : BlockStates) (disk : Blocks) → NoneInFlight map disk → HaveForm map disk geometry c bytes.now (form.InMemory (length bytes.now))) }
     ensures errors { IfErr result (λ e. e ≡ Error.NoMemory) }
 {
-    let mut list = Extender::start_with_empty_list(alloc, geometry)?;
-    list.replace_buffered_content(bytes);
+    let mut list = Extender::start_empty(alloc, geometry)?;
+    list.replace_buffered(bytes);
     Ok(WriterContents::InMemory(list))
 }
 
 // Writes bytes to contents in memory.
-fn write_contents_in_memory<D: BlockDevice>(
+fn write_in_memory<D: BlockDevice>(
     alloc: Global,
     dev: &mut D,
     map: &mut BlockMap,
@@ -66,25 +66,25 @@ fn write_contents_in_memory<D: BlockDevice>(
     bytes: &[u8],
 ) -> Result<WriterContents, Error>
     requires { CanWriteContents map.old (D.blocks dev.old) (D.geometry dev.old) (WriterContents.InMemory list) limit place (length bytes.now) }
-    ensures written { IfOk result (λ c. AreConsistentContentsWithBytesAndForm map.new (D.blocks dev.new) (D.geometry dev.old) c
-        (contents_after_write (bytes_in_buffer list) place bytes.now) (storage_form_after_write limit place (length bytes.now) (form.InMemory (length (bytes_in_buffer list))))) }
-    ensures owned { IfOk result (λ c. AreUsedBlocksOfListAmongOwnBlocks map.new (blocks_of_contents (D.blocks dev.old) (D.geometry dev.old).block_size (WriterContents.InMemory list)) (blocks_of_contents (D.blocks dev.new) (D.geometry dev.old).block_size c)) }
-    ensures map { KeepsUsedBlocksInMap map.old map.new }
-    ensures device { CallKeepsUsedBlocks D.BlockDevice map.old dev.old dev.new }
+    ensures written { IfOk result (λ c. HaveForm map.new (D.blocks dev.new) (D.geometry dev.old) c
+        (written_contents (buffered_bytes list) place bytes.now) (written_form limit place (length bytes.now) (form.InMemory (length (buffered_bytes list))))) }
+    ensures owned { IfOk result (λ c. AreOwn map.new (contents_blocks (D.blocks dev.old) (D.geometry dev.old).block_size (WriterContents.InMemory list)) (contents_blocks (D.blocks dev.new) (D.geometry dev.old).block_size c)) }
+    ensures map { KeepsUsedBlocks map.old map.new }
+    ensures device { CallKeepsUsedBytes D.BlockDevice map.old dev.old dev.new }
     ensures reports { ReportsIoOrNoMemory D.BlockDevice dev.old dev.new result }
 {
     let size = list.size().max(place + bytes.len() as u32);
     if size <= limit {
         let mut list = list;
-        list.write_buffered_content_at(place, bytes);
+        list.write_buffered_at(place, bytes);
         return Ok(WriterContents::InMemory(list));
     }
-    let hand = move_memory_contents_to_list_and_write(alloc, dev, map, list, place, bytes)?;
+    let hand = move_to_list(alloc, dev, map, list, place, bytes)?;
     Ok(WriterContents::InHand(hand))
 }
 
 // Begins a list in hand over a finished list, with bytes at a place.
-fn begin_list_over_finished_list_with_bytes<D: BlockDevice>(
+fn begin_with_bytes<D: BlockDevice>(
     alloc: Global,
     dev: &mut D,
     map: &mut BlockMap,
@@ -92,22 +92,22 @@ fn begin_list_over_finished_list_with_bytes<D: BlockDevice>(
     place: u32,
     bytes: &[u8],
 ) -> Result<PendingList, Error>
-    requires { CanWriteOverFinishedList map.old (D.blocks dev.old) (D.geometry dev.old).block_size stored place (length bytes.now) }
-    ensures written { IfOk result (λ h. IsWrittenUnfinishedListOfContentsEndingAt map.new (D.blocks dev.new) (D.geometry dev.old) h (place + length bytes.now)
-        (contents_after_write (bytes_of_stored_list (D.blocks dev.old) (D.geometry dev.old).block_size stored) place bytes.now)) }
-    ensures base { IfOk result (λ h. KeepsBlocksOfStoredList (D.geometry dev.old).block_size (D.blocks dev.old) stored (D.blocks dev.new) h.base) }
-    ensures map { KeepsUsedBlocksInMap map.old map.new }
-    ensures device { CallKeepsUsedBlocks D.BlockDevice map.old dev.old dev.new }
+    requires { CanWriteOverFinished map.old (D.blocks dev.old) (D.geometry dev.old).block_size stored place (length bytes.now) }
+    ensures written { IfOk result (λ h. IsWrittenTo map.new (D.blocks dev.new) (D.geometry dev.old) h (place + length bytes.now)
+        (written_contents (stored_list_bytes (D.blocks dev.old) (D.geometry dev.old).block_size stored) place bytes.now)) }
+    ensures base { IfOk result (λ h. KeepsStoredBlocks (D.geometry dev.old).block_size (D.blocks dev.old) stored (D.blocks dev.new) h.base) }
+    ensures map { KeepsUsedBlocks map.old map.new }
+    ensures device { CallKeepsUsedBytes D.BlockDevice map.old dev.old dev.new }
     ensures reports { ReportsIoOrNoMemory D.BlockDevice dev.old dev.new result }
 {
-    let begun = begin_list_over_finished_list(alloc, dev, stored, place.min(stored.size))?;
+    let begun = begin_over_finished(alloc, dev, stored, place.min(stored.size))?;
     let mut hand = begun;
-    fill_gap_and_write_bytes(alloc, dev, map, &mut hand, place, bytes)?;
+    fill_and_write(alloc, dev, map, &mut hand, place, bytes)?;
     Ok(hand)
 }
 
 // Writes bytes over a finished list. Contents within the limit have no blocks in flight.
-fn write_over_finished_list<D: BlockDevice>(
+fn write_over_finished<D: BlockDevice>(
     alloc: Global,
     dev: &mut D,
     map: &mut BlockMap,
@@ -117,25 +117,25 @@ fn write_over_finished_list<D: BlockDevice>(
     bytes: &[u8],
 ) -> Result<WriterContents, Error>
     requires { CanWriteContents map.old (D.blocks dev.old) (D.geometry dev.old) (WriterContents.Finished stored) limit place (length bytes.now) }
-    ensures written { IfOk result (λ c. AreConsistentContentsWithBytesAndForm map.new (D.blocks dev.new) (D.geometry dev.old) c
-        (contents_after_write (bytes_of_stored_list (D.blocks dev.old) (D.geometry dev.old).block_size stored) place bytes.now) (storage_form_after_write limit place (length bytes.now) (form.Finished stored.size stored.in_flight))) }
-    ensures owned { IfOk result (λ c. AreUsedBlocksOfListAmongOwnBlocks map.new (blocks_of_contents (D.blocks dev.old) (D.geometry dev.old).block_size (WriterContents.Finished stored)) (blocks_of_contents (D.blocks dev.new) (D.geometry dev.old).block_size c)) }
-    ensures map { KeepsUsedBlocksInMap map.old map.new }
-    ensures device { CallKeepsUsedBlocks D.BlockDevice map.old dev.old dev.new }
+    ensures written { IfOk result (λ c. HaveForm map.new (D.blocks dev.new) (D.geometry dev.old) c
+        (written_contents (stored_list_bytes (D.blocks dev.old) (D.geometry dev.old).block_size stored) place bytes.now) (written_form limit place (length bytes.now) (form.Finished stored.size stored.in_flight))) }
+    ensures owned { IfOk result (λ c. AreOwn map.new (contents_blocks (D.blocks dev.old) (D.geometry dev.old).block_size (WriterContents.Finished stored)) (contents_blocks (D.blocks dev.new) (D.geometry dev.old).block_size c)) }
+    ensures map { KeepsUsedBlocks map.old map.new }
+    ensures device { CallKeepsUsedBytes D.BlockDevice map.old dev.old dev.new }
     ensures reports { ReportsIoOrNoMemory D.BlockDevice dev.old dev.new result }
 {
     let size = stored.size.max(place + bytes.len() as u32);
     if size <= limit {
-        let mut list = load_first_bytes_of_list_into_memory(alloc, dev, stored, stored.size)?;
-        list.write_buffered_content_at(place, bytes);
+        let mut list = load_first_bytes(alloc, dev, stored, stored.size)?;
+        list.write_buffered_at(place, bytes);
         return Ok(WriterContents::InMemory(list));
     }
-    let hand = begin_list_over_finished_list_with_bytes(alloc, dev, map, stored, place, bytes)?;
+    let hand = begin_with_bytes(alloc, dev, map, stored, place, bytes)?;
     Ok(WriterContents::InHand(hand))
 }
 
 // Writes bytes to contents in hand.
-fn write_to_unfinished_list<D: BlockDevice>(
+fn write_to_unfinished<D: BlockDevice>(
     alloc: Global,
     dev: &mut D,
     map: &mut BlockMap,
@@ -145,18 +145,18 @@ fn write_to_unfinished_list<D: BlockDevice>(
     bytes: &[u8],
 ) -> Result<WriterContents, Error>
     requires { CanWriteContents map.old (D.blocks dev.old) (D.geometry dev.old) (WriterContents.InHand hand) limit place (length bytes.now) }
-    ensures written { IfOk result (λ c. AreConsistentContentsWithBytesAndForm map.new (D.blocks dev.new) (D.geometry dev.old) c
-        (contents_after_write (contents_bytes_of_unfinished_list (D.blocks dev.old) hand) place bytes.now) (storage_form_after_write limit place (length bytes.now) (storage_form_of_contents (WriterContents.InHand hand)))) }
-    ensures owned { IfOk result (λ c. AreUsedBlocksOfListAmongOwnBlocks map.new (blocks_of_contents (D.blocks dev.old) (D.geometry dev.old).block_size (WriterContents.InHand hand)) (blocks_of_contents (D.blocks dev.new) (D.geometry dev.old).block_size c)) }
-    ensures map { KeepsUsedBlocksInMap map.old map.new }
-    ensures device { CallKeepsUsedBlocks D.BlockDevice map.old dev.old dev.new }
+    ensures written { IfOk result (λ c. HaveForm map.new (D.blocks dev.new) (D.geometry dev.old) c
+        (written_contents (unfinished_bytes (D.blocks dev.old) hand) place bytes.now) (written_form limit place (length bytes.now) (contents_form (WriterContents.InHand hand)))) }
+    ensures owned { IfOk result (λ c. AreOwn map.new (contents_blocks (D.blocks dev.old) (D.geometry dev.old).block_size (WriterContents.InHand hand)) (contents_blocks (D.blocks dev.new) (D.geometry dev.old).block_size c)) }
+    ensures map { KeepsUsedBlocks map.old map.new }
+    ensures device { CallKeepsUsedBytes D.BlockDevice map.old dev.old dev.new }
     ensures reports { ReportsIoOrNoMemory D.BlockDevice dev.old dev.new result }
 {
     let mut hand = hand;
     if write_within_block(&mut hand, place, bytes) {
         return Ok(WriterContents::InHand(hand));
     }
-    let hand = write_to_unfinished_list_at_position(alloc, dev, map, hand, place, bytes)?;
+    let hand = write_at_position(alloc, dev, map, hand, place, bytes)?;
     Ok(WriterContents::InHand(hand))
 }
 
@@ -177,21 +177,21 @@ pub fn write_contents<D: BlockDevice>(
     bytes: &[u8],
 ) -> Result<WriterContents, Error>
     requires { CanWriteContents map.old (D.blocks dev.old) (D.geometry dev.old) contents limit place (length bytes.now) }
-    ensures written { IfOk result (λ c. AreConsistentContentsWithBytesAndForm map.new (D.blocks dev.new) (D.geometry dev.old) c
-        (contents_after_write (writer_contents_bytes_in_memory_or_blocks (D.blocks dev.old) (D.geometry dev.old).block_size contents) place bytes.now) (storage_form_after_write limit place (length bytes.now) (storage_form_of_contents contents))) }
-    ensures owned { IfOk result (λ c. AreUsedBlocksOfListAmongOwnBlocks map.new (blocks_of_contents (D.blocks dev.old) (D.geometry dev.old).block_size contents) (blocks_of_contents (D.blocks dev.new) (D.geometry dev.old).block_size c)) }
-    ensures map { KeepsUsedBlocksInMap map.old map.new }
-    ensures device { CallKeepsUsedBlocks D.BlockDevice map.old dev.old dev.new }
+    ensures written { IfOk result (λ c. HaveForm map.new (D.blocks dev.new) (D.geometry dev.old) c
+        (written_contents (contents_bytes (D.blocks dev.old) (D.geometry dev.old).block_size contents) place bytes.now) (written_form limit place (length bytes.now) (contents_form contents))) }
+    ensures owned { IfOk result (λ c. AreOwn map.new (contents_blocks (D.blocks dev.old) (D.geometry dev.old).block_size contents) (contents_blocks (D.blocks dev.new) (D.geometry dev.old).block_size c)) }
+    ensures map { KeepsUsedBlocks map.old map.new }
+    ensures device { CallKeepsUsedBytes D.BlockDevice map.old dev.old dev.new }
     ensures reports { ReportsIoOrNoMemory D.BlockDevice dev.old dev.new result }
 {
     match contents {
-        WriterContents::InMemory(list) => write_contents_in_memory(
+        WriterContents::InMemory(list) => write_in_memory(
             alloc, dev, map, list, limit, place, bytes,
         ),
-        WriterContents::Finished(stored) => write_over_finished_list(
+        WriterContents::Finished(stored) => write_over_finished(
             alloc, dev, map, stored, limit, place, bytes,
         ),
-        WriterContents::InHand(hand) => write_to_unfinished_list(
+        WriterContents::InHand(hand) => write_to_unfinished(
             alloc, dev, map, hand, limit, place, bytes,
         ),
     }

@@ -1,23 +1,23 @@
 ghost use Rattle.std.specs.Prelude.{◌≡◌, ◌≤◌, ◌<◌, ◌+◌, ◌-◌, ◌*◌, ◌^◌, ◌++◌, ◌∷◌, [], length, take, drop, replicate, OnOk, IfOk, IfErr};
 ghost use Rattle.std.specs.Bool.{OnFalse, OnTrue};
-ghost use Rattle.lfs_file.specs.Appended.{IsBlockAppendedToList};
-ghost use Rattle.lfs_file.specs.Calls.{ReportsNoErrorButIo, ReportsIoOrNoMemory};
-ghost use Rattle.lfs_file.specs.Counts.{AddsOneEraseAndProgramPerBlock};
-ghost use Rattle.lfs_file.specs.Extended.{GrowingListHasBytesAndBlocks};
-ghost use Rattle.lfs_file.specs.Extending.{CanFinishGrowingList, IsDeviceBlockOutsideFullBlocksOfList, CanPushBytesToList, CanResumeListAfterFirstBytes, HasTheseBytesOnlyInBuffer, HasPushedBytesToList, IsResumedList, IsStartedEmptyList};
-ghost use Rattle.lfs_file.specs.FewReads.{FillsBlocksByFewReads, ResumesByFewReads, WritesLastBlockByFewReads};
-ghost use Rattle.lfs_file.specs.Fields.{HasOneBlockBufferAndConsistentNumbers, growing_list_view};
-ghost use Rattle.lfs_file.specs.Finished.{IsSkipListWithBytesAndBlocks};
-ghost use Rattle.lfs_file.specs.Growing.{HasAllBytesInBuffer, HasUnwrittenBlockAmongTheseBlocks, blocks_of_growing_list, fit_in_unwritten_block, bytes_of_growing_list, size_of_growing_list, count_of_blocks_to_append, block_for_next_bytes_with_used_count, unwritten_block_of_list};
-ghost use Rattle.lfs_file.specs.Known.{AreKnownListBlocks};
-ghost use Rattle.lfs_device.specs.Calls.{ChangesOnlyThisBlock, ChangesOnlyTheseBlocks, ReadsOnly};
-ghost use Rattle.lfs_model.specs.Blocks.{block_bytes_by_number, bytes_after_overwrite_at};
-ghost use Rattle.lfs_model.specs.Writers.{contents_after_write as with_bytes};
-ghost use Rattle.lfs_model.specs.SkipLists.{list_blocks_from_head, list_block_count_for_size, pointer_count_of_list_block};
+ghost use Rattle.lfs_file.specs.Appended.{IsBlockAppended};
+ghost use Rattle.lfs_file.specs.FileCalls.{ReportsNoErrorButIo, ReportsIoOrNoMemory};
+ghost use Rattle.lfs_file.specs.Counts.{WritesOnce};
+ghost use Rattle.lfs_file.specs.Extended.{ListHasBytes};
+ghost use Rattle.lfs_file.specs.Extending.{CanFinishGrowingList, IsDeviceBlockOutsideFullBlocksOfList, CanPushBytesToList, CanResumeList, IsBufferOf, HasPushedBytes, IsResumedList, IsEmptyList};
+ghost use Rattle.lfs_file.specs.FewReads.{FillsFew, ResumesFew, WritesLastFew};
+ghost use Rattle.lfs_file.specs.Fields.{IsExtender, growing_view};
+ghost use Rattle.lfs_file.specs.Finished.{IsListOf};
+ghost use Rattle.lfs_file.specs.Growing.{IsAllBuffered, HasUnwrittenAmong, growing_blocks, fit_unwritten, growing_bytes, growing_size, appended_count, block_for_next, unwritten_block};
+ghost use Rattle.lfs_file.specs.Known.{AreKnownBlocks};
+ghost use Rattle.lfs_device.specs.DeviceCalls.{ChangesOnlyThisBlock, ChangesOnlyTheseBlocks, ReadsOnly};
+ghost use Rattle.lfs_model.specs.format.Blocks.{block_bytes, overwritten_at};
+ghost use Rattle.lfs_model.specs.session.Writers.{written_contents as with_bytes};
+ghost use Rattle.lfs_model.specs.format.SkipLists.{blocks_to_head, block_count_for, pointer_count};
 
 use crate::block::{FullBlocks, write_block};
 use crate::read::{
-    find_block_at_index, pointer_count_at_index, read_block_bytes_into_buffer_range,
+    find_block_at, pointer_count_at, read_into_range,
 };
 use crate::{RestLocation, blocks_for, place};
 use lfs_device::{BlockDevice, Error, Geometry};
@@ -28,7 +28,7 @@ use std::marker::Model;
 /// (DESIGN.md of littlefs, "CTZ skip-lists").
 ///
 /// An extender has one block of bytes in memory. Contents without a block can be in memory alone.
-/// `replace_buffered_content`, `write_buffered_content_at` and `truncate_buffered_content` change them,
+/// `replace_buffered`, `write_buffered_at` and `truncate_buffered` change them,
 /// and a `push` moves them into blocks.
 ///
 /// A contract sees the list that grows: its full blocks, and the bytes after them.
@@ -54,27 +54,27 @@ impl Model for Extender {
 
     ghost Value = { GrowingList };
 
-    ghost use Rattle.lfs_file.specs.FewReads.{FillsBlocksByFewReads, WritesLastBlockByFewReads};
-    ghost use Rattle.lfs_file.specs.Fields.{HasOneBlockBufferAndConsistentNumbers, growing_list_view};
+    ghost use Rattle.lfs_file.specs.FewReads.{FillsFew, WritesLastFew};
+    ghost use Rattle.lfs_file.specs.Fields.{IsExtender, growing_view};
 
-    ghost view = { λ e. growing_list_view e.state.value };
+    ghost view = { λ e. growing_view e.state.value };
 
-    ghost invariant = { λ e. HasOneBlockBufferAndConsistentNumbers e.state.value };
+    ghost invariant = { λ e. IsExtender e.state.value };
 }
 
 // Writes bytes over those from a place on.
 fn overwrite_buffer_bytes(all: &mut Vec<u8>, at: usize, bytes: &[u8])
     requires { at + length bytes.now ≤ length all.old.items }
-    ensures { all.new.items ≡ bytes_after_overwrite_at all.old.items at bytes.now }
+    ensures { all.new.items ≡ overwritten_at all.old.items at bytes.now }
 {
     all[at..at + bytes.len()].copy_from_slice(bytes);
 }
 
 // Fills the places from one to another with a byte.
-fn fill_buffer_range_with_byte(all: &mut Vec<u8>, at: usize, end: usize, byte: u8)
+fn fill_buffer_range(all: &mut Vec<u8>, at: usize, end: usize, byte: u8)
     requires order { at ≤ end }
     requires within { end ≤ length all.old.items }
-    ensures { all.new.items ≡ bytes_after_overwrite_at all.old.items at (replicate (end - at) byte) }
+    ensures { all.new.items ≡ overwritten_at all.old.items at (replicate (end - at) byte) }
 {
     all[at..end].fill(byte);
 }
@@ -82,8 +82,8 @@ fn fill_buffer_range_with_byte(all: &mut Vec<u8>, at: usize, end: usize, byte: u
 impl Extender {
     // Makes an extender whose fields are these.
     fn of_state(alloc: Global, state: ExtenderState) -> Result<Extender, Error>
-        requires { HasOneBlockBufferAndConsistentNumbers state }
-        ensures list { IfOk result (λ list. list ≡ growing_list_view state) }
+        requires { IsExtender state }
+        ensures list { IfOk result (λ list. list ≡ growing_view state) }
         ensures error { IfErr result (λ e. e ≡ Error.NoMemory) }
     {
         let state = Box::new(alloc, state)?;
@@ -93,8 +93,8 @@ impl Extender {
     /// Makes an extender of an empty list.
     ///
     /// Errors: `NoMemory` where memory for a block isn't granted.
-    pub fn start_with_empty_list(alloc: Global, geometry: Geometry) -> Result<Extender, Error>
-        ensures started { IfOk result (IsStartedEmptyList geometry) }
+    pub fn start_empty(alloc: Global, geometry: Geometry) -> Result<Extender, Error>
+        ensures started { IfOk result (IsEmptyList geometry) }
         ensures errors { IfErr result (λ e. e ≡ Error.NoMemory) }
     {
         let buffer = Vec::from_elem(alloc, 0u8, geometry.block_size as usize)?;
@@ -120,29 +120,29 @@ impl Extender {
         size: u32,
         keep: u32,
     ) -> Result<Extender, Error>
-        requires { CanResumeListAfterFirstBytes (D.blocks dev.old) (D.geometry dev.old).block_size head size keep }
+        requires { CanResumeList (D.blocks dev.old) (D.geometry dev.old).block_size head size keep }
         ensures resumed { IfOk result (IsResumedList (D.blocks dev.old) (D.geometry dev.old) head size keep) }
         ensures device { ReadsOnly D.BlockDevice dev.old dev.new }
-        ensures few { OnOk result (ResumesByFewReads (D.geometry dev.old).block_size size keep (D.history dev.old) (D.history dev.new)) }
+        ensures few { OnOk result (ResumesFew (D.geometry dev.old).block_size size keep (D.history dev.old) (D.history dev.new)) }
         ensures reports { ReportsIoOrNoMemory D.BlockDevice dev.old dev.new result }
     {
         let geometry = dev.geometry();
         let block_size = geometry.block_size;
         let mut buffer = Vec::from_elem(alloc, 0u8, block_size as usize)?;
         let (index, off) = place(block_size, keep - 1);
-        let block = find_block_at_index(dev, head, blocks_for(block_size, size) - 1, index)?;
+        let block = find_block_at(dev, head, blocks_for(block_size, size) - 1, index)?;
         if off + 1 == block_size {
             let state = ExtenderState {
                 geometry,
                 buffer,
                 front: FullBlocks::new(index + 1, block),
-                filled: 4 * pointer_count_at_index(index + 1),
+                filled: 4 * pointer_count_at(index + 1),
                 size: keep,
                 stand: RestLocation::Closed,
             };
             return Extender::of_state(alloc, state);
         }
-        read_block_bytes_into_buffer_range(dev, block, 0, buffer.as_mut_slice(), 0, off + 1)?;
+        read_into_range(dev, block, 0, buffer.as_mut_slice(), 0, off + 1)?;
         let front = FullBlocks::before_block(index, buffer.as_slice());
         let state = ExtenderState {
             geometry,
@@ -159,9 +159,9 @@ impl Extender {
     /// before is dropped.
     ///
     /// The caller's condition is that there are fewer bytes than a block has.
-    pub fn replace_buffered_content(&mut self, bytes: &[u8])
+    pub fn replace_buffered(&mut self, bytes: &[u8])
         requires { length bytes.now < self.old.geometry.block_size }
-        ensures { HasTheseBytesOnlyInBuffer self.old.geometry self.new bytes.now }
+        ensures { IsBufferOf self.old.geometry self.new bytes.now }
     {
         let state = &mut *self.state;
         overwrite_buffer_bytes(&mut state.buffer, 0, bytes);
@@ -173,7 +173,7 @@ impl Extender {
 
     /// Returns the contents, which are all in memory and none in a block.
     pub fn buffered_content(&self) -> &[u8]
-        requires { HasAllBytesInBuffer self.now }
+        requires { IsAllBuffered self.now }
         ensures { result.now ≡ self.now.rest }
     {
         let state = &*self.state;
@@ -184,14 +184,14 @@ impl Extender {
     /// memory and none in a block. Zeros fill the gap where the place is past the end.
     ///
     /// The caller's condition is that there are fewer bytes than a block has afterwards.
-    pub fn write_buffered_content_at(&mut self, at: u32, bytes: &[u8])
-        requires held { HasAllBytesInBuffer self.old }
+    pub fn write_buffered_at(&mut self, at: u32, bytes: &[u8])
+        requires held { IsAllBuffered self.old }
         requires room { at + length bytes.now < self.old.geometry.block_size }
-        ensures { HasTheseBytesOnlyInBuffer self.old.geometry self.new (with_bytes self.old.rest at bytes.now) }
+        ensures { IsBufferOf self.old.geometry self.new (with_bytes self.old.rest at bytes.now) }
     {
         let state = &mut *self.state;
         let from = state.filled.max(at);
-        fill_buffer_range_with_byte(&mut state.buffer, state.filled as usize, from as usize, 0);
+        fill_buffer_range(&mut state.buffer, state.filled as usize, from as usize, 0);
         overwrite_buffer_bytes(&mut state.buffer, at as usize, bytes);
         state.filled = state.filled.max(at + bytes.len() as u32);
         state.size = state.filled;
@@ -200,10 +200,10 @@ impl Extender {
     /// Keeps the first `len` bytes of contents that are all in memory and none in a block.
     ///
     /// The caller's condition is that there are at least so many.
-    pub fn truncate_buffered_content(&mut self, len: u32)
-        requires held { HasAllBytesInBuffer self.old }
+    pub fn truncate_buffered(&mut self, len: u32)
+        requires held { IsAllBuffered self.old }
         requires within { len ≤ length self.old.rest }
-        ensures { HasTheseBytesOnlyInBuffer self.old.geometry self.new (take len self.old.rest) }
+        ensures { IsBufferOf self.old.geometry self.new (take len self.old.rest) }
     {
         let state = &mut *self.state;
         state.filled = len;
@@ -212,7 +212,7 @@ impl Extender {
 
     /// Returns how many bytes the list has.
     pub fn size(&self) -> u32
-        ensures { result ≡ size_of_growing_list self.now }
+        ensures { result ≡ growing_size self.now }
     {
         self.state.size
     }
@@ -231,9 +231,9 @@ impl Extender {
     /// 2,147,483,647 bytes.
     pub fn needed(&self, n: u32) -> u32
         requires some { 1 ≤ n }
-        requires room { size_of_growing_list self.now + n < 2 ^ 31 }
-        ensures count { result ≡ count_of_blocks_to_append self.now n }
-        ensures within { self.now.full + length (unwritten_block_of_list self.now) ≤ list_block_count_for_size self.now.geometry.block_size (size_of_growing_list self.now + n) }
+        requires room { growing_size self.now + n < 2 ^ 31 }
+        ensures count { result ≡ appended_count self.now n }
+        ensures within { self.now.full + length (unwritten_block self.now) ≤ block_count_for self.now.geometry.block_size (growing_size self.now + n) }
     {
         let state = &*self.state;
         let begun = match state.stand {
@@ -252,8 +252,8 @@ impl Extender {
     ///
     /// The caller's condition is that the whole list then has at most 2,147,483,647 bytes.
     pub(crate) fn push_within_block(&mut self, bytes: &[u8]) -> bool
-        requires { size_of_growing_list self.old + length bytes.now < 2 ^ 31 }
-        ensures fits { result ≡ fit_in_unwritten_block self.old (length bytes.now) }
+        requires { growing_size self.old + length bytes.now < 2 ^ 31 }
+        ensures fits { result ≡ fit_unwritten self.old (length bytes.now) }
         ensures pushed { OnTrue result (self.new ≡ record self.old { rest = self.old.rest ++ bytes.now }) }
         ensures same { OnFalse result (self.new ≡ self.old) }
     {
@@ -272,9 +272,9 @@ impl Extender {
 
     // Returns the block that takes the next bytes, and how many of the blocks that were handed in
     // are used then.
-    fn block_and_used_count_for_next_bytes(&self, blocks: &[u32], used: usize) -> (u32, usize)
-        requires { unwritten_block_of_list self.now ≡ [] → used < length blocks.now }
-        ensures { result ≡ block_for_next_bytes_with_used_count self.now.stand blocks.now used }
+    fn block_and_used(&self, blocks: &[u32], used: usize) -> (u32, usize)
+        requires { unwritten_block self.now ≡ [] → used < length blocks.now }
+        ensures { result ≡ block_for_next self.now.stand blocks.now used }
     {
         match self.state.stand {
             RestLocation::Handed(block) => (block, used),
@@ -291,18 +291,18 @@ impl Extender {
         block: u32,
     ) -> Result<usize, Error>
         requires follows { IsDeviceBlockOutsideFullBlocksOfList D.BlockDevice dev.old self.old.full self.old.head block }
-        requires known { AreKnownListBlocks (list_blocks_from_head (D.blocks dev.old) self.old.full self.old.head) self.old.known }
+        requires known { AreKnownBlocks (blocks_to_head (D.blocks dev.old) self.old.full self.old.head) self.old.known }
         requires geometry { D.geometry dev.old ≡ self.old.geometry }
         requires some { 1 ≤ length bytes.now }
-        requires room { size_of_growing_list self.old + length bytes.now < 2 ^ 31 }
+        requires room { growing_size self.old + length bytes.now < 2 ^ 31 }
         ensures count { IfOk result (λ n. (1 ≤ n) × (n ≤ length bytes.now)) }
-        ensures few { OnOk result (FillsBlocksByFewReads self.old self.new (D.history dev.old) (D.history dev.new)) }
-        ensures filled { IfOk result (λ n. GrowingListHasBytesAndBlocks self.old.geometry (D.blocks dev.new) self.new
-            (bytes_of_growing_list (D.blocks dev.old) self.old ++ take n bytes.now) (size_of_growing_list self.old + n)
-            (list_blocks_from_head (D.blocks dev.old) self.old.full self.old.head ++ block ∷ [])
-            (list_blocks_from_head (D.blocks dev.old) self.old.full self.old.head ++ block ∷ [])) }
-        ensures waits { OnOk result (HasUnwrittenBlockAmongTheseBlocks (block ∷ []) self.new) }
-        ensures writes { OnOk result (AddsOneEraseAndProgramPerBlock self.old.full self.new.full (D.history dev.old) (D.history dev.new)) }
+        ensures few { OnOk result (FillsFew self.old self.new (D.history dev.old) (D.history dev.new)) }
+        ensures filled { IfOk result (λ n. ListHasBytes self.old.geometry (D.blocks dev.new) self.new
+            (growing_bytes (D.blocks dev.old) self.old ++ take n bytes.now) (growing_size self.old + n)
+            (blocks_to_head (D.blocks dev.old) self.old.full self.old.head ++ block ∷ [])
+            (blocks_to_head (D.blocks dev.old) self.old.full self.old.head ++ block ∷ [])) }
+        ensures waits { OnOk result (HasUnwrittenAmong (block ∷ []) self.new) }
+        ensures writes { OnOk result (WritesOnce self.old.full self.new.full (D.history dev.old) (D.history dev.new)) }
         ensures device { ChangesOnlyThisBlock D.BlockDevice block dev.old dev.new }
         ensures io { ReportsNoErrorButIo D.BlockDevice dev.old dev.new result }
     {
@@ -320,7 +320,7 @@ impl Extender {
         let buffer = state.buffer.as_mut_slice();
         write_block(dev, &mut state.front, block, buffer, block_size)?;
         state.front.add(block);
-        state.filled = 4 * pointer_count_at_index(state.front.count);
+        state.filled = 4 * pointer_count_at(state.front.count);
         state.size += n as u32;
         state.stand = RestLocation::Closed;
         Ok(n)
@@ -342,17 +342,17 @@ impl Extender {
         blocks: &[u32],
     ) -> Result<(), Error>
         requires { CanPushBytesToList D.BlockDevice dev.old self.old bytes.now blocks.now }
-        ensures pushed { OnOk result (HasPushedBytesToList (D.blocks dev.old) self.old bytes.now blocks.now (D.blocks dev.new) self.new) }
+        ensures pushed { OnOk result (HasPushedBytes (D.blocks dev.old) self.old bytes.now blocks.now (D.blocks dev.new) self.new) }
         // A block that fills is erased once and programmed once.
-        ensures writes { OnOk result (AddsOneEraseAndProgramPerBlock self.old.full self.new.full (D.history dev.old) (D.history dev.new)) }
-        ensures few { OnOk result (FillsBlocksByFewReads self.old self.new (D.history dev.old) (D.history dev.new)) }
-        ensures device { ChangesOnlyTheseBlocks D.BlockDevice (unwritten_block_of_list self.old ++ blocks.now) dev.old dev.new }
+        ensures writes { OnOk result (WritesOnce self.old.full self.new.full (D.history dev.old) (D.history dev.new)) }
+        ensures few { OnOk result (FillsFew self.old self.new (D.history dev.old) (D.history dev.new)) }
+        ensures device { ChangesOnlyTheseBlocks D.BlockDevice (unwritten_block self.old ++ blocks.now) dev.old dev.new }
         ensures io { ReportsNoErrorButIo D.BlockDevice dev.old dev.new result }
     {
         let mut done = 0;
         let mut used = 0;
         while done < bytes.len() {
-            let (block, taken) = self.block_and_used_count_for_next_bytes(blocks, used);
+            let (block, taken) = self.block_and_used(blocks, used);
             done += self.fill_current_block(dev, &bytes[done..], block)?;
             used = taken;
         }
@@ -362,18 +362,18 @@ impl Extender {
     // Pads the current block to whole pages, and writes it.
     fn write_last_block<D: BlockDevice>(&mut self, dev: &mut D, block: u32) -> Result<(), Error>
         requires follows { IsDeviceBlockOutsideFullBlocksOfList D.BlockDevice dev.old self.old.full self.old.head block }
-        requires known { AreKnownListBlocks (list_blocks_from_head (D.blocks dev.old) self.old.full self.old.head) self.old.known }
+        requires known { AreKnownBlocks (blocks_to_head (D.blocks dev.old) self.old.full self.old.head) self.old.known }
         requires geometry { D.geometry dev.old ≡ self.old.geometry }
-        ensures appended { OnOk result (IsBlockAppendedToList (D.blocks dev.old) (D.blocks dev.new) self.old.full self.old.head block) }
-        ensures bytes { OnOk result (take (length self.old.rest) (drop (4 * pointer_count_of_list_block self.old.full) (block_bytes_by_number (D.blocks dev.new) block)) ≡ self.old.rest) }
-        ensures writes { OnOk result (AddsOneEraseAndProgramPerBlock 0 1 (D.history dev.old) (D.history dev.new)) }
-        ensures few { OnOk result (WritesLastBlockByFewReads self.old (D.history dev.old) (D.history dev.new)) }
+        ensures appended { OnOk result (IsBlockAppended (D.blocks dev.old) (D.blocks dev.new) self.old.full self.old.head block) }
+        ensures bytes { OnOk result (take (length self.old.rest) (drop (4 * pointer_count self.old.full) (block_bytes (D.blocks dev.new) block)) ≡ self.old.rest) }
+        ensures writes { OnOk result (WritesOnce 0 1 (D.history dev.old) (D.history dev.new)) }
+        ensures few { OnOk result (WritesLastFew self.old (D.history dev.old) (D.history dev.new)) }
         ensures device { ChangesOnlyThisBlock D.BlockDevice block dev.old dev.new }
         ensures io { ReportsNoErrorButIo D.BlockDevice dev.old dev.new result }
     {
         let state = &mut *self.state;
         let end = state.filled.next_multiple_of(state.geometry.page);
-        fill_buffer_range_with_byte(&mut state.buffer, state.filled as usize, end as usize, 0xff);
+        fill_buffer_range(&mut state.buffer, state.filled as usize, end as usize, 0xff);
         let buffer = state.buffer.as_mut_slice();
         write_block(dev, &mut state.front, block, buffer, end)?;
         Ok(())
@@ -389,12 +389,12 @@ impl Extender {
     /// Errors: `Io` where the device failed.
     pub fn finish<D: BlockDevice>(mut self, dev: &mut D) -> Result<(u32, u32), Error>
         requires { CanFinishGrowingList D.BlockDevice dev.old self }
-        ensures finished { IfOk result (λ r. IsSkipListWithBytesAndBlocks (D.blocks dev.new) self.geometry.block_size r.0 r.1 (bytes_of_growing_list (D.blocks dev.old) self) (blocks_of_growing_list (D.blocks dev.old) self)) }
-        ensures size { IfOk result (λ r. r.1 ≡ size_of_growing_list self) }
-        ensures no_call { unwritten_block_of_list self ≡ [] → (D.history dev.new ≡ D.history dev.old) × (D.blocks dev.new ≡ D.blocks dev.old) }
-        ensures writes { OnOk result (AddsOneEraseAndProgramPerBlock 0 (length (unwritten_block_of_list self)) (D.history dev.old) (D.history dev.new)) }
-        ensures few { OnOk result (WritesLastBlockByFewReads self (D.history dev.old) (D.history dev.new)) }
-        ensures device { ChangesOnlyTheseBlocks D.BlockDevice (unwritten_block_of_list self) dev.old dev.new }
+        ensures finished { IfOk result (λ r. IsListOf (D.blocks dev.new) self.geometry.block_size r.0 r.1 (growing_bytes (D.blocks dev.old) self) (growing_blocks (D.blocks dev.old) self)) }
+        ensures size { IfOk result (λ r. r.1 ≡ growing_size self) }
+        ensures no_call { unwritten_block self ≡ [] → (D.history dev.new ≡ D.history dev.old) × (D.blocks dev.new ≡ D.blocks dev.old) }
+        ensures writes { OnOk result (WritesOnce 0 (length (unwritten_block self)) (D.history dev.old) (D.history dev.new)) }
+        ensures few { OnOk result (WritesLastFew self (D.history dev.old) (D.history dev.new)) }
+        ensures device { ChangesOnlyTheseBlocks D.BlockDevice (unwritten_block self) dev.old dev.new }
         ensures io { ReportsNoErrorButIo D.BlockDevice dev.old dev.new result }
     {
         let state = &*self.state;

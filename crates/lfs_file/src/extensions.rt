@@ -1,14 +1,14 @@
 // Extensions of lists in hand, in blocks of the map.
 
 ghost use Rattle.std.specs.Prelude.{◌≡◌, ◌≤◌, ◌<◌, ◌+◌, ◌++◌, ◌^◌, ℕ, length, OnOk};
-ghost use Rattle.lfs_model.specs.BlockSets.{in_flight_block_count, used_count};
-ghost use Rattle.lfs_model.specs.SkipLists.{list_block_count_for_size};
-ghost use Rattle.lfs_file.specs.Calls.{ReportsIoOrNoMemory};
-ghost use Rattle.lfs_file.specs.Growing.{HasGrowingListOnDisk, blocks_kept_when_growing, unwritten_block_of_list, bytes_of_growing_list, size_of_growing_list};
-ghost use Rattle.lfs_file.specs.BlocksApart.{HasGrowingListBlocksTaken};
+ghost use Rattle.lfs_model.specs.layers.BlockSets.{in_flight_count, used_count};
+ghost use Rattle.lfs_model.specs.format.SkipLists.{block_count_for};
+ghost use Rattle.lfs_file.specs.FileCalls.{ReportsIoOrNoMemory};
+ghost use Rattle.lfs_file.specs.Growing.{IsOnDisk, kept_blocks, unwritten_block, growing_bytes, growing_size};
+ghost use Rattle.lfs_file.specs.BlocksApart.{HasBlocksTaken};
 ghost use Rattle.lfs_file.specs.ContentsCalls.{CallKeepsTakenBlocksExceptUnwritten};
-ghost use Rattle.lfs_file.specs.Extensions.{IsGrowingListExtended};
-ghost use Rattle.lfs_file.specs.TakenBlocks.{ChangesOnlyFreeBlocksInMap};
+ghost use Rattle.lfs_file.specs.Extensions.{IsExtended};
+ghost use Rattle.lfs_file.specs.TakenBlocks.{ChangesOnlyFree};
 
 use crate::Extender;
 use crate::taken_blocks::take_blocks;
@@ -23,25 +23,25 @@ use std::alloc::Global;
 ///
 /// Errors: `Io` where the device failed. `NoMemory` where memory isn't granted. After either the
 /// list can only be dropped.
-pub(crate) fn extend_list_in_free_blocks<D: BlockDevice>(
+pub(crate) fn extend_list<D: BlockDevice>(
     alloc: Global,
     dev: &mut D,
     map: &mut BlockMap,
     list: &mut Extender,
     bytes: &[u8],
 ) -> Result<(), Error>
-    requires growing { HasGrowingListOnDisk (D.blocks dev.old) list.old }
+    requires growing { IsOnDisk (D.blocks dev.old) list.old }
     requires geometry { D.geometry dev.old ≡ list.old.geometry }
     requires some { 1 ≤ length bytes.now }
-    requires small { size_of_growing_list list.old + length bytes.now < 2 ^ 31 }
-    requires marked { HasGrowingListBlocksTaken map.old (D.blocks dev.old) list.old }
-    requires room { used_count map.old + in_flight_block_count map.old + list_block_count_for_size list.old.geometry.block_size (size_of_growing_list list.old + length bytes.now)
-        ≤ length map.old + length (blocks_kept_when_growing (D.blocks dev.old) list.old) }
-    ensures extended { OnOk result (IsGrowingListExtended map.old (D.blocks dev.old) list.old
-        (bytes_of_growing_list (D.blocks dev.old) list.old ++ bytes.now) (size_of_growing_list list.old + length bytes.now) map.new (D.blocks dev.new) list.new) }
+    requires small { growing_size list.old + length bytes.now < 2 ^ 31 }
+    requires marked { HasBlocksTaken map.old (D.blocks dev.old) list.old }
+    requires room { used_count map.old + in_flight_count map.old + block_count_for list.old.geometry.block_size (growing_size list.old + length bytes.now)
+        ≤ length map.old + length (kept_blocks (D.blocks dev.old) list.old) }
+    ensures extended { OnOk result (IsExtended map.old (D.blocks dev.old) list.old
+        (growing_bytes (D.blocks dev.old) list.old ++ bytes.now) (growing_size list.old + length bytes.now) map.new (D.blocks dev.new) list.new) }
     // No block that was used or in flight changes, except the list's pending one.
-    ensures map { ChangesOnlyFreeBlocksInMap map.old map.new }
-    ensures device { CallKeepsTakenBlocksExceptUnwritten D.BlockDevice map.old (unwritten_block_of_list list.old) dev.old dev.new }
+    ensures map { ChangesOnlyFree map.old map.new }
+    ensures device { CallKeepsTakenBlocksExceptUnwritten D.BlockDevice map.old (unwritten_block list.old) dev.old dev.new }
     ensures reports { ReportsIoOrNoMemory D.BlockDevice dev.old dev.new result }
 {
     let count = list.needed(bytes.len() as u32);

@@ -1,15 +1,15 @@
 // The blocks of a list that a reader knows.
 
 ghost use Rattle.std.specs.Prelude.{◌≡◌, ◌≢◌, ◌≤◌, ◌<◌, ◌+◌, ◌-◌, ◌*◌, ◌^◌, ℕ, List, length, min, take, drop, OnOk, IfOk, IfSome, IsErrOf, slice_index, slice_range};
-ghost use Rattle.lfs_model.specs.Blocks.{block_bytes_by_number};
-ghost use Rattle.lfs_model.specs.History.{DeviceCallEvent, read_count_of_history};
-ghost use Rattle.lfs_model.specs.SkipLists.{AreListBlocks, IsSkipList, list_blocks_from_head, list_block_count_for_size, bytes_of_skip_list, word_at_offset};
-ghost use Rattle.lfs_file.specs.Calls.{OnlyReadsAndReportsIoOrCorrupt};
-ghost use Rattle.lfs_file.specs.Known.{AreKnownIndicesBelow, AreKnownListBlocks, FindsByFewReads, IsKnownIndex, ReadsKnownList, no_known_blocks, row_of_index as row_seen};
+ghost use Rattle.lfs_model.specs.format.Blocks.{block_bytes};
+ghost use Rattle.lfs_model.specs.session.History.{CallEvent, read_count};
+ghost use Rattle.lfs_model.specs.format.SkipLists.{AreListBlocks, IsSkipList, blocks_to_head, block_count_for, list_bytes, word_at};
+ghost use Rattle.lfs_file.specs.FileCalls.{OnlyReadsOrCorrupt};
+ghost use Rattle.lfs_file.specs.Known.{OnlyBelowKnown, AreKnownBlocks, FindsFew, IsKnownIndex, ReadsKnownList, no_known_blocks, index_row as row_seen};
 
 use crate::part::BlockPart;
 use crate::read::{
-    pointer_count_at_index, read_block_before, read_block_bytes_into_buffer_range,
+    pointer_count_at, read_block_before, read_into_range,
     read_block_pointer,
 };
 use crate::{blocks_for, place};
@@ -31,7 +31,7 @@ pub struct KnownBlocks {
 }
 
 // Returns the row of the block at an index. That of index 0 is the last one.
-fn row_of_index(index: u32) -> usize
+fn index_row(index: u32) -> usize
     ensures { result ≡ row_seen index }
 {
     index.trailing_zeros().min(31) as usize
@@ -41,7 +41,7 @@ impl KnownBlocks {
     /// Makes a table without blocks.
     pub fn new() -> KnownBlocks
         ensures empty { result ≡ no_known_blocks }
-        ensures blocks { (all : List ℕ) → AreKnownListBlocks all result }
+        ensures blocks { (all : List ℕ) → AreKnownBlocks all result }
     {
         KnownBlocks {
             indices: [u32::MAX; 32],
@@ -52,12 +52,12 @@ impl KnownBlocks {
 
     // Notes the block at an index.
     pub(crate) fn note(&mut self, index: u32, block: u32)
-        ensures blocks { (all : List ℕ) → AreKnownListBlocks all self.old → block ≡ slice_index all index → AreKnownListBlocks all self.new }
+        ensures blocks { (all : List ℕ) → AreKnownBlocks all self.old → block ≡ slice_index all index → AreKnownBlocks all self.new }
         ensures known { IsKnownIndex self.new index }
         ensures others { (i : ℕ) → row_seen i ≢ row_seen index → IsKnownIndex self.old i → IsKnownIndex self.new i }
-        ensures below { (count : ℕ) → index < count → AreKnownIndicesBelow count self.old → AreKnownIndicesBelow count self.new }
+        ensures below { (count : ℕ) → index < count → OnlyBelowKnown count self.old → OnlyBelowKnown count self.new }
     {
-        let row = row_of_index(index);
+        let row = index_row(index);
         self.indices[row] = index;
         self.blocks[row] = block;
     }
@@ -68,7 +68,7 @@ impl KnownBlocks {
         requires { index ≤ last }
         ensures low { index ≤ result.0 }
         ensures high { result.0 ≤ last }
-        ensures block { (all : List ℕ) → AreKnownListBlocks all self.now → length all ≡ last + 1 → head ≡ slice_index all last → result.1 ≡ slice_index all result.0 }
+        ensures block { (all : List ℕ) → AreKnownBlocks all self.now → length all ≡ last + 1 → head ≡ slice_index all last → result.1 ≡ slice_index all result.0 }
         ensures near { (i : ℕ) → IsKnownIndex self.now i → index ≤ i → i ≤ last → result.0 ≤ i }
     {
         let mut at = last;
@@ -93,12 +93,12 @@ impl KnownBlocks {
         index: u32,
     ) -> Result<u32, Error>
         requires { index ≤ last }
-        ensures found { AreListBlocks (D.blocks dev.old) (last + 1) head → AreKnownListBlocks (list_blocks_from_head (D.blocks dev.old) (last + 1) head) self.old → IfOk result (λ b. b ≡ slice_index (list_blocks_from_head (D.blocks dev.old) (last + 1) head) index) }
-        ensures known { AreListBlocks (D.blocks dev.old) (last + 1) head → AreKnownListBlocks (list_blocks_from_head (D.blocks dev.old) (last + 1) head) self.old → AreKnownListBlocks (list_blocks_from_head (D.blocks dev.old) (last + 1) head) self.new }
+        ensures found { AreListBlocks (D.blocks dev.old) (last + 1) head → AreKnownBlocks (blocks_to_head (D.blocks dev.old) (last + 1) head) self.old → IfOk result (λ b. b ≡ slice_index (blocks_to_head (D.blocks dev.old) (last + 1) head) index) }
+        ensures known { AreListBlocks (D.blocks dev.old) (last + 1) head → AreKnownBlocks (blocks_to_head (D.blocks dev.old) (last + 1) head) self.old → AreKnownBlocks (blocks_to_head (D.blocks dev.old) (last + 1) head) self.new }
         ensures in_range { IfOk result (λ b. b < (D.geometry dev.old).block_count) }
-        ensures corrupt { IsErrOf result Error.Corrupt → AreListBlocks (D.blocks dev.old) (last + 1) head → ¬ AreKnownListBlocks (list_blocks_from_head (D.blocks dev.old) (last + 1) head) self.old }
-        ensures reading { OnlyReadsAndReportsIoOrCorrupt D.BlockDevice dev.old dev.new result }
-        ensures few { OnOk result (FindsByFewReads self.old last index self.new (D.history dev.old) (D.history dev.new)) }
+        ensures corrupt { IsErrOf result Error.Corrupt → AreListBlocks (D.blocks dev.old) (last + 1) head → ¬ AreKnownBlocks (blocks_to_head (D.blocks dev.old) (last + 1) head) self.old }
+        ensures reading { OnlyReadsOrCorrupt D.BlockDevice dev.old dev.new result }
+        ensures few { OnOk result (FindsFew self.old last index self.new (D.history dev.old) (D.history dev.new)) }
     {
         let (mut at, mut block) = self.nearest_block(head, last, index);
         while at > index {
@@ -125,14 +125,14 @@ impl KnownBlocks {
     ) -> Result<u32, Error>
         requires pointer { k ≤ 32 }
         requires index { index < 2 ^ 32 - 1 }
-        ensures found { (all : List ℕ) → AreKnownListBlocks all self.old → index < length all → word_at_offset (block_bytes_by_number (D.blocks dev.old) block) (4 * k) ≡ slice_index all index → IfOk result (λ b. b ≡ slice_index all index) × AreKnownListBlocks all self.new }
-        ensures below { (count : ℕ) → index < count → AreKnownIndicesBelow count self.old → AreKnownIndicesBelow count self.new }
+        ensures found { (all : List ℕ) → AreKnownBlocks all self.old → index < length all → word_at (block_bytes (D.blocks dev.old) block) (4 * k) ≡ slice_index all index → IfOk result (λ b. b ≡ slice_index all index) × AreKnownBlocks all self.new }
+        ensures below { (count : ℕ) → index < count → OnlyBelowKnown count self.old → OnlyBelowKnown count self.new }
         ensures corrupt { IsErrOf result Error.Corrupt → (D.geometry dev.old).block_count ≤ block }
-        ensures reading { OnlyReadsAndReportsIoOrCorrupt D.BlockDevice dev.old dev.new result }
-        ensures few { read_count_of_history (D.history dev.new) ≤ read_count_of_history (D.history dev.old) + 1 }
-        ensures known { IsKnownIndex self.old index → (self.new ≡ self.old) × (read_count_of_history (D.history dev.new) ≡ read_count_of_history (D.history dev.old)) }
+        ensures reading { OnlyReadsOrCorrupt D.BlockDevice dev.old dev.new result }
+        ensures few { read_count (D.history dev.new) ≤ read_count (D.history dev.old) + 1 }
+        ensures known { IsKnownIndex self.old index → (self.new ≡ self.old) × (read_count (D.history dev.new) ≡ read_count (D.history dev.old)) }
     {
-        let row = row_of_index(index);
+        let row = index_row(index);
         if self.indices[row] == index {
             return Ok(self.blocks[row]);
         }
@@ -151,13 +151,13 @@ impl KnownBlocks {
     ) -> Result<u32, Error>
         requires some { 0 < index }
         requires in_device { block < (D.geometry dev.old).block_count }
-        ensures found { (all : List ℕ) → AreKnownListBlocks all self.now → index < length all → word_at_offset (block_bytes_by_number (D.blocks dev.old) block) 0 ≡ slice_index all (index - 1) → IfOk result (λ b. b ≡ slice_index all (index - 1)) }
+        ensures found { (all : List ℕ) → AreKnownBlocks all self.now → index < length all → word_at (block_bytes (D.blocks dev.old) block) 0 ≡ slice_index all (index - 1) → IfOk result (λ b. b ≡ slice_index all (index - 1)) }
         ensures in_range { IfOk result (λ b. b < (D.geometry dev.old).block_count) }
-        ensures corrupt { (all : List ℕ) → IsErrOf result Error.Corrupt → AreKnownListBlocks all self.now → index < length all → word_at_offset (block_bytes_by_number (D.blocks dev.old) block) 0 ≡ slice_index all (index - 1) → (D.geometry dev.old).block_count ≤ slice_index all (index - 1) }
-        ensures reading { OnlyReadsAndReportsIoOrCorrupt D.BlockDevice dev.old dev.new result }
-        ensures few { read_count_of_history (D.history dev.new) ≤ read_count_of_history (D.history dev.old) + 1 }
+        ensures corrupt { (all : List ℕ) → IsErrOf result Error.Corrupt → AreKnownBlocks all self.now → index < length all → word_at (block_bytes (D.blocks dev.old) block) 0 ≡ slice_index all (index - 1) → (D.geometry dev.old).block_count ≤ slice_index all (index - 1) }
+        ensures reading { OnlyReadsOrCorrupt D.BlockDevice dev.old dev.new result }
+        ensures few { read_count (D.history dev.new) ≤ read_count (D.history dev.old) + 1 }
     {
-        let row = row_of_index(index - 1);
+        let row = index_row(index - 1);
         if self.indices[row] != index - 1 {
             let block = read_block_before(dev, block)?;
             return Ok(block);
@@ -180,9 +180,9 @@ impl KnownBlocks {
     ) -> Option<BlockPart>
         ensures inside { IfSome result (λ p. (p.block < (D.geometry dev.now).block_count) × (p.offset + p.len ≤ (D.geometry dev.now).block_size)) }
         ensures len { IfSome result (λ p. p.len ≡ min room (size - pos)) }
-        ensures bytes { (head : ℕ) → IsSkipList (D.blocks dev.now) (D.geometry dev.now).block_size head size → AreKnownListBlocks (list_blocks_from_head (D.blocks dev.now) (list_block_count_for_size (D.geometry dev.now).block_size size) head) self.now
-            → IfSome result (λ p. slice_range (block_bytes_by_number (D.blocks dev.now) p.block) p.offset (p.offset + p.len) ≡ slice_range (bytes_of_skip_list (D.blocks dev.now) (D.geometry dev.now).block_size head size) pos (pos + p.len)) }
-        ensures few { (old new : List DeviceCallEvent) → read_count_of_history new ≤ read_count_of_history old + 1 → IfSome result (λ p. ReadsKnownList (D.geometry dev.now).block_size size pos room self.now self.now old new) }
+        ensures bytes { (head : ℕ) → IsSkipList (D.blocks dev.now) (D.geometry dev.now).block_size head size → AreKnownBlocks (blocks_to_head (D.blocks dev.now) (block_count_for (D.geometry dev.now).block_size size) head) self.now
+            → IfSome result (λ p. slice_range (block_bytes (D.blocks dev.now) p.block) p.offset (p.offset + p.len) ≡ slice_range (list_bytes (D.blocks dev.now) (D.geometry dev.now).block_size head size) pos (pos + p.len)) }
+        ensures few { (old new : List CallEvent) → read_count new ≤ read_count old + 1 → IfSome result (λ p. ReadsKnownList (D.geometry dev.now).block_size size pos room self.now self.now old new) }
     {
         let geometry = dev.geometry();
         if pos >= size || room == 0 {
@@ -191,7 +191,7 @@ impl KnownBlocks {
         let len = room.min((size - pos) as usize) as u32;
         let (index, offset) = place(geometry.block_size, pos);
         let (last, _) = place(geometry.block_size, pos + len - 1);
-        let row = row_of_index(index);
+        let row = index_row(index);
         let block = self.blocks[row];
         if last != index || self.indices[row] != index || block >= geometry.block_count {
             return None;
@@ -219,12 +219,12 @@ impl KnownBlocks {
         buf: &mut [u8],
     ) -> Result<usize, Error>
         ensures count { IfOk result (λ n. (n ≡ min (length buf.old) (size - pos)) × (drop n buf.new ≡ drop n buf.old)) }
-        ensures bytes { IsSkipList (D.blocks dev.old) (D.geometry dev.old).block_size head size → AreKnownListBlocks (list_blocks_from_head (D.blocks dev.old) (list_block_count_for_size (D.geometry dev.old).block_size size) head) self.old
-            → IfOk result (λ n. take n buf.new ≡ slice_range (bytes_of_skip_list (D.blocks dev.old) (D.geometry dev.old).block_size head size) pos (pos + n)) }
-        ensures corrupt { IsErrOf result Error.Corrupt → IsSkipList (D.blocks dev.old) (D.geometry dev.old).block_size head size → ¬ AreKnownListBlocks (list_blocks_from_head (D.blocks dev.old) (list_block_count_for_size (D.geometry dev.old).block_size size) head) self.old }
-        ensures known { IsSkipList (D.blocks dev.old) (D.geometry dev.old).block_size head size → AreKnownListBlocks (list_blocks_from_head (D.blocks dev.old) (list_block_count_for_size (D.geometry dev.old).block_size size) head) self.old
-            → AreKnownListBlocks (list_blocks_from_head (D.blocks dev.old) (list_block_count_for_size (D.geometry dev.old).block_size size) head) self.new }
-        ensures reading { OnlyReadsAndReportsIoOrCorrupt D.BlockDevice dev.old dev.new result }
+        ensures bytes { IsSkipList (D.blocks dev.old) (D.geometry dev.old).block_size head size → AreKnownBlocks (blocks_to_head (D.blocks dev.old) (block_count_for (D.geometry dev.old).block_size size) head) self.old
+            → IfOk result (λ n. take n buf.new ≡ slice_range (list_bytes (D.blocks dev.old) (D.geometry dev.old).block_size head size) pos (pos + n)) }
+        ensures corrupt { IsErrOf result Error.Corrupt → IsSkipList (D.blocks dev.old) (D.geometry dev.old).block_size head size → ¬ AreKnownBlocks (blocks_to_head (D.blocks dev.old) (block_count_for (D.geometry dev.old).block_size size) head) self.old }
+        ensures known { IsSkipList (D.blocks dev.old) (D.geometry dev.old).block_size head size → AreKnownBlocks (blocks_to_head (D.blocks dev.old) (block_count_for (D.geometry dev.old).block_size size) head) self.old
+            → AreKnownBlocks (blocks_to_head (D.blocks dev.old) (block_count_for (D.geometry dev.old).block_size size) head) self.new }
+        ensures reading { OnlyReadsOrCorrupt D.BlockDevice dev.old dev.new result }
         ensures few { OnOk result (ReadsKnownList (D.geometry dev.old).block_size size pos (length buf.old) self.old self.new (D.history dev.old) (D.history dev.new)) }
     {
         let block_size = dev.geometry().block_size;
@@ -237,9 +237,9 @@ impl KnownBlocks {
         let mut block = self.find_block(dev, head, blocks_for(block_size, size) - 1, index)?;
         'blocks: loop {
             let (index, off) = place(block_size, pos + left - 1);
-            let part = left.min(off + 1 - 4 * pointer_count_at_index(index));
+            let part = left.min(off + 1 - 4 * pointer_count_at(index));
             left -= part;
-            read_block_bytes_into_buffer_range(
+            read_into_range(
                 dev,
                 block,
                 off + 1 - part,

@@ -35,20 +35,20 @@ mod way;
 mod writes;
 mod zeros;
 
-pub use completion::{finish_contents, release_all_blocks_in_flight};
-pub use contents::{WriterContents, make_contents_in_memory, write_contents};
+pub use completion::{finish_contents, release_in_flight};
+pub use contents::{WriterContents, contents_in_memory, write_contents};
 pub use extender::Extender;
-pub use front::list_head_for_first_bytes;
+pub use front::head_of_front;
 pub use known::KnownBlocks;
 pub use laws::{
-    contents_forms_fit_writer_after_calls, reserved_blocks_suffice_for_calls,
-    settled_map_has_exactly_image_blocks,
+    lemma_forms_fit, lemma_reserve_suffices,
+    lemma_settled_map,
 };
-pub use memory::load_first_bytes_of_list_into_memory;
+pub use memory::load_first_bytes;
 pub use named_lists::settle_list;
 pub use new_sizes::truncate_contents;
 pub use part::BlockPart;
-pub use read::{head_of_list_before_block, read_at};
+pub use read::{head_before_block, read_at};
 pub use rest::RestLocation;
 pub use size::{blocks_for, place};
 pub use stored_list::StoredList;

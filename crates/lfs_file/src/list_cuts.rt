@@ -1,14 +1,14 @@
 // Cuts of finished lists.
 
 ghost use Rattle.std.specs.Prelude.{◌≡◌, ◌≤◌, take, IfOk};
-ghost use Rattle.lfs_file.specs.Effects.{OnlyReadsAndReportsIo};
-ghost use Rattle.lfs_file.specs.Hand.{IsFinishedListConsistentWithMapAndDisk, KeepsUsedBlocksInMap, bytes_of_stored_list};
-ghost use Rattle.lfs_file.specs.HandWrites.{IsFinishedListOfBytes};
-ghost use Rattle.lfs_file.specs.BlockOwners.{IsFrontOfStoredList};
+ghost use Rattle.lfs_file.specs.Effects.{OnlyReadsOrIo};
+ghost use Rattle.lfs_file.specs.Hand.{FinishedListOnDisk, KeepsUsedBlocks, stored_list_bytes};
+ghost use Rattle.lfs_file.specs.HandWrites.{IsFinishedOf};
+ghost use Rattle.lfs_file.specs.BlockOwners.{IsFrontOf};
 
-use crate::list_ends::release_base_list_blocks_from_index;
+use crate::list_ends::release_base_from;
 use crate::stored_list::StoredList;
-use crate::{blocks_for, list_head_for_first_bytes};
+use crate::{blocks_for, head_of_front};
 use lfs_blocks::BlockMap;
 use lfs_device::{BlockDevice, Error};
 
@@ -25,16 +25,16 @@ pub(crate) fn shorten_stored_list<D: BlockDevice>(
     stored: StoredList,
     keep: u32,
 ) -> Result<StoredList, Error>
-    requires stored { IsFinishedListConsistentWithMapAndDisk map.old (D.blocks dev.old) (D.geometry dev.old).block_size stored }
+    requires stored { FinishedListOnDisk map.old (D.blocks dev.old) (D.geometry dev.old).block_size stored }
     requires length { (1 ≤ keep) × (keep ≤ stored.size) }
-    ensures cut { IfOk result (λ s. IsFinishedListOfBytes map.new (D.blocks dev.new) (D.geometry dev.old) s keep (take keep (bytes_of_stored_list (D.blocks dev.old) (D.geometry dev.old).block_size stored))) }
-    ensures front { IfOk result (IsFrontOfStoredList (D.geometry dev.old).block_size (D.blocks dev.old) stored (D.blocks dev.new)) }
-    ensures map { KeepsUsedBlocksInMap map.old map.new }
-    ensures reading { OnlyReadsAndReportsIo D.BlockDevice dev.old dev.new result }
+    ensures cut { IfOk result (λ s. IsFinishedOf map.new (D.blocks dev.new) (D.geometry dev.old) s keep (take keep (stored_list_bytes (D.blocks dev.old) (D.geometry dev.old).block_size stored))) }
+    ensures front { IfOk result (IsFrontOf (D.geometry dev.old).block_size (D.blocks dev.old) stored (D.blocks dev.new)) }
+    ensures map { KeepsUsedBlocks map.old map.new }
+    ensures reading { OnlyReadsOrIo D.BlockDevice dev.old dev.new result }
 {
-    let head = list_head_for_first_bytes(dev, stored.head, stored.size, keep)?;
+    let head = head_of_front(dev, stored.head, stored.size, keep)?;
     let count = blocks_for(dev.geometry().block_size, keep);
-    release_base_list_blocks_from_index(dev, map, stored, count)?;
+    release_base_from(dev, map, stored, count)?;
     Ok(StoredList {
         head,
         size: keep,

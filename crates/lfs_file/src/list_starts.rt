@@ -1,12 +1,12 @@
 // Lists that are begun over finished ones.
 
 ghost use Rattle.std.specs.Prelude.{◌≡◌, ◌≤◌, IfOk};
-ghost use Rattle.lfs_device.specs.Calls.{ReadsOnly};
-ghost use Rattle.lfs_model.specs.BlockSets.{BlockStateList};
-ghost use Rattle.lfs_file.specs.Calls.{ReportsIoOrNoMemory};
-ghost use Rattle.lfs_file.specs.Bases.{IsSkipListOnDiskUnlessEmpty};
-ghost use Rattle.lfs_file.specs.Hand.{IsFinishedListConsistentWithMapAndDisk, bytes_of_stored_list};
-ghost use Rattle.lfs_file.specs.HandWrites.{IsUnfinishedListOfContentsEndingAt};
+ghost use Rattle.lfs_device.specs.DeviceCalls.{ReadsOnly};
+ghost use Rattle.lfs_model.specs.layers.BlockSets.{BlockStates};
+ghost use Rattle.lfs_file.specs.FileCalls.{ReportsIoOrNoMemory};
+ghost use Rattle.lfs_file.specs.Bases.{IsListOrEmpty};
+ghost use Rattle.lfs_file.specs.Hand.{FinishedListOnDisk, stored_list_bytes};
+ghost use Rattle.lfs_file.specs.HandWrites.{IsUnfinishedTo};
 
 use crate::Extender;
 use crate::stored_list::StoredList;
@@ -19,22 +19,22 @@ use std::alloc::Global;
 /// The caller's condition is that the list has at least so many bytes.
 ///
 /// Errors: `NoMemory` where memory for a block isn't granted. `Io` where the device failed.
-pub(crate) fn begin_list_over_finished_list<D: BlockDevice>(
+pub(crate) fn begin_over_finished<D: BlockDevice>(
     alloc: Global,
     dev: &mut D,
     base: StoredList,
     keep: u32,
 ) -> Result<PendingList, Error>
-    requires base { IsSkipListOnDiskUnlessEmpty (D.blocks dev.old) (D.geometry dev.old).block_size base.head base.size }
+    requires base { IsListOrEmpty (D.blocks dev.old) (D.geometry dev.old).block_size base.head base.size }
     requires within { keep ≤ base.size }
-    ensures begun { IfOk result (λ h. (map : BlockStateList) → IsFinishedListConsistentWithMapAndDisk map (D.blocks dev.old) (D.geometry dev.old).block_size base
-        → IsUnfinishedListOfContentsEndingAt map (D.blocks dev.old) (D.geometry dev.old) h keep (bytes_of_stored_list (D.blocks dev.old) (D.geometry dev.old).block_size base)) }
+    ensures begun { IfOk result (λ h. (map : BlockStates) → FinishedListOnDisk map (D.blocks dev.old) (D.geometry dev.old).block_size base
+        → IsUnfinishedTo map (D.blocks dev.old) (D.geometry dev.old) h keep (stored_list_bytes (D.blocks dev.old) (D.geometry dev.old).block_size base)) }
     ensures base { IfOk result (λ h. h.base ≡ base) }
     ensures device { ReadsOnly D.BlockDevice dev.old dev.new }
     ensures reports { ReportsIoOrNoMemory D.BlockDevice dev.old dev.new result }
 {
     if keep == 0 {
-        let list = Extender::start_with_empty_list(alloc, dev.geometry())?;
+        let list = Extender::start_empty(alloc, dev.geometry())?;
         return Ok(PendingList {
             list,
             base,

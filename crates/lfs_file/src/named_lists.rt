@@ -1,24 +1,24 @@
 // Lists that a commit names.
 
 ghost use Rattle.std.specs.Prelude.{◌≡◌, ◌≤◌, ◌<◌, ◌+◌, ◌-◌, ◌*◌, ◌∷◌, ◌++◌, ℕ, [], drop, length, OnOk};
-ghost use Rattle.lfs_model.specs.BlockSets.{Used};
-ghost use Rattle.lfs_model.specs.History.{read_count_of_history};
-ghost use Rattle.lfs_model.specs.SkipLists.{AreListBlocks, list_blocks_from_head};
-ghost use Rattle.lfs_file.specs.BlockOwners.{blocks_of_stored_list};
-ghost use Rattle.lfs_file.specs.Effects.{OnlyReadsAndReportsIo, ReadsAtMostAndReportsIo};
-ghost use Rattle.lfs_file.specs.SettledMaps.{CanSettleList, MarksNewListUsedAndOldFree, KeepsStatesOfOtherBlocks, PutsBlocksInState, used_or_free_block_state};
-ghost use Rattle.lfs_file.specs.SharedBlocks.{IsCountOfSharedFrontBlocks, count_of_unshared_blocks_in_both_lists};
+ghost use Rattle.lfs_model.specs.layers.BlockSets.{Used};
+ghost use Rattle.lfs_model.specs.session.History.{read_count};
+ghost use Rattle.lfs_model.specs.format.SkipLists.{AreListBlocks, blocks_to_head};
+ghost use Rattle.lfs_file.specs.BlockOwners.{stored_blocks};
+ghost use Rattle.lfs_file.specs.Effects.{OnlyReadsOrIo, ReadsAtMost};
+ghost use Rattle.lfs_file.specs.SettledMaps.{CanSettleList, SettlesList, KeepsOtherStates, PutsInState, used_or_free};
+ghost use Rattle.lfs_file.specs.SharedBlocks.{IsSharedCount, unshared_count};
 
 use crate::shared_blocks::shared_block_count;
 use crate::stored_list::StoredList;
-use crate::{blocks_for, head_of_list_before_block};
+use crate::{blocks_for, head_before_block};
 use lfs_blocks::BlockMap;
 use lfs_device::{BlockDevice, Error};
 
 // Makes a block used, whatever its state.
 fn make_block_used(map: &mut BlockMap, block: u32)
     requires { block < length map.old }
-    ensures { PutsBlocksInState Used map.old map.new (block ∷ []) }
+    ensures { PutsInState Used map.old map.new (block ∷ []) }
 {
     if map.is_in_flight(block) {
         map.settle(block);
@@ -28,9 +28,9 @@ fn make_block_used(map: &mut BlockMap, block: u32)
 }
 
 // Makes a block used, or free.
-fn make_block_used_or_free(map: &mut BlockMap, block: u32, used: bool)
+fn set_taken(map: &mut BlockMap, block: u32, used: bool)
     requires { block < length map.old }
-    ensures { PutsBlocksInState (used_or_free_block_state used) map.old map.new (block ∷ []) }
+    ensures { PutsInState (used_or_free used) map.old map.new (block ∷ []) }
 {
     if used {
         make_block_used(map, block);
@@ -40,7 +40,7 @@ fn make_block_used_or_free(map: &mut BlockMap, block: u32, used: bool)
 }
 
 // Makes each block of a list from an index on used, or free, the last one first.
-fn make_list_blocks_from_index_used_or_free<D: BlockDevice>(
+fn set_list_from<D: BlockDevice>(
     dev: &mut D,
     map: &mut BlockMap,
     head: u32,
@@ -51,16 +51,16 @@ fn make_list_blocks_from_index_used_or_free<D: BlockDevice>(
     requires chain { AreListBlocks (D.blocks dev.old) count head }
     requires map { length map.old ≡ length (D.blocks dev.old) }
     requires within { from ≤ count }
-    ensures put { OnOk result (PutsBlocksInState (used_or_free_block_state used) map.old map.new (drop from (list_blocks_from_head (D.blocks dev.old) count head))) }
-    ensures others { KeepsStatesOfOtherBlocks map.old map.new (list_blocks_from_head (D.blocks dev.old) count head) }
-    ensures reading { ReadsAtMostAndReportsIo D.BlockDevice dev.old dev.new (count - from) result }
+    ensures put { OnOk result (PutsInState (used_or_free used) map.old map.new (drop from (blocks_to_head (D.blocks dev.old) count head))) }
+    ensures others { KeepsOtherStates map.old map.new (blocks_to_head (D.blocks dev.old) count head) }
+    ensures reading { ReadsAtMost D.BlockDevice dev.old dev.new (count - from) result }
 {
     let mut block = head;
     let mut index = count;
     'putting: while index > from {
-        make_block_used_or_free(map, block, used);
+        set_taken(map, block, used);
         index -= 1;
-        block = head_of_list_before_block(dev, block, index - from)?;
+        block = head_before_block(dev, block, index - from)?;
     }
     Ok(())
 }
@@ -80,17 +80,17 @@ pub fn settle_list<D: BlockDevice>(
     stored: StoredList,
 ) -> Result<(), Error>
     requires { CanSettleList map.old (D.blocks dev.old) (D.geometry dev.old).block_size before stored }
-    ensures settled { OnOk result (MarksNewListUsedAndOldFree map.old map.new (blocks_of_stored_list (D.blocks dev.old) (D.geometry dev.old).block_size before) (blocks_of_stored_list (D.blocks dev.old) (D.geometry dev.old).block_size stored)) }
-    ensures others { KeepsStatesOfOtherBlocks map.old map.new (blocks_of_stored_list (D.blocks dev.old) (D.geometry dev.old).block_size before ++ blocks_of_stored_list (D.blocks dev.old) (D.geometry dev.old).block_size stored) }
-    ensures reading { OnlyReadsAndReportsIo D.BlockDevice dev.old dev.new result }
-    ensures few { (n : ℕ) → IsCountOfSharedFrontBlocks (blocks_of_stored_list (D.blocks dev.old) (D.geometry dev.old).block_size before) (blocks_of_stored_list (D.blocks dev.old) (D.geometry dev.old).block_size stored) n → OnOk result (read_count_of_history (D.history dev.new) ≤ read_count_of_history (D.history dev.old)
-        + 2 * count_of_unshared_blocks_in_both_lists (blocks_of_stored_list (D.blocks dev.old) (D.geometry dev.old).block_size before) (blocks_of_stored_list (D.blocks dev.old) (D.geometry dev.old).block_size stored) n) }
+    ensures settled { OnOk result (SettlesList map.old map.new (stored_blocks (D.blocks dev.old) (D.geometry dev.old).block_size before) (stored_blocks (D.blocks dev.old) (D.geometry dev.old).block_size stored)) }
+    ensures others { KeepsOtherStates map.old map.new (stored_blocks (D.blocks dev.old) (D.geometry dev.old).block_size before ++ stored_blocks (D.blocks dev.old) (D.geometry dev.old).block_size stored) }
+    ensures reading { OnlyReadsOrIo D.BlockDevice dev.old dev.new result }
+    ensures few { (n : ℕ) → IsSharedCount (stored_blocks (D.blocks dev.old) (D.geometry dev.old).block_size before) (stored_blocks (D.blocks dev.old) (D.geometry dev.old).block_size stored) n → OnOk result (read_count (D.history dev.new) ≤ read_count (D.history dev.old)
+        + 2 * unshared_count (stored_blocks (D.blocks dev.old) (D.geometry dev.old).block_size before) (stored_blocks (D.blocks dev.old) (D.geometry dev.old).block_size stored) n) }
 {
     let block_size = dev.geometry().block_size;
     let gone = blocks_for(block_size, before.size);
     let kept = blocks_for(block_size, stored.size);
     let shared = shared_block_count(dev, before.head, gone, stored.head, kept)?;
-    make_list_blocks_from_index_used_or_free(dev, map, before.head, gone, shared, false)?;
-    make_list_blocks_from_index_used_or_free(dev, map, stored.head, kept, shared, true)?;
+    set_list_from(dev, map, before.head, gone, shared, false)?;
+    set_list_from(dev, map, stored.head, kept, shared, true)?;
     Ok(())
 }

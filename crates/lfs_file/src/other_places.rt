@@ -1,19 +1,19 @@
 // Lists in hand that continue at another place.
 
 ghost use Rattle.std.specs.Prelude.{◌≡◌, ◌≢◌, ◌≤◌, ◌<◌, ◌+◌, ◌^◌, length, min, IfOk};
-ghost use Rattle.lfs_model.specs.BlockSets.{used_count};
-ghost use Rattle.lfs_model.specs.SkipLists.{list_block_count_for_size};
-ghost use Rattle.lfs_model.specs.Writers.{contents_after_write};
-ghost use Rattle.lfs_file.specs.Effects.{WritesOnlyUnusedBlocks};
-ghost use Rattle.lfs_file.specs.Contents.{block_room_for_write};
+ghost use Rattle.lfs_model.specs.layers.BlockSets.{used_count};
+ghost use Rattle.lfs_model.specs.format.SkipLists.{block_count_for};
+ghost use Rattle.lfs_model.specs.session.Writers.{written_contents};
+ghost use Rattle.lfs_file.specs.Effects.{WritesUnusedBlocks};
+ghost use Rattle.lfs_file.specs.Contents.{write_room};
 ghost use Rattle.lfs_file.specs.Form as form;
-ghost use Rattle.lfs_file.specs.Growing.{size_of_growing_list};
-ghost use Rattle.lfs_file.specs.BaseRoom.{in_flight_block_limit_of_stored_list};
-ghost use Rattle.lfs_file.specs.HandWrites.{IsWrittenUnfinishedListOfContentsEndingAt, IsUnfinishedListOfContentsEndingAt, IsUnfinishedListWithAtLeastOneByte, TakesUsedBlocksOfBaseFromOldBase, contents_bytes_of_unfinished_list, contents_length_of_unfinished_list};
+ghost use Rattle.lfs_file.specs.Growing.{growing_size};
+ghost use Rattle.lfs_file.specs.BaseRoom.{in_flight_limit};
+ghost use Rattle.lfs_file.specs.HandWrites.{IsWrittenTo, IsUnfinishedTo, HasUnfinishedBytes, TakesOldBase, unfinished_bytes, unfinished_length};
 
 use crate::list_ends::end_unfinished_list;
-use crate::list_starts::begin_list_over_finished_list;
-use crate::writes::{PendingList, fill_gap_and_write_bytes};
+use crate::list_starts::begin_over_finished;
+use crate::writes::{PendingList, fill_and_write};
 use lfs_blocks::BlockMap;
 use lfs_device::{BlockDevice, Error};
 use std::alloc::Global;
@@ -25,26 +25,26 @@ use std::alloc::Global;
 /// remaining bytes of its base take.
 ///
 /// Errors: `NoMemory` where memory isn't granted. `Io` where the device failed.
-pub(crate) fn restart_unfinished_list_at_position<D: BlockDevice>(
+pub(crate) fn restart_list_at<D: BlockDevice>(
     alloc: Global,
     dev: &mut D,
     map: &mut BlockMap,
     hand: PendingList,
     place: u32,
 ) -> Result<PendingList, Error>
-    requires going { IsUnfinishedListWithAtLeastOneByte map.old (D.blocks dev.old) (D.geometry dev.old) hand }
-    requires within { place ≤ contents_length_of_unfinished_list hand }
-    requires room { size_of_growing_list hand.list ≢ place →
-        used_count map.old + in_flight_block_limit_of_stored_list (D.geometry dev.old).block_size hand.base + list_block_count_for_size (D.geometry dev.old).block_size hand.base.size ≤ length map.old }
-    ensures turned { IfOk result (λ h. IsUnfinishedListOfContentsEndingAt map.new (D.blocks dev.new) (D.geometry dev.old) h place (contents_bytes_of_unfinished_list (D.blocks dev.old) hand)) }
-    ensures over { IfOk result (TakesUsedBlocksOfBaseFromOldBase map.new (D.geometry dev.old).block_size (D.blocks dev.old) hand place (D.blocks dev.new)) }
-    ensures writing { WritesOnlyUnusedBlocks D.BlockDevice map.old map.new dev.old dev.new result }
+    requires going { HasUnfinishedBytes map.old (D.blocks dev.old) (D.geometry dev.old) hand }
+    requires within { place ≤ unfinished_length hand }
+    requires room { growing_size hand.list ≢ place →
+        used_count map.old + in_flight_limit (D.geometry dev.old).block_size hand.base + block_count_for (D.geometry dev.old).block_size hand.base.size ≤ length map.old }
+    ensures turned { IfOk result (λ h. IsUnfinishedTo map.new (D.blocks dev.new) (D.geometry dev.old) h place (unfinished_bytes (D.blocks dev.old) hand)) }
+    ensures over { IfOk result (TakesOldBase map.new (D.geometry dev.old).block_size (D.blocks dev.old) hand place (D.blocks dev.new)) }
+    ensures writing { WritesUnusedBlocks D.BlockDevice map.old map.new dev.old dev.new result }
 {
     if hand.list.size() == place {
         return Ok(hand);
     }
     let base = end_unfinished_list(alloc, dev, map, hand)?;
-    let hand = begin_list_over_finished_list(alloc, dev, base, place)?;
+    let hand = begin_over_finished(alloc, dev, base, place)?;
     Ok(hand)
 }
 
@@ -55,7 +55,7 @@ pub(crate) fn restart_unfinished_list_at_position<D: BlockDevice>(
 /// the write doesn't continue it.
 ///
 /// Errors: `NoMemory` where memory isn't granted. `Io` where the device failed.
-pub(crate) fn write_to_unfinished_list_at_position<D: BlockDevice>(
+pub(crate) fn write_at_position<D: BlockDevice>(
     alloc: Global,
     dev: &mut D,
     map: &mut BlockMap,
@@ -63,17 +63,17 @@ pub(crate) fn write_to_unfinished_list_at_position<D: BlockDevice>(
     place: u32,
     bytes: &[u8],
 ) -> Result<PendingList, Error>
-    requires going { IsUnfinishedListWithAtLeastOneByte map.old (D.blocks dev.old) (D.geometry dev.old) hand }
+    requires going { HasUnfinishedBytes map.old (D.blocks dev.old) (D.geometry dev.old) hand }
     requires bytes { (1 ≤ length bytes.now) × (place + length bytes.now < 2 ^ 31) }
-    requires room { used_count map.old + block_room_for_write (D.geometry dev.old).block_size place (length bytes.now) (form.InHand (size_of_growing_list hand.list) hand.base.size hand.base.in_flight) ≤ length map.old }
-    ensures written { IfOk result (λ h. IsWrittenUnfinishedListOfContentsEndingAt map.new (D.blocks dev.new) (D.geometry dev.old) h (place + length bytes.now)
-        (contents_after_write (contents_bytes_of_unfinished_list (D.blocks dev.old) hand) place bytes.now)) }
-    ensures over { IfOk result (TakesUsedBlocksOfBaseFromOldBase map.new (D.geometry dev.old).block_size (D.blocks dev.old) hand (min place (contents_length_of_unfinished_list hand)) (D.blocks dev.new)) }
-    ensures writing { WritesOnlyUnusedBlocks D.BlockDevice map.old map.new dev.old dev.new result }
+    requires room { used_count map.old + write_room (D.geometry dev.old).block_size place (length bytes.now) (form.InHand (growing_size hand.list) hand.base.size hand.base.in_flight) ≤ length map.old }
+    ensures written { IfOk result (λ h. IsWrittenTo map.new (D.blocks dev.new) (D.geometry dev.old) h (place + length bytes.now)
+        (written_contents (unfinished_bytes (D.blocks dev.old) hand) place bytes.now)) }
+    ensures over { IfOk result (TakesOldBase map.new (D.geometry dev.old).block_size (D.blocks dev.old) hand (min place (unfinished_length hand)) (D.blocks dev.new)) }
+    ensures writing { WritesUnusedBlocks D.BlockDevice map.old map.new dev.old dev.new result }
 {
     let length = hand.list.size().max(hand.base.size);
-    let turned = restart_unfinished_list_at_position(alloc, dev, map, hand, place.min(length))?;
+    let turned = restart_list_at(alloc, dev, map, hand, place.min(length))?;
     let mut hand = turned;
-    fill_gap_and_write_bytes(alloc, dev, map, &mut hand, place, bytes)?;
+    fill_and_write(alloc, dev, map, &mut hand, place, bytes)?;
     Ok(hand)
 }

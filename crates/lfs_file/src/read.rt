@@ -1,10 +1,10 @@
 ghost use Rattle.std.specs.Prelude.{◌≡◌, ◌≤◌, ◌<◌, ◌+◌, ◌*◌, ◌^◌, ℕ, ◌-◌, ◌++◌, min, length, take, drop, OnOk, IfOk, IfErr, IsErrOf, slice_index, slice_range};
-ghost use Rattle.lfs_model.specs.Blocks.{block_bytes_by_number};
-ghost use Rattle.lfs_device.specs.Calls.{ReadsOnly, ReportsFaults};
-ghost use Rattle.lfs_model.specs.History.{read_count_of_history};
-ghost use Rattle.lfs_file.specs.Calls.{OnlyReadsAndReportsIoOrCorrupt};
-ghost use Rattle.lfs_file.specs.Known.{WalksByFewReads};
-ghost use Rattle.lfs_model.specs.SkipLists.{AreListBlocks, IsSkipList, IsPlaceOfByteInList, list_blocks_from_head, list_block_count_for_size, bytes_of_skip_list, pointer_count_of_list_block, word_at_offset};
+ghost use Rattle.lfs_model.specs.format.Blocks.{block_bytes};
+ghost use Rattle.lfs_device.specs.DeviceCalls.{ReadsOnly, ReportsFaults};
+ghost use Rattle.lfs_model.specs.session.History.{read_count};
+ghost use Rattle.lfs_file.specs.FileCalls.{OnlyReadsOrCorrupt};
+ghost use Rattle.lfs_file.specs.Known.{WalksFew};
+ghost use Rattle.lfs_model.specs.format.SkipLists.{AreListBlocks, IsSkipList, IsBytePlace, blocks_to_head, block_count_for, list_bytes, pointer_count, word_at};
 
 use crate::known::KnownBlocks;
 use byteorder::{ByteOrder, LittleEndian};
@@ -17,11 +17,11 @@ pub(crate) fn read_block_pointer<D: BlockDevice>(
     k: u32,
 ) -> Result<u32, Error>
     requires { k ≤ 32 }
-    ensures word { IfOk result (λ word. word ≡ word_at_offset (block_bytes_by_number (D.blocks dev.old) block) (4 * k)) }
+    ensures word { IfOk result (λ word. word ≡ word_at (block_bytes (D.blocks dev.old) block) (4 * k)) }
     ensures in_range { OnOk result (block < (D.geometry dev.old).block_count) }
     ensures corrupt { IsErrOf result Error.Corrupt → (D.geometry dev.old).block_count ≤ block }
-    ensures reading { OnlyReadsAndReportsIoOrCorrupt D.BlockDevice dev.old dev.new result }
-    ensures few { read_count_of_history (D.history dev.new) ≤ read_count_of_history (D.history dev.old) + 1 }
+    ensures reading { OnlyReadsOrCorrupt D.BlockDevice dev.old dev.new result }
+    ensures few { read_count (D.history dev.new) ≤ read_count (D.history dev.old) + 1 }
 {
     if block >= dev.geometry().block_count {
         return Err(Error::Corrupt);
@@ -32,18 +32,18 @@ pub(crate) fn read_block_pointer<D: BlockDevice>(
 }
 
 // Returns the block at an index of a list, from the head at another.
-pub(crate) fn find_block_at_index<D: BlockDevice>(
+pub(crate) fn find_block_at<D: BlockDevice>(
     dev: &mut D,
     head: u32,
     last: u32,
     index: u32,
 ) -> Result<u32, Error>
     requires { index ≤ last }
-    ensures found { AreListBlocks (D.blocks dev.old) (last + 1) head → IfOk result (λ b. b ≡ slice_index (list_blocks_from_head (D.blocks dev.old) (last + 1) head) index) }
+    ensures found { AreListBlocks (D.blocks dev.old) (last + 1) head → IfOk result (λ b. b ≡ slice_index (blocks_to_head (D.blocks dev.old) (last + 1) head) index) }
     ensures in_range { IfOk result (λ b. b < (D.geometry dev.old).block_count) }
     ensures corrupt { IsErrOf result Error.Corrupt → ¬ AreListBlocks (D.blocks dev.old) (last + 1) head }
-    ensures reading { OnlyReadsAndReportsIoOrCorrupt D.BlockDevice dev.old dev.new result }
-    ensures few { OnOk result (WalksByFewReads last index (D.history dev.old) (D.history dev.new)) }
+    ensures reading { OnlyReadsOrCorrupt D.BlockDevice dev.old dev.new result }
+    ensures few { OnOk result (WalksFew last index (D.history dev.old) (D.history dev.new)) }
 {
     KnownBlocks::new().find_block(dev, head, last, index)
 }
@@ -52,11 +52,11 @@ pub(crate) fn find_block_at_index<D: BlockDevice>(
 // block.
 pub(crate) fn read_block_before<D: BlockDevice>(dev: &mut D, block: u32) -> Result<u32, Error>
     requires { block < (D.geometry dev.old).block_count }
-    ensures word { IfOk result (λ word. word ≡ word_at_offset (block_bytes_by_number (D.blocks dev.old) block) 0) }
+    ensures word { IfOk result (λ word. word ≡ word_at (block_bytes (D.blocks dev.old) block) 0) }
     ensures in_range { IfOk result (λ b. b < (D.geometry dev.old).block_count) }
-    ensures corrupt { IsErrOf result Error.Corrupt → (D.geometry dev.old).block_count ≤ word_at_offset (block_bytes_by_number (D.blocks dev.old) block) 0 }
-    ensures reading { OnlyReadsAndReportsIoOrCorrupt D.BlockDevice dev.old dev.new result }
-    ensures few { read_count_of_history (D.history dev.new) ≤ read_count_of_history (D.history dev.old) + 1 }
+    ensures corrupt { IsErrOf result Error.Corrupt → (D.geometry dev.old).block_count ≤ word_at (block_bytes (D.blocks dev.old) block) 0 }
+    ensures reading { OnlyReadsOrCorrupt D.BlockDevice dev.old dev.new result }
+    ensures few { read_count (D.history dev.new) ≤ read_count (D.history dev.old) + 1 }
 {
     let word = read_block_pointer(dev, block, 0)?;
     if word >= dev.geometry().block_count {
@@ -70,17 +70,17 @@ pub(crate) fn read_block_before<D: BlockDevice>(dev: &mut D, block: u32) -> Resu
 ///
 /// Errors: `Corrupt` where the block's pointer 0 leads out of the device. `Io` where the device
 /// failed.
-pub fn head_of_list_before_block<D: BlockDevice>(
+pub fn head_before_block<D: BlockDevice>(
     dev: &mut D,
     block: u32,
     count: u32,
 ) -> Result<u32, Error>
     requires { block < (D.geometry dev.old).block_count }
-    ensures word { IfOk result (λ word. 0 < count → word ≡ word_at_offset (block_bytes_by_number (D.blocks dev.old) block) 0) }
+    ensures word { IfOk result (λ word. 0 < count → word ≡ word_at (block_bytes (D.blocks dev.old) block) 0) }
     ensures in_range { IfOk result (λ b. b < (D.geometry dev.old).block_count) }
-    ensures corrupt { IsErrOf result Error.Corrupt → (0 < count) × ((D.geometry dev.old).block_count ≤ word_at_offset (block_bytes_by_number (D.blocks dev.old) block) 0) }
-    ensures reading { OnlyReadsAndReportsIoOrCorrupt D.BlockDevice dev.old dev.new result }
-    ensures few { read_count_of_history (D.history dev.new) ≤ read_count_of_history (D.history dev.old) + 1 }
+    ensures corrupt { IsErrOf result Error.Corrupt → (0 < count) × ((D.geometry dev.old).block_count ≤ word_at (block_bytes (D.blocks dev.old) block) 0) }
+    ensures reading { OnlyReadsOrCorrupt D.BlockDevice dev.old dev.new result }
+    ensures few { read_count (D.history dev.new) ≤ read_count (D.history dev.old) + 1 }
 {
     if count == 0 {
         return Ok(0);
@@ -90,8 +90,8 @@ pub fn head_of_list_before_block<D: BlockDevice>(
 }
 
 // Returns with how many pointers a block begins.
-pub(crate) fn pointer_count_at_index(index: u32) -> u32
-    ensures { result ≡ pointer_count_of_list_block index }
+pub(crate) fn pointer_count_at(index: u32) -> u32
+    ensures { result ≡ pointer_count index }
 {
     if index == 0 {
         0
@@ -101,7 +101,7 @@ pub(crate) fn pointer_count_at_index(index: u32) -> u32
 }
 
 // Reads so many bytes of a block into the buffer, over those from `start` on.
-pub(crate) fn read_block_bytes_into_buffer_range<D: BlockDevice>(
+pub(crate) fn read_into_range<D: BlockDevice>(
     dev: &mut D,
     block: u32,
     off: u32,
@@ -112,11 +112,11 @@ pub(crate) fn read_block_bytes_into_buffer_range<D: BlockDevice>(
     requires in_device { block < (D.geometry dev.old).block_count }
     requires in_block { off + len ≤ (D.geometry dev.old).block_size }
     requires in_buffer { start + len ≤ length buf.old }
-    ensures bytes { OnOk result (buf.new ≡ take start buf.old ++ (take len (drop off (block_bytes_by_number (D.blocks dev.old) block)) ++ drop (start + len) buf.old)) }
+    ensures bytes { OnOk result (buf.new ≡ take start buf.old ++ (take len (drop off (block_bytes (D.blocks dev.old) block)) ++ drop (start + len) buf.old)) }
     ensures device { ReadsOnly D.BlockDevice dev.old dev.new }
     ensures faults { ReportsFaults D.BlockDevice dev.old dev.new result }
     ensures errors { IfErr result (λ e. e ≡ Error.Io) }
-    ensures few { read_count_of_history (D.history dev.new) ≡ read_count_of_history (D.history dev.old) + 1 }
+    ensures few { read_count (D.history dev.new) ≡ read_count (D.history dev.old) + 1 }
 {
     dev.read(block, off, &mut buf[start..start + len as usize])?;
     Ok(())
@@ -140,15 +140,15 @@ pub fn read_at<D: BlockDevice>(
 ) -> Result<usize, Error>
     ensures count { IfOk result (λ n. (n ≡ min (length buf.old) (size - pos)) × (drop n buf.new ≡ drop n buf.old)) }
     ensures bytes { IsSkipList (D.blocks dev.old) (D.geometry dev.old).block_size head size →
-        IfOk result (λ n. take n buf.new ≡ slice_range (bytes_of_skip_list (D.blocks dev.old) (D.geometry dev.old).block_size head size) pos (pos + n)) }
+        IfOk result (λ n. take n buf.new ≡ slice_range (list_bytes (D.blocks dev.old) (D.geometry dev.old).block_size head size) pos (pos + n)) }
     ensures corrupt { IsErrOf result Error.Corrupt → ¬ IsSkipList (D.blocks dev.old) (D.geometry dev.old).block_size head size }
-    ensures reading { OnlyReadsAndReportsIoOrCorrupt D.BlockDevice dev.old dev.new result }
+    ensures reading { OnlyReadsOrCorrupt D.BlockDevice dev.old dev.new result }
     // The number of steps to the last block is at most the logarithm of the list's length. Each
     // block takes two reads.
-    ensures few { (m first last off end : ℕ) → list_block_count_for_size (D.geometry dev.old).block_size size ≤ 2 ^ m
-        → IsPlaceOfByteInList (D.geometry dev.old).block_size pos first off
-        → IsPlaceOfByteInList (D.geometry dev.old).block_size (pos + min (length buf.old) (size - pos) - 1) last end
-        → OnOk result (read_count_of_history (D.history dev.new) ≤ read_count_of_history (D.history dev.old) + 2 * m + 2 * (last - first) + 1) }
+    ensures few { (m first last off end : ℕ) → block_count_for (D.geometry dev.old).block_size size ≤ 2 ^ m
+        → IsBytePlace (D.geometry dev.old).block_size pos first off
+        → IsBytePlace (D.geometry dev.old).block_size (pos + min (length buf.old) (size - pos) - 1) last end
+        → OnOk result (read_count (D.history dev.new) ≤ read_count (D.history dev.old) + 2 * m + 2 * (last - first) + 1) }
 {
     KnownBlocks::new().read_at(dev, head, size, pos, buf)
 }

@@ -1,16 +1,16 @@
 // The blocks that two lists share.
 
 ghost use Rattle.std.specs.Prelude.{◌≡◌, ◌≤◌, ◌<◌, ◌+◌, ◌-◌, min, slice_index, IfOk};
-ghost use Rattle.lfs_model.specs.History.{read_count_of_history};
-ghost use Rattle.lfs_model.specs.SkipLists.{AreListBlocks, list_blocks_from_head};
-ghost use Rattle.lfs_file.specs.Effects.{OnlyReadsAndReportsIo, ReadsAtMostAndReportsIo};
-ghost use Rattle.lfs_file.specs.SharedBlocks.{IsCountOfSharedFrontBlocks, count_of_unshared_blocks_in_both_lists};
+ghost use Rattle.lfs_model.specs.session.History.{read_count};
+ghost use Rattle.lfs_model.specs.format.SkipLists.{AreListBlocks, blocks_to_head};
+ghost use Rattle.lfs_file.specs.Effects.{OnlyReadsOrIo, ReadsAtMost};
+ghost use Rattle.lfs_file.specs.SharedBlocks.{IsSharedCount, unshared_count};
 
-use crate::head_of_list_before_block;
+use crate::head_before_block;
 use lfs_device::{BlockDevice, Error};
 
 // Returns the last one of the first `index` blocks of a list.
-fn list_block_before_index<D: BlockDevice>(
+fn list_block_before<D: BlockDevice>(
     dev: &mut D,
     head: u32,
     count: u32,
@@ -18,14 +18,14 @@ fn list_block_before_index<D: BlockDevice>(
 ) -> Result<u32, Error>
     requires chain { AreListBlocks (D.blocks dev.old) count head }
     requires within { index ≤ count }
-    ensures block { IfOk result (λ b. 0 < index → b ≡ slice_index (list_blocks_from_head (D.blocks dev.old) count head) (index - 1)) }
-    ensures reading { ReadsAtMostAndReportsIo D.BlockDevice dev.old dev.new (count - index) result }
+    ensures block { IfOk result (λ b. 0 < index → b ≡ slice_index (blocks_to_head (D.blocks dev.old) count head) (index - 1)) }
+    ensures reading { ReadsAtMost D.BlockDevice dev.old dev.new (count - index) result }
 {
     let mut block = head;
     let mut at = count;
     'going: while at > index {
         at -= 1;
-        block = head_of_list_before_block(dev, block, at)?;
+        block = head_before_block(dev, block, at)?;
     }
     Ok(block)
 }
@@ -46,25 +46,25 @@ pub(crate) fn shared_block_count<D: BlockDevice>(
 ) -> Result<u32, Error>
     requires chain { AreListBlocks (D.blocks dev.old) count head }
     requires other { AreListBlocks (D.blocks dev.old) other_count other }
-    ensures shared { IfOk result (IsCountOfSharedFrontBlocks (list_blocks_from_head (D.blocks dev.old) count head) (list_blocks_from_head (D.blocks dev.old) other_count other)) }
-    ensures reading { OnlyReadsAndReportsIo D.BlockDevice dev.old dev.new result }
-    ensures few { IfOk result (λ n. read_count_of_history (D.history dev.new) ≤ read_count_of_history (D.history dev.old)
-        + count_of_unshared_blocks_in_both_lists (list_blocks_from_head (D.blocks dev.old) count head) (list_blocks_from_head (D.blocks dev.old) other_count other) n) }
-    ensures none { min count other_count ≡ 0 → read_count_of_history (D.history dev.new) ≡ read_count_of_history (D.history dev.old) }
+    ensures shared { IfOk result (IsSharedCount (blocks_to_head (D.blocks dev.old) count head) (blocks_to_head (D.blocks dev.old) other_count other)) }
+    ensures reading { OnlyReadsOrIo D.BlockDevice dev.old dev.new result }
+    ensures few { IfOk result (λ n. read_count (D.history dev.new) ≤ read_count (D.history dev.old)
+        + unshared_count (blocks_to_head (D.blocks dev.old) count head) (blocks_to_head (D.blocks dev.old) other_count other) n) }
+    ensures none { min count other_count ≡ 0 → read_count (D.history dev.new) ≡ read_count (D.history dev.old) }
 {
     let mut index = count.min(other_count);
     if index == 0 {
         return Ok(0);
     }
-    let mut block = list_block_before_index(dev, head, count, index)?;
-    let mut twin = list_block_before_index(dev, other, other_count, index)?;
+    let mut block = list_block_before(dev, head, count, index)?;
+    let mut twin = list_block_before(dev, other, other_count, index)?;
     'sharing: while index > 0 {
         if block == twin {
             return Ok(index);
         }
         index -= 1;
-        block = head_of_list_before_block(dev, block, index)?;
-        twin = head_of_list_before_block(dev, twin, index)?;
+        block = head_before_block(dev, block, index)?;
+        twin = head_before_block(dev, twin, index)?;
     }
     Ok(0)
 }

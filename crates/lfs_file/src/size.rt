@@ -1,12 +1,12 @@
 ghost use Rattle.std.specs.Prelude.{◌≡◌, ◌≤◌};
-ghost use Rattle.lfs_model.specs.SkipLists.{IsPlaceOfByteInList, list_block_count_for_size};
+ghost use Rattle.lfs_model.specs.format.SkipLists.{IsBytePlace, block_count_for};
 
 /// Returns the least number of blocks of a list that hold `size` bytes, and 0 for no bytes.
 ///
 /// The block size is at least 1,024 bytes.
 pub fn blocks_for(block_size: u32, size: u32) -> u32
     requires { 1024 ≤ block_size }
-    ensures { result ≡ list_block_count_for_size block_size size }
+    ensures { result ≡ block_count_for block_size size }
 {
     if size == 0 {
         return 0;
@@ -22,7 +22,7 @@ pub fn blocks_for(block_size: u32, size: u32) -> u32
 /// skip-lists").
 pub fn place(block_size: u32, pos: u32) -> (u32, u32)
     requires { 1024 ≤ block_size }
-    ensures { IsPlaceOfByteInList block_size pos result.0 result.1 }
+    ensures { IsBytePlace block_size pos result.0 result.1 }
 {
     // A block has two pointers on average.
     let mean = block_size - 8;

@@ -1,8 +1,8 @@
 // Blocks that are taken from the map.
 
 ghost use Rattle.std.specs.Prelude.{◌≡◌, ◌≤◌, ◌+◌, ℕ, length, IfOk, IfErr};
-ghost use Rattle.lfs_model.specs.BlockSets.{in_flight_block_count, used_count};
-ghost use Rattle.lfs_file.specs.TakenBlocks.{ChangesOnlyFreeBlocksInMap, TakesFreeBlocks};
+ghost use Rattle.lfs_model.specs.layers.BlockSets.{in_flight_count, used_count};
+ghost use Rattle.lfs_file.specs.TakenBlocks.{ChangesOnlyFree, TakesFreeBlocks};
 
 use lfs_blocks::BlockMap;
 use lfs_device::Error;
@@ -10,11 +10,11 @@ use std::alloc::Global;
 
 // Takes so many blocks, which are free.
 pub(crate) fn take_blocks(alloc: Global, map: &mut BlockMap, count: u32) -> Result<Vec<u32>, Error>
-    requires { used_count map.old + in_flight_block_count map.old + count ≤ length map.old }
+    requires { used_count map.old + in_flight_count map.old + count ≤ length map.old }
     ensures taken { IfOk result (λ v. TakesFreeBlocks map.old map.new v.items) }
     ensures count { IfOk result (λ v. length v.items ≡ count) }
-    ensures flying { IfOk result (λ v. in_flight_block_count map.new ≡ in_flight_block_count map.old + length v.items) }
-    ensures kept { ChangesOnlyFreeBlocksInMap map.old map.new }
+    ensures flying { IfOk result (λ v. in_flight_count map.new ≡ in_flight_count map.old + length v.items) }
+    ensures kept { ChangesOnlyFree map.old map.new }
     ensures error { IfErr result (λ e. e ≡ Error.NoMemory) }
 {
     let mut blocks = Vec::with_capacity(alloc, count as usize)?;

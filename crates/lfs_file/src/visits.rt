@@ -1,32 +1,32 @@
 ghost use Rattle.std.specs.Prelude.{◌≡◌, ◌≤◌, ◌<◌, ◌+◌, ◌*◌, ◌^◌, ℕ, true, false, length, OnOk, IfOk, IsErrOf, reverse};
 ghost use Rattle.std.specs.List.{FoldsTo};
-ghost use Rattle.lfs_model.specs.Blocks.{block_bytes_by_number};
-ghost use Rattle.lfs_model.specs.SkipLists.{IsSkipList, list_blocks_from_head, list_block_count_for_size, word_at_offset};
-ghost use Rattle.lfs_file.specs.Calls.{OnlyReadsAndReportsIoOrCorrupt};
-ghost use Rattle.lfs_file.specs.Right.{AllLaterPointersToIndexNameBlock, AreBlockPointersCopiedToWordList};
-ghost use Rattle.lfs_file.specs.Way.{HasNotedPointersOfWalkedBlocks, ReadsListBlockOnceUnlessNoted};
-ghost use Rattle.lfs_model.specs.History.{read_count_of_history};
+ghost use Rattle.lfs_model.specs.format.Blocks.{block_bytes};
+ghost use Rattle.lfs_model.specs.format.SkipLists.{IsSkipList, blocks_to_head, block_count_for, word_at};
+ghost use Rattle.lfs_file.specs.FileCalls.{OnlyReadsOrCorrupt};
+ghost use Rattle.lfs_file.specs.Right.{LaterPointersName, ArePointersCopied};
+ghost use Rattle.lfs_file.specs.Way.{HasNotedPointers, ReadsUnlessNoted};
+ghost use Rattle.lfs_model.specs.session.History.{read_count};
 
 use crate::blocks_for;
 use crate::way::{
-    WalkedBlocks, copy_pointers_of_block_to_words, find_first_block_and_note_walked_blocks,
-    word_of_byte_slice_at_offset,
+    WalkedBlocks, copy_pointers, find_first_block,
+    word_of_slice,
 };
 use lfs_device::{BlockDevice, Error};
 
 // Returns whether a block is the one that the pointers to its place name.
-fn is_block_named_by_all_later_pointers(words: &[u8], block: u32, index: u32, last: u32) -> bool
+fn named_by_later(words: &[u8], block: u32, index: u32, last: u32) -> bool
     requires order { index ≤ last }
     requires room { length words.now ≡ 128 }
-    ensures yes { result ≡ true → AllLaterPointersToIndexNameBlock words.now block index last }
-    ensures no { result ≡ false → ¬ AllLaterPointersToIndexNameBlock words.now block index last }
+    ensures yes { result ≡ true → LaterPointersName words.now block index last }
+    ensures no { result ≡ false → ¬ LaterPointersName words.now block index last }
 {
     if index == last {
         return true;
     }
     let most = index.trailing_zeros().min((last - index).ilog2());
     for k in 0..most + 1 {
-        if word_of_byte_slice_at_offset(words, 4 * k as usize) != block {
+        if word_of_slice(words, 4 * k as usize) != block {
             return false;
         }
     }
@@ -36,7 +36,7 @@ fn is_block_named_by_all_later_pointers(words: &[u8], block: u32, index: u32, la
 // Returns the block that pointer 0 of a block names, and notes the block's pointers. The call takes
 // one read, or none where the block is on the way. Returns `Corrupt` where the block isn't one of
 // the device, or isn't the one that the pointers to its place name.
-fn check_block_and_read_previous<D: BlockDevice>(
+fn check_and_step<D: BlockDevice>(
     dev: &mut D,
     block: u32,
     index: u32,
@@ -47,21 +47,21 @@ fn check_block_and_read_previous<D: BlockDevice>(
     requires some { 0 < index }
     requires order { index ≤ last }
     requires room { length words.old ≡ 128 }
-    requires way { HasNotedPointersOfWalkedBlocks (D.blocks dev.old) last 0 way.now }
-    ensures word { IfOk result (λ word. word ≡ word_at_offset (block_bytes_by_number (D.blocks dev.old) block) 0) }
-    ensures noted { OnOk result (AreBlockPointersCopiedToWordList (D.blocks dev.old) block index words.old words.new) }
-    ensures right { OnOk result ((block < (D.geometry dev.old).block_count) × AllLaterPointersToIndexNameBlock words.old block index last) }
-    ensures corrupt { IsErrOf result Error.Corrupt → block < (D.geometry dev.old).block_count → ¬ AllLaterPointersToIndexNameBlock words.old block index last }
-    ensures reading { OnlyReadsAndReportsIoOrCorrupt D.BlockDevice dev.old dev.new result }
-    ensures reads { ReadsListBlockOnceUnlessNoted way.now last index block (D.history dev.old) (D.history dev.new) }
+    requires way { HasNotedPointers (D.blocks dev.old) last 0 way.now }
+    ensures word { IfOk result (λ word. word ≡ word_at (block_bytes (D.blocks dev.old) block) 0) }
+    ensures noted { OnOk result (ArePointersCopied (D.blocks dev.old) block index words.old words.new) }
+    ensures right { OnOk result ((block < (D.geometry dev.old).block_count) × LaterPointersName words.old block index last) }
+    ensures corrupt { IsErrOf result Error.Corrupt → block < (D.geometry dev.old).block_count → ¬ LaterPointersName words.old block index last }
+    ensures reading { OnlyReadsOrCorrupt D.BlockDevice dev.old dev.new result }
+    ensures reads { ReadsUnlessNoted way.now last index block (D.history dev.old) (D.history dev.new) }
 {
     if block >= dev.geometry().block_count
-        || !is_block_named_by_all_later_pointers(words, block, index, last)
+        || !named_by_later(words, block, index, last)
     {
         return Err(Error::Corrupt);
     }
-    copy_pointers_of_block_to_words(dev, block, index, last, way, words)?;
-    Ok(word_of_byte_slice_at_offset(words, 0))
+    copy_pointers(dev, block, index, last, way, words)?;
+    Ok(word_of_slice(words, 0))
 }
 
 /// Visits each block of a file's list once, the last one first, and checks the list. The list has
@@ -86,10 +86,10 @@ pub fn walk<D: BlockDevice, F: FnMut(u32)>(
     ensures well_formed { OnOk result (IsSkipList (D.blocks dev.old) (D.geometry dev.old).block_size head size) }
     ensures corrupt { IsErrOf result Error.Corrupt → ¬ IsSkipList (D.blocks dev.old) (D.geometry dev.old).block_size head size }
     ensures visited { OnOk result (FoldsTo (λ p x q. F.step p x tt q) visit.old
-        (reverse (list_blocks_from_head (D.blocks dev.old) (list_block_count_for_size (D.geometry dev.old).block_size size) head)) visit.new) }
+        (reverse (blocks_to_head (D.blocks dev.old) (block_count_for (D.geometry dev.old).block_size size) head)) visit.new) }
     ensures callable { F.IsAlwaysCallable visit.new }
-    ensures reading { OnlyReadsAndReportsIoOrCorrupt D.BlockDevice dev.old dev.new result }
-    ensures few { OnOk result (read_count_of_history (D.history dev.new) < read_count_of_history (D.history dev.old) + list_block_count_for_size (D.geometry dev.old).block_size size) }
+    ensures reading { OnlyReadsOrCorrupt D.BlockDevice dev.old dev.new result }
+    ensures few { OnOk result (read_count (D.history dev.new) < read_count (D.history dev.old) + block_count_for (D.geometry dev.old).block_size size) }
 {
     let geometry = dev.geometry();
     if size == 0 || size > 0x7fff_ffff {
@@ -101,12 +101,12 @@ pub fn walk<D: BlockDevice, F: FnMut(u32)>(
     }
     // If any block came twice, the first one would: equal blocks have equal blocks before them.
     let mut way = WalkedBlocks::new();
-    let first = find_first_block_and_note_walked_blocks(dev, head, last, &mut way)?;
+    let first = find_first_block(dev, head, last, &mut way)?;
     let mut words = [0; 128];
     let mut block = head;
     let mut index = last;
     while index > 0 {
-        let before = check_block_and_read_previous(dev, block, index, last, &way, &mut words)?;
+        let before = check_and_step(dev, block, index, last, &way, &mut words)?;
         if block == first {
             return Err(Error::Corrupt);
         }
@@ -117,7 +117,7 @@ pub fn walk<D: BlockDevice, F: FnMut(u32)>(
     if block != first {
         return Err(Error::Corrupt);
     }
-    if !is_block_named_by_all_later_pointers(&words, block, 0, last) {
+    if !named_by_later(&words, block, 0, last) {
         return Err(Error::Corrupt);
     }
     visit(block);

@@ -1,14 +1,14 @@
 // The way from a list's last block back to its first one.
 
 ghost use Rattle.std.specs.Prelude.{◌≡◌, ◌≤◌, ◌<◌, ◌+◌, ◌*◌, ◌↔◌, length, OnOk, IfOk, IfErr, IsErrOf, IsTrue, slice_index};
-ghost use Rattle.lfs_device.specs.Calls.{ReadsOnly, ReportsFaults};
-ghost use Rattle.lfs_model.specs.History.{read_count_of_history};
-ghost use Rattle.lfs_model.specs.SkipLists.{AreListBlocks, list_blocks_from_head, word_at_offset};
-ghost use Rattle.lfs_file.specs.Calls.{OnlyReadsAndReportsIoOrCorrupt};
-ghost use Rattle.lfs_file.specs.Right.{AreBlockPointersCopiedToWordList};
-ghost use Rattle.lfs_file.specs.Way.{HasNotedPointersOfWalkedBlocks, IsIndexVisitedByHighestPointers, HasNotedPointersAndBlocksOfWalk, ReadsListBlockOnceUnlessNoted, count_of_highest_pointer_visits_up_to_index};
+ghost use Rattle.lfs_device.specs.DeviceCalls.{ReadsOnly, ReportsFaults};
+ghost use Rattle.lfs_model.specs.session.History.{read_count};
+ghost use Rattle.lfs_model.specs.format.SkipLists.{AreListBlocks, blocks_to_head, word_at};
+ghost use Rattle.lfs_file.specs.FileCalls.{OnlyReadsOrCorrupt};
+ghost use Rattle.lfs_file.specs.Right.{ArePointersCopied};
+ghost use Rattle.lfs_file.specs.Way.{HasNotedPointers, IsIndexVisited, HasNotedWalk, ReadsUnlessNoted, visit_count};
 
-use crate::read::{pointer_count_at_index, read_block_bytes_into_buffer_range};
+use crate::read::{pointer_count_at, read_into_range};
 use byteorder::{ByteOrder, LittleEndian};
 use lfs_device::{BlockDevice, Error};
 
@@ -32,36 +32,36 @@ impl WalkedBlocks {
 }
 
 // Returns the word at a place.
-pub(crate) fn word_of_byte_slice_at_offset(words: &[u8], at: usize) -> u32
+pub(crate) fn word_of_slice(words: &[u8], at: usize) -> u32
     requires { at + 4 ≤ length words.now }
-    ensures { result ≡ word_at_offset words.now at }
+    ensures { result ≡ word_at words.now at }
 {
     LittleEndian::read_u32(&words[at..at + 4])
 }
 
 // Returns whether the block at this index is on the way.
-fn is_block_index_visited_by_highest_pointers(index: u32, last: u32) -> bool
+fn is_index_visited(index: u32, last: u32) -> bool
     requires some { 0 < index }
     requires order { index ≤ last }
-    ensures { IsTrue result ↔ IsIndexVisitedByHighestPointers last index }
+    ensures { IsTrue result ↔ IsIndexVisited last index }
 {
     last - index < 1 << index.trailing_zeros()
 }
 
 // Returns the first block of a list, and notes the blocks on the way to it. Each block of the way
 // is read once.
-pub(crate) fn find_first_block_and_note_walked_blocks<D: BlockDevice>(
+pub(crate) fn find_first_block<D: BlockDevice>(
     dev: &mut D,
     head: u32,
     last: u32,
     way: &mut WalkedBlocks,
 ) -> Result<u32, Error>
-    ensures found { AreListBlocks (D.blocks dev.old) (last + 1) head → IfOk result (λ b. b ≡ slice_index (list_blocks_from_head (D.blocks dev.old) (last + 1) head) 0) }
+    ensures found { AreListBlocks (D.blocks dev.old) (last + 1) head → IfOk result (λ b. b ≡ slice_index (blocks_to_head (D.blocks dev.old) (last + 1) head) 0) }
     ensures in_range { IfOk result (λ b. b < (D.geometry dev.old).block_count) }
     ensures corrupt { IsErrOf result Error.Corrupt → ¬ AreListBlocks (D.blocks dev.old) (last + 1) head }
-    ensures noted { OnOk result (HasNotedPointersAndBlocksOfWalk (D.blocks dev.old) head last 0 way.new) }
-    ensures reading { OnlyReadsAndReportsIoOrCorrupt D.BlockDevice dev.old dev.new result }
-    ensures few { OnOk result (read_count_of_history (D.history dev.new) ≤ read_count_of_history (D.history dev.old) + count_of_highest_pointer_visits_up_to_index last last) }
+    ensures noted { OnOk result (HasNotedWalk (D.blocks dev.old) head last 0 way.new) }
+    ensures reading { OnlyReadsOrCorrupt D.BlockDevice dev.old dev.new result }
+    ensures few { OnOk result (read_count (D.history dev.new) ≤ read_count (D.history dev.old) + visit_count last last) }
 {
     let count = dev.geometry().block_count;
     let mut block = head;
@@ -72,9 +72,9 @@ pub(crate) fn find_first_block_and_note_walked_blocks<D: BlockDevice>(
         }
         let zeros = at.trailing_zeros();
         let row = 128 * zeros as usize;
-        read_block_bytes_into_buffer_range(dev, block, 0, &mut way.words, row, 4 * (zeros + 1))?;
+        read_into_range(dev, block, 0, &mut way.words, row, 4 * (zeros + 1))?;
         way.blocks[zeros as usize] = block;
-        block = word_of_byte_slice_at_offset(&way.words, row + 4 * zeros as usize);
+        block = word_of_slice(&way.words, row + 4 * zeros as usize);
         at -= 1 << zeros;
     }
     if block >= count {
@@ -85,7 +85,7 @@ pub(crate) fn find_first_block_and_note_walked_blocks<D: BlockDevice>(
 
 // Notes the pointers of a block of the list over the words. The call takes one read where the block
 // isn't on the way.
-pub(crate) fn copy_pointers_of_block_to_words<D: BlockDevice>(
+pub(crate) fn copy_pointers<D: BlockDevice>(
     dev: &mut D,
     block: u32,
     index: u32,
@@ -97,19 +97,19 @@ pub(crate) fn copy_pointers_of_block_to_words<D: BlockDevice>(
     requires order { index ≤ last }
     requires in_device { block < (D.geometry dev.old).block_count }
     requires room { length words.old ≡ 128 }
-    requires way { HasNotedPointersOfWalkedBlocks (D.blocks dev.old) last 0 way.now }
-    ensures noted { OnOk result (AreBlockPointersCopiedToWordList (D.blocks dev.old) block index words.old words.new) }
+    requires way { HasNotedPointers (D.blocks dev.old) last 0 way.now }
+    ensures noted { OnOk result (ArePointersCopied (D.blocks dev.old) block index words.old words.new) }
     ensures device { ReadsOnly D.BlockDevice dev.old dev.new }
     ensures faults { ReportsFaults D.BlockDevice dev.old dev.new result }
     ensures errors { IfErr result (λ e. e ≡ Error.Io) }
-    ensures reads { ReadsListBlockOnceUnlessNoted way.now last index block (D.history dev.old) (D.history dev.new) }
+    ensures reads { ReadsUnlessNoted way.now last index block (D.history dev.old) (D.history dev.new) }
 {
     let zeros = index.trailing_zeros() as usize;
-    if is_block_index_visited_by_highest_pointers(index, last) && way.blocks[zeros] == block {
+    if is_index_visited(index, last) && way.blocks[zeros] == block {
         let len = 4 * (zeros + 1);
         words[..len].copy_from_slice(&way.words[128 * zeros..128 * zeros + len]);
         return Ok(());
     }
-    read_block_bytes_into_buffer_range(dev, block, 0, words, 0, 4 * pointer_count_at_index(index))?;
+    read_into_range(dev, block, 0, words, 0, 4 * pointer_count_at(index))?;
     Ok(())
 }

@@ -1,9 +1,9 @@
 ghost use Rattle.std.specs.Prelude.{◌<◌};
-ghost use Rattle.lfs_device.specs.Bytes.{AreAllBlockElementsBelow256};
+ghost use Rattle.lfs_device.specs.Bytes.{HoldBytes};
 
 use lfs_device::BlockDevice;
 
 /// Whatever a device is, it holds bytes.
-pub fn blocks_of_device_are_bytes<D: BlockDevice>(_device: &D)
-    ensures { AreAllBlockElementsBelow256 (D.blocks _device.now) }
+pub fn lemma_device_bytes<D: BlockDevice>(_device: &D)
+    ensures { HoldBytes (D.blocks _device.now) }
 {}

@@ -1,7 +1,7 @@
 ghost use Rattle.std.specs.Prelude.{◌≡◌, ◌⊎◌, ◌+◌, ◌/◌, ◌<◌, IfErr, OnOk, IsErrOf, slice_set};
-ghost use Rattle.lfs_device.specs.Calls.{ChangesOnlyThisBlock, ReportsFaults};
-ghost use Rattle.lfs_model.specs.Blocks.{block_bytes_by_number};
-ghost use Rattle.lfs_model.specs.History.{erase_count_of_history, program_count_of_history};
+ghost use Rattle.lfs_device.specs.DeviceCalls.{ChangesOnlyThisBlock, ReportsFaults};
+ghost use Rattle.lfs_model.specs.format.Blocks.{block_bytes};
+ghost use Rattle.lfs_model.specs.session.History.{erase_count, program_count};
 
 use lfs_device::{BlockDevice, Error, read_block};
 use std::alloc::Global;
@@ -19,11 +19,11 @@ pub fn copy_block<D: BlockDevice>(
 ) -> Result<(), Error>
     requires from { from < (D.geometry device.old).block_count }
     requires to { to < (D.geometry device.old).block_count }
-    ensures copied { OnOk result (D.blocks device.new ≡ slice_set (D.blocks device.old) to (block_bytes_by_number (D.blocks device.old) from)) }
+    ensures copied { OnOk result (D.blocks device.new ≡ slice_set (D.blocks device.old) to (block_bytes (D.blocks device.old) from)) }
     ensures device { ChangesOnlyThisBlock D.BlockDevice to device.old device.new }
-    ensures erases { OnOk result (erase_count_of_history (D.history device.new) ≡ erase_count_of_history (D.history device.old) + 1) }
-    ensures programs { OnOk result (program_count_of_history (D.history device.new)
-        ≡ program_count_of_history (D.history device.old) + (D.geometry device.old).block_size / (D.geometry device.old).page) }
+    ensures erases { OnOk result (erase_count (D.history device.new) ≡ erase_count (D.history device.old) + 1) }
+    ensures programs { OnOk result (program_count (D.history device.new)
+        ≡ program_count (D.history device.old) + (D.geometry device.old).block_size / (D.geometry device.old).page) }
     ensures faults { ReportsFaults D.BlockDevice device.old device.new result }
     ensures errors { IfErr result (λ e. (e ≡ Error.Io) ⊎ (e ≡ Error.NoMemory)) }
     ensures no_memory { IsErrOf result Error.NoMemory → D.history device.new ≡ D.history device.old }

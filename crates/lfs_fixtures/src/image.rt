@@ -54,7 +54,7 @@ fn push_commit(
 }
 
 // Makes a block with the superblock in its first commit. Returns also the last tag of that commit.
-fn block_with_superblock_commit(
+fn superblock_block(
     alloc: Global,
     revision: u32,
 ) -> Result<(Vec<u8>, u32), AllocError> {
@@ -68,12 +68,12 @@ fn block_with_superblock_commit(
 }
 
 /// Makes a block with the superblock in its first commit, and these commits after it.
-pub fn beginning_of_block_with_superblock_and_commits(
+pub fn commits_beginning(
     alloc: Global,
     revision: u32,
     commits: &[FixtureEntries<'_>],
 ) -> Result<Vec<u8>, AllocError> {
-    let (mut bytes, mut last) = block_with_superblock_commit(alloc, revision)?;
+    let (mut bytes, mut last) = superblock_block(alloc, revision)?;
     for entries in commits {
         last = push_commit(&mut bytes, last, entries)?;
     }
@@ -81,12 +81,12 @@ pub fn beginning_of_block_with_superblock_and_commits(
 }
 
 /// Makes a block with a commit of these after the superblock's, where there are any.
-pub fn block_with_superblock_and_entries(
+pub fn block_with_entries(
     alloc: Global,
     revision: u32,
     entries: FixtureEntries<'_>,
 ) -> Result<Vec<u8>, AllocError> {
-    let (mut bytes, last) = block_with_superblock_commit(alloc, revision)?;
+    let (mut bytes, last) = superblock_block(alloc, revision)?;
     if !entries.is_empty() {
         push_commit(&mut bytes, last, entries)?;
     }
@@ -94,7 +94,7 @@ pub fn block_with_superblock_and_entries(
 }
 
 // Makes a block with one commit of these.
-fn block_of_one_commit(alloc: Global, entries: FixtureEntries<'_>) -> Result<Vec<u8>, AllocError> {
+fn one_commit_block(alloc: Global, entries: FixtureEntries<'_>) -> Result<Vec<u8>, AllocError> {
     let mut bytes = Vec::from_slice(alloc, &[1, 0, 0, 0])?;
     push_commit(&mut bytes, 0xffff_ffff, entries)?;
     Ok(bytes)
@@ -107,7 +107,7 @@ pub enum BlockFilling<'a> {
     Bytes(&'a [u8]),
 }
 
-fn put_bytes_in_image_block(image: &mut [u8], block: usize, bytes: &[u8]) {
+fn put_in_block(image: &mut [u8], block: usize, bytes: &[u8]) {
     let start = block.saturating_mul(4096);
     let end = start.saturating_add(bytes.len());
     if let Some(place) = image.get_mut(start..end) {
@@ -122,24 +122,24 @@ fn put_block_content(
     held: BlockFilling<'_>,
 ) -> Result<(), AllocError> {
     match held {
-        BlockFilling::Commit(entries) => put_bytes_in_image_block(
+        BlockFilling::Commit(entries) => put_in_block(
             image,
             block,
-            block_of_one_commit(alloc, entries)?.as_slice(),
+            one_commit_block(alloc, entries)?.as_slice(),
         ),
-        BlockFilling::Bytes(bytes) => put_bytes_in_image_block(image, block, bytes),
+        BlockFilling::Bytes(bytes) => put_in_block(image, block, bytes),
     }
     Ok(())
 }
 
 /// Makes an image of a second commit of its first block, and its other blocks.
-pub fn image_with_second_commit(
+pub fn image_with_commit(
     alloc: Global,
     entries: FixtureEntries<'_>,
     others: &[(usize, BlockFilling<'_>)],
 ) -> Result<Vec<u8>, AllocError> {
-    let first = block_with_superblock_and_entries(alloc, 1, entries)?;
-    let mut image = image_with_first_two_blocks(alloc, first.as_slice(), &[])?;
+    let first = block_with_entries(alloc, 1, entries)?;
+    let mut image = image_with_pair(alloc, first.as_slice(), &[])?;
     for (block, held) in others {
         put_block_content(alloc, image.as_mut_slice(), *block, *held)?;
     }
@@ -147,7 +147,7 @@ pub fn image_with_second_commit(
 }
 
 /// Makes an image of which these are the first two blocks.
-pub fn image_with_first_two_blocks(
+pub fn image_with_pair(
     alloc: Global,
     first: &[u8],
     second: &[u8],

@@ -6,9 +6,9 @@ mod bytes;
 mod copy;
 mod image;
 
-pub use bytes::blocks_of_device_are_bytes;
+pub use bytes::lemma_device_bytes;
 pub use copy::copy_block;
 pub use image::{
-    BlockFilling, FixtureEntries, beginning_of_block_with_superblock_and_commits,
-    block_with_superblock_and_entries, image_with_first_two_blocks, image_with_second_commit,
+    BlockFilling, FixtureEntries, commits_beginning,
+    block_with_entries, image_with_pair, image_with_commit,
 };

@@ -4,23 +4,23 @@ use Rattle.std.specs.Prelude.{if◌then◌else◌}
 use Rattle.std.specs.List.{list_any}
 use Rattle.std.specs.Option.{option_or}
 use Rattle.std.proofs.lemmas.Bool.Decides.{nat_tests}
-use Rattle.lfs_model.specs.Disk.{block_count, name_max_of}
-use Rattle.lfs_model.specs.Tree.{Path}
-use Rattle.lfs_model.specs.TreeEdits.{is_file, last_name_of_path, same_path}
-use Rattle.lfs_model.specs.Operations as ops
-use Rattle.lfs_model.specs.Operations.{Operation, Refusal, FlagsOfOpen, path_of_bytes}
-use Rattle.lfs_model.specs.Session.{DiskSummary, are_flags_allowed, has_too_long_last_name, refusal_unless_parents_are_directories, readers_of_open_files, writers_of_open_files, first_refusal_in_list, refuse_if, is_entry_over_charge_limit, lacks_free_blocks, reserved_block_count_of_writers}
-use Rattle.lfs_model.specs.Refusals.{path_of_bytes_or_root, refusal_of_operation}
-use Rattle.lfs_model.specs.Effects.{file_size_of_node}
+use Rattle.lfs_model.specs.format.Disk.{block_count, name_max_of}
+use Rattle.lfs_model.specs.tree.Tree.{Path}
+use Rattle.lfs_model.specs.session.TreeEdits.{is_file, last_name, same_path}
+use Rattle.lfs_model.specs.session.Operations as ops
+use Rattle.lfs_model.specs.session.Operations.{Operation, Refusal, FlagsOfOpen, parse_path}
+use Rattle.lfs_model.specs.session.Session.{DiskSummary, are_allowed, has_long_name, parents_refusal, all_readers, all_writers, first_refusal, refuse_if, is_over_charge, lacks_free, reserved_for_writers}
+use Rattle.lfs_model.specs.session.Refusals.{path_or_root, operation_refusal}
+use Rattle.lfs_model.specs.session.Effects.{node_file_size}
 use Rattle.lfs_device.specs.declared.error.Error.{Error}
-use Rattle.lfs_lookup.specs.Refusals.{error_of_refusal, refusal_of_error}
-use Rattle.lfs_fs.specs.Replies.{value_unless_refused}
-use Rattle.lfs_tree.specs.TreeState.{TreeState, tree_view, disk_summary_of_tree, WasTreeOnlyRead, IsTreeFailedByRead, IsIoWithFaultOrNoMemory}
-use Rattle.lfs_tree.specs.Permissions.{CanMakeDirectoryAtPath}
-use Rattle.lfs_model.specs.BlockSets.{in_flight_block_count}
-use Rattle.lfs_lookup.specs.FileContents.{IsInlineBytesOrSkipListOfFileAtPath}
-use Rattle.lfs_lookup.specs.Finds.{IsFoundNodeAtPath, is_absent_node, is_directory_node, is_file_node, size_of_node_if_file}
-use Rattle.lfs_fs.specs.SessionView.{SessionView, session_of_session_view, IsReadablePathWithContents, refusal_by_checks, PassesChecksWithoutDeviceCalls, EndsChecksWithError, IsResultOfOperationChecks}
+use Rattle.lfs_lookup.specs.RefusalErrors.{refusal_error, error_refusal}
+use Rattle.lfs_fs.specs.Replies.{value_unless}
+use Rattle.lfs_tree.specs.TreeState.{TreeState, tree_view, tree_summary, OnlyReadsTree, FailedByReading, HasErrorCause}
+use Rattle.lfs_tree.specs.Permissions.{CanMakeDirectory}
+use Rattle.lfs_model.specs.layers.BlockSets.{in_flight_count}
+use Rattle.lfs_lookup.specs.FileContents.{IsStorageAt}
+use Rattle.lfs_lookup.specs.Finds.{IsFoundNode, is_absent, is_directory_node, is_file_node, node_size_if_file}
+use Rattle.lfs_fs.specs.SessionView.{SessionView, viewed_session, IsReadableWith, refusal_by_checks, PassesChecks, EndsChecks, IsChecksResult}
 use Rattle.lfs_lookup.specs.declared.file_contents.FileContents.{FileContents}
 use Rattle.lfs_lookup.specs.declared.found_entries.FoundNode.{FoundNode}
 use Rattle.lfs_lookup.specs.declared.found_entries.Node.{Node}
@@ -30,21 +30,21 @@ use Rattle.lfs_fs.proofs.Errors.{error_refuses, refusal_again}
 use Rattle.lfs_fs.proofs.Late.{mkdir_late, reader_late, stat_late}
 
 -- a call failed on the way
-pub lookup_failed : {A : Type 0} (h : SessionView) (op : Operation) (P : A → Type 0) (e : Error) (tree : TreeState) (r : Result A Error) → false ≡ h.tree.failed → IsTreeFailedByRead h.tree tree → IsIoWithFaultOrNoMemory h.tree tree e →
-    PassesChecksWithoutDeviceCalls h op → r ≡ Err e → IsResultOfOperationChecks h op P r tree
+pub lookup_failed : {A : Type 0} (h : SessionView) (op : Operation) (P : A → Type 0) (e : Error) (tree : TreeState) (r : Result A Error) → false ≡ h.tree.failed → FailedByReading h.tree tree → HasErrorCause h.tree tree e →
+    PassesChecks h op → r ≡ Err e → IsChecksResult h op P r tree
 lookup_failed h op P e tree r works broken error late is =
-    subst (λ z. IsResultOfOperationChecks h op P z tree) (sym is)
-    (subst (λ b. EndsChecksWithError b h op e tree) (sym (no_refusal_io e error.errors)) (broken, sym works, error, late))
+    subst (λ z. IsChecksResult h op P z tree) (sym is)
+    (subst (λ b. EndsChecks b h op e tree) (sym (no_refusal_io e error.errors)) (broken, sym works, error, late))
 
 -- the last checks decide
-pub decided : {A : Type 0} (h : SessionView) (op : Operation) (P : A → Type 0) (x : A) (first : Option Refusal) (tree : TreeState) (r : Result A Error) → WasTreeOnlyRead h.tree tree → PassesChecksWithoutDeviceCalls h op → refusal_by_checks h op ≡ first → (first ≡ None → P x) →
-    r ≡ value_unless_refused first x → IsResultOfOperationChecks h op P r tree
-decided h op P x None tree r asked late e p is = subst (λ z. IsResultOfOperationChecks h op P z tree) (sym is) (asked, e, p refl)
+pub decided : {A : Type 0} (h : SessionView) (op : Operation) (P : A → Type 0) (x : A) (first : Option Refusal) (tree : TreeState) (r : Result A Error) → OnlyReadsTree h.tree tree → PassesChecks h op → refusal_by_checks h op ≡ first → (first ≡ None → P x) →
+    r ≡ value_unless first x → IsChecksResult h op P r tree
+decided h op P x None tree r asked late e p is = subst (λ z. IsChecksResult h op P z tree) (sym is) (asked, e, p refl)
 decided h op P x (Some refusal) tree r asked late e p is =
-    subst (λ z. IsResultOfOperationChecks h op P z tree) (sym is)
-    (subst (λ b. EndsChecksWithError b h op (error_of_refusal refusal) tree) (sym (error_refuses refusal)) (asked, reported, λ once. absurd (let k = sym (late _ reported) ∙ once in cc)))
+    subst (λ z. IsChecksResult h op P z tree) (sym is)
+    (subst (λ b. EndsChecks b h op (refusal_error refusal) tree) (sym (error_refuses refusal)) (asked, reported, λ once. absurd (let k = sym (late _ reported) ∙ once in cc)))
   where
-    reported : refusal_by_checks h op ≡ Some (refusal_of_error (error_of_refusal refusal))
+    reported : refusal_by_checks h op ≡ Some (error_refusal (refusal_error refusal))
     reported = e ∙ ap (λ z. Some z) (sym (refusal_again refusal))
 
 pub both : {A : Type 0} {x y : A} {xs ys : List A} → x ≡ y → xs ≡ ys → x ∷ xs ≡ y ∷ ys
@@ -57,47 +57,47 @@ pub there : {A : Type 0} → (o : Option A) → is_some o ≡ not (is_none o)
 there None = refl
 there (Some x) = refl
 
-stat_refused : (h : SessionView) (bytes : List ℕ) (p : Path) (found : FoundNode) → h.tree.failed ≡ false → path_of_bytes bytes ≡ Some p → IsFoundNodeAtPath (tree_view h.tree) p found →
-    refusal_by_checks h (ops.Stat bytes) ≡ first_refusal_in_list (found.fault ∷ refuse_if (is_absent_node found.node) ops.NoEnt ∷ [])
+stat_refused : (h : SessionView) (bytes : List ℕ) (p : Path) (found : FoundNode) → h.tree.failed ≡ false → parse_path bytes ≡ Some p → IsFoundNode (tree_view h.tree) p found →
+    refusal_by_checks h (ops.Stat bytes) ≡ first_refusal (found.fault ∷ refuse_if (is_absent found.node) ops.NoEnt ∷ [])
 stat_refused h bytes p found works is f = rw (works, is, f.parents, f.nothing) refl
 
-size_found : (h : SessionView) (bytes : List ℕ) (p : Path) (found : FoundNode) → path_of_bytes bytes ≡ Some p → IsFoundNodeAtPath (tree_view h.tree) p found → file_size_of_node (tree_view h.tree (path_of_bytes_or_root bytes)) ≡ size_of_node_if_file found.node
-size_found h bytes p found is f = ap (λ z. file_size_of_node (tree_view h.tree (unwrap_or z []))) is ∙ f.sizes
+size_found : (h : SessionView) (bytes : List ℕ) (p : Path) (found : FoundNode) → parse_path bytes ≡ Some p → IsFoundNode (tree_view h.tree) p found → node_file_size (tree_view h.tree (path_or_root bytes)) ≡ node_size_if_file found.node
+size_found h bytes p found is f = ap (λ z. node_file_size (tree_view h.tree (unwrap_or z []))) is ∙ f.sizes
 
 pub stat_checked : {A : Type 0} (view : A → Option ℕ) (h : SessionView) (bytes : List ℕ) (p : Path) (found : FoundNode) (tree : TreeState) (absent : Bool) (a : Option Refusal) (x : A) (r : Result A Error) →
-    false ≡ h.tree.failed → Some p ≡ path_of_bytes bytes → WasTreeOnlyRead h.tree tree → IsFoundNodeAtPath (tree_view h.tree) p found →
-    absent ≡ is_absent_node found.node → a ≡ refuse_if absent ops.NoEnt → view x ≡ size_of_node_if_file found.node → r ≡ value_unless_refused (first_refusal_in_list (found.fault ∷ a ∷ [])) x →
-    IsResultOfOperationChecks h (ops.Stat bytes) (λ z. file_size_of_node (tree_view h.tree (path_of_bytes_or_root bytes)) ≡ view z) r tree
+    false ≡ h.tree.failed → Some p ≡ parse_path bytes → OnlyReadsTree h.tree tree → IsFoundNode (tree_view h.tree) p found →
+    absent ≡ is_absent found.node → a ≡ refuse_if absent ops.NoEnt → view x ≡ node_size_if_file found.node → r ≡ value_unless (first_refusal (found.fault ∷ a ∷ [])) x →
+    IsChecksResult h (ops.Stat bytes) (λ z. node_file_size (tree_view h.tree (path_or_root bytes)) ≡ view z) r tree
 stat_checked view h bytes p found tree absent a x r works is asked f absent_is a_is size_is r_is =
-    decided h (ops.Stat bytes) (λ z. file_size_of_node (tree_view h.tree (path_of_bytes_or_root bytes)) ≡ view z) x _ tree r asked (stat_late h bytes p works is)
-    (stat_refused h bytes p found (sym works) (sym is) f ∙ ap (λ z. first_refusal_in_list (found.fault ∷ z ∷ [])) (sym (a_is ∙ ap (λ b. refuse_if b ops.NoEnt) absent_is)))
+    decided h (ops.Stat bytes) (λ z. node_file_size (tree_view h.tree (path_or_root bytes)) ≡ view z) x _ tree r asked (stat_late h bytes p works is)
+    (stat_refused h bytes p found (sym works) (sym is) f ∙ ap (λ z. first_refusal (found.fault ∷ z ∷ [])) (sym (a_is ∙ ap (λ b. refuse_if b ops.NoEnt) absent_is)))
     (λ none. size_found h bytes p found (sym is) f ∙ sym size_is) r_is
 
-mkdir_refused : (h : SessionView) (bytes : List ℕ) (p : Path) (found : FoundNode) → h.tree.failed ≡ false → h.tree.writable ≡ true → path_of_bytes bytes ≡ Some p → IsFoundNodeAtPath (tree_view h.tree) p found →
-    refusal_by_checks h (ops.Mkdir bytes) ≡ first_refusal_in_list (found.fault ∷ refuse_if (has_too_long_last_name (disk_summary_of_tree h.tree) p) ops.NameTooLong ∷ refuse_if (not (is_absent_node found.node)) ops.Exist
-    ∷ refuse_if (is_entry_over_charge_limit (disk_summary_of_tree h.tree) (last_name_of_path p) []) ops.EntryFull ∷ refuse_if (lacks_free_blocks (disk_summary_of_tree h.tree) h.files 4) ops.NoSpace ∷ [])
+mkdir_refused : (h : SessionView) (bytes : List ℕ) (p : Path) (found : FoundNode) → h.tree.failed ≡ false → h.tree.writable ≡ true → parse_path bytes ≡ Some p → IsFoundNode (tree_view h.tree) p found →
+    refusal_by_checks h (ops.Mkdir bytes) ≡ first_refusal (found.fault ∷ refuse_if (has_long_name (tree_summary h.tree) p) ops.NameTooLong ∷ refuse_if (not (is_absent found.node)) ops.Exist
+    ∷ refuse_if (is_over_charge (tree_summary h.tree) (last_name p) []) ops.EntryFull ∷ refuse_if (lacks_free (tree_summary h.tree) h.files 4) ops.NoSpace ∷ [])
 mkdir_refused h bytes p found works writable is f = rw (works, writable, is, f.parents, there (tree_view h.tree p), f.nothing) refl
 
 pub mkdir_checked : (h : SessionView) (bytes : List ℕ) (p : Path) (found : FoundNode) (tree : TreeState) (len other : ℕ) (long absent over lack : Bool) (a b d e : Option Refusal) (r : Result Path Error) →
-    false ≡ h.tree.failed → true ≡ h.tree.writable → Some p ≡ path_of_bytes bytes → WasTreeOnlyRead h.tree tree → IsFoundNodeAtPath (tree_view h.tree) p found →
-    len ≡ length (last_name_of_path p) → long ≡ nat_lt (name_max_of tree.disk.profile) len → a ≡ refuse_if long ops.NameTooLong →
-    absent ≡ is_absent_node found.node → b ≡ refuse_if (not absent) ops.Exist →
-    other ≡ length (last_name_of_path p) → ((name : List ℕ) → length name ≡ other → over ≡ is_entry_over_charge_limit (disk_summary_of_tree tree) name []) → d ≡ refuse_if over ops.EntryFull →
-    lack ≡ lacks_free_blocks (disk_summary_of_tree tree) h.files 4 → e ≡ refuse_if lack ops.NoSpace →
-    r ≡ value_unless_refused (first_refusal_in_list (found.fault ∷ a ∷ b ∷ d ∷ e ∷ [])) p → IsResultOfOperationChecks h (ops.Mkdir bytes) (λ path. path ≡ path_of_bytes_or_root bytes) r tree
+    false ≡ h.tree.failed → true ≡ h.tree.writable → Some p ≡ parse_path bytes → OnlyReadsTree h.tree tree → IsFoundNode (tree_view h.tree) p found →
+    len ≡ length (last_name p) → long ≡ nat_lt (name_max_of tree.disk.profile) len → a ≡ refuse_if long ops.NameTooLong →
+    absent ≡ is_absent found.node → b ≡ refuse_if (not absent) ops.Exist →
+    other ≡ length (last_name p) → ((name : List ℕ) → length name ≡ other → over ≡ is_over_charge (tree_summary tree) name []) → d ≡ refuse_if over ops.EntryFull →
+    lack ≡ lacks_free (tree_summary tree) h.files 4 → e ≡ refuse_if lack ops.NoSpace →
+    r ≡ value_unless (first_refusal (found.fault ∷ a ∷ b ∷ d ∷ e ∷ [])) p → IsChecksResult h (ops.Mkdir bytes) (λ path. path ≡ path_or_root bytes) r tree
 mkdir_checked h bytes p found tree len other long absent over lack a b d e r works writable is asked f len_is long_is a_is absent_is b_is other_is over_is d_is lack_is e_is r_is =
-    decided h (ops.Mkdir bytes) (λ path. path ≡ path_of_bytes_or_root bytes) p _ tree r asked (mkdir_late h bytes p works writable is)
-    (mkdir_refused h bytes p found (sym works) (sym writable) (sym is) f ∙ ap first_refusal_in_list (sym lists))
+    decided h (ops.Mkdir bytes) (λ path. path ≡ path_or_root bytes) p _ tree r asked (mkdir_late h bytes p works writable is)
+    (mkdir_refused h bytes p found (sym works) (sym writable) (sym is) f ∙ ap first_refusal (sym lists))
     (λ none. ap (λ z. unwrap_or z []) is) r_is
   where
-    same : disk_summary_of_tree tree ≡ disk_summary_of_tree h.tree
-    same = ap disk_summary_of_tree asked.same
+    same : tree_summary tree ≡ tree_summary h.tree
+    same = ap tree_summary asked.same
 
-    lists : (found.fault ∷ a ∷ b ∷ d ∷ e ∷ []) ≡ (found.fault ∷ refuse_if (has_too_long_last_name (disk_summary_of_tree h.tree) p) ops.NameTooLong ∷ refuse_if (not (is_absent_node found.node)) ops.Exist
-        ∷ refuse_if (is_entry_over_charge_limit (disk_summary_of_tree h.tree) (last_name_of_path p) []) ops.EntryFull ∷ refuse_if (lacks_free_blocks (disk_summary_of_tree h.tree) h.files 4) ops.NoSpace ∷ [])
+    lists : (found.fault ∷ a ∷ b ∷ d ∷ e ∷ []) ≡ (found.fault ∷ refuse_if (has_long_name (tree_summary h.tree) p) ops.NameTooLong ∷ refuse_if (not (is_absent found.node)) ops.Exist
+        ∷ refuse_if (is_over_charge (tree_summary h.tree) (last_name p) []) ops.EntryFull ∷ refuse_if (lacks_free (tree_summary h.tree) h.files 4) ops.NoSpace ∷ [])
     lists = both refl (both (when ops.NameTooLong a_is (long_is ∙ ap₂ (λ (around : DiskSummary) n. nat_lt (name_max_of around.profile) n) same len_is)) (both (when ops.Exist b_is (ap not absent_is))
-        (both (when ops.EntryFull d_is (over_is (last_name_of_path p) (sym other_is) ∙ ap (λ around. is_entry_over_charge_limit around (last_name_of_path p) []) same))
-        (both (when ops.NoSpace e_is (lack_is ∙ ap (λ around. lacks_free_blocks around h.files 4) same)) refl))))
+        (both (when ops.EntryFull d_is (over_is (last_name p) (sym other_is) ∙ ap (λ around. is_over_charge around (last_name p) []) same))
+        (both (when ops.NoSpace e_is (lack_is ∙ ap (λ around. lacks_free around h.files 4) same)) refl))))
 
 -- ---- what no check refuses
 
@@ -114,25 +114,25 @@ negated true e = refl
 negated false e = absurd (cc)
 
 -- an operation that checks first whether the image may be written
-pub passed_writable : (h : SessionView) (op : Operation) (rest : Option Refusal) → refusal_of_operation (disk_summary_of_tree h.tree) (session_of_session_view h) op ≡ option_or (refuse_if (not h.tree.writable) ops.ReadOnly) rest → refusal_by_checks h op ≡ None → h.tree.writable ≡ true
+pub passed_writable : (h : SessionView) (op : Operation) (rest : Option Refusal) → operation_refusal (tree_summary h.tree) (viewed_session h) op ≡ option_or (refuse_if (not h.tree.writable) ops.ReadOnly) rest → refusal_by_checks h op ≡ None → h.tree.writable ≡ true
 passed_writable h op rest is e = negated h.tree.writable (unrefused (not h.tree.writable) ops.ReadOnly (neither _ rest (sym is ∙ not_refused h op e)).0)
 
 pub room_left : (n m k f l : ℕ) → f ≤ k → nat_lt n (m + k + l) ≡ false → m + f + l ≤ n
 room_left n m k f l few e = grind (arith, nat_tests)
 
 -- there is room beside what is held back
-pub mkdir_space : (h : SessionView) (bytes : List ℕ) → refusal_by_checks h (ops.Mkdir bytes) ≡ None → lacks_free_blocks (disk_summary_of_tree h.tree) h.files 4 ≡ false
+pub mkdir_space : (h : SessionView) (bytes : List ℕ) → refusal_by_checks h (ops.Mkdir bytes) ≡ None → lacks_free (tree_summary h.tree) h.files 4 ≡ false
 mkdir_space h bytes e =
     let a = neither (refuse_if (not h.tree.writable) ops.ReadOnly) _ (not_refused h (ops.Mkdir bytes) e) in
-    let b = neither (refuse_if (is_none (path_of_bytes bytes)) ops.Invalid) _ a.1 in
-    let c = neither (refusal_unless_parents_are_directories (tree_view h.tree) [] (path_of_bytes_or_root bytes)) _ b.1 in
-    let d = neither (refuse_if (has_too_long_last_name (disk_summary_of_tree h.tree) (path_of_bytes_or_root bytes)) ops.NameTooLong) _ c.1 in
-    let i = neither (refuse_if (is_some (tree_view h.tree (path_of_bytes_or_root bytes))) ops.Exist) _ d.1 in
-    let j = neither (refuse_if (is_entry_over_charge_limit (disk_summary_of_tree h.tree) (last_name_of_path (path_of_bytes_or_root bytes)) []) ops.EntryFull) _ i.1 in
-    let k = neither (refuse_if (lacks_free_blocks (disk_summary_of_tree h.tree) h.files 4) ops.NoSpace) None j.1 in
-    unrefused (lacks_free_blocks (disk_summary_of_tree h.tree) h.files 4) ops.NoSpace k.0
+    let b = neither (refuse_if (is_none (parse_path bytes)) ops.Invalid) _ a.1 in
+    let c = neither (parents_refusal (tree_view h.tree) [] (path_or_root bytes)) _ b.1 in
+    let d = neither (refuse_if (has_long_name (tree_summary h.tree) (path_or_root bytes)) ops.NameTooLong) _ c.1 in
+    let i = neither (refuse_if (is_some (tree_view h.tree (path_or_root bytes))) ops.Exist) _ d.1 in
+    let j = neither (refuse_if (is_over_charge (tree_summary h.tree) (last_name (path_or_root bytes)) []) ops.EntryFull) _ i.1 in
+    let k = neither (refuse_if (lacks_free (tree_summary h.tree) h.files 4) ops.NoSpace) None j.1 in
+    unrefused (lacks_free (tree_summary h.tree) h.files 4) ops.NoSpace k.0
 
-mkdir_passed : (h : SessionView) (bytes : List ℕ) → in_flight_block_count h.tree.map ≤ reserved_block_count_of_writers h.tree.disk.profile h.tree.disk.block_size h.files → refusal_by_checks h (ops.Mkdir bytes) ≡ None → CanMakeDirectoryAtPath h.tree (path_of_bytes_or_root bytes)
+mkdir_passed : (h : SessionView) (bytes : List ℕ) → in_flight_count h.tree.map ≤ reserved_for_writers h.tree.disk.profile h.tree.disk.block_size h.files → refusal_by_checks h (ops.Mkdir bytes) ≡ None → CanMakeDirectory h.tree (path_or_root bytes)
 mkdir_passed h bytes flight e =
     let a = neither _ _ (not_refused h (ops.Mkdir bytes) e) in
     let b = neither _ _ a.1 in
@@ -147,19 +147,19 @@ mkdir_passed h bytes flight e =
       name = unrefused _ _ d.0;
       nothing = unrefused _ _ i.0;
       fits = unrefused _ _ j.0;
-      room = room_left (block_count h.tree.disk) (length (disk_summary_of_tree h.tree).used) (reserved_block_count_of_writers h.tree.disk.profile h.tree.disk.block_size h.files) (in_flight_block_count h.tree.map) 4 flight (mkdir_space h bytes e);
+      room = room_left (block_count h.tree.disk) (length (tree_summary h.tree).used) (reserved_for_writers h.tree.disk.profile h.tree.disk.block_size h.files) (in_flight_count h.tree.map) 4 flight (mkdir_space h bytes e);
     }
 
 -- the directory can be made at the path that the checks let pass
-pub mkdir_can : (h : SessionView) (bytes : List ℕ) (path : Path) (tree : TreeState) → (h.tree.failed ≡ false → in_flight_block_count h.tree.map ≤ reserved_block_count_of_writers h.tree.disk.profile h.tree.disk.block_size h.files) → IsResultOfOperationChecks h (ops.Mkdir bytes) (λ p. p ≡ path_of_bytes_or_root bytes) (Ok path) tree → CanMakeDirectoryAtPath tree path
+pub mkdir_can : (h : SessionView) (bytes : List ℕ) (path : Path) (tree : TreeState) → (h.tree.failed ≡ false → in_flight_count h.tree.map ≤ reserved_for_writers h.tree.disk.profile h.tree.disk.block_size h.files) → IsChecksResult h (ops.Mkdir bytes) (λ p. p ≡ path_or_root bytes) (Ok path) tree → CanMakeDirectory tree path
 mkdir_can h bytes path tree ready c =
     let can = mkdir_passed h bytes (ready (not_failed h (ops.Mkdir bytes) c.1)) c.1 in
-    subst (λ t. CanMakeDirectoryAtPath t path) (sym c.0.same) (subst (λ z. CanMakeDirectoryAtPath (record h.tree { history = tree.history; cache = tree.cache }) z) (sym c.2)
+    subst (λ t. CanMakeDirectory t path) (sym c.0.same) (subst (λ z. CanMakeDirectory (record h.tree { history = tree.history; cache = tree.cache }) z) (sym c.2)
     (record { works = can.works; writable = can.writable; parents = can.parents; name = can.name; nothing = can.nothing; fits = can.fits; room = can.room }))
 
 -- ---- an open for reading
 
-no_writing : (f : FlagsOfOpen) → f.write ≡ false → are_flags_allowed f ≡ true → (f.create ≡ false) × (f.exclusive ≡ false) × (f.truncate ≡ false)
+no_writing : (f : FlagsOfOpen) → f.write ≡ false → are_allowed f ≡ true → (f.create ≡ false) × (f.exclusive ≡ false) × (f.truncate ≡ false)
 no_writing f = go f.unknown f.write f.read f.create f.exclusive f.truncate f.append
   where
     go : (u w r c e t a : Bool) → w ≡ false → (not u && (if w then not r && (c || not e) else r && not (c || e || t || a))) ≡ true → (c ≡ false) × (e ≡ false) × (t ≡ false)
@@ -172,31 +172,31 @@ no_writing f = go f.unknown f.write f.read f.create f.exclusive f.truncate f.app
     go false false true false false false a h k = (refl, refl, refl)
 
 abbrev is_busy : SessionView → Path → Bool
-is_busy h p = list_any (λ w. same_path p w.path) (writers_of_open_files h.files) || nat_le 16 (length (readers_of_open_files h.files))
+is_busy h p = list_any (λ w. same_path p w.path) (all_writers h.files) || nat_le 16 (length (all_readers h.files))
 
-open_refused : (h : SessionView) (bytes : List ℕ) (p : Path) (flags : FlagsOfOpen) (found : FoundNode) → h.tree.failed ≡ false → path_of_bytes bytes ≡ Some p → flags.write ≡ false → are_flags_allowed flags ≡ true → IsFoundNodeAtPath (tree_view h.tree) p found →
-    refusal_by_checks h (ops.Open bytes flags) ≡ first_refusal_in_list (found.fault ∷ refuse_if (is_absent_node found.node) ops.NoEnt ∷ refuse_if (is_directory_node found.node) ops.IsDir ∷ refuse_if (is_busy h p) ops.Busy ∷ [])
+open_refused : (h : SessionView) (bytes : List ℕ) (p : Path) (flags : FlagsOfOpen) (found : FoundNode) → h.tree.failed ≡ false → parse_path bytes ≡ Some p → flags.write ≡ false → are_allowed flags ≡ true → IsFoundNode (tree_view h.tree) p found →
+    refusal_by_checks h (ops.Open bytes flags) ≡ first_refusal (found.fault ∷ refuse_if (is_absent found.node) ops.NoEnt ∷ refuse_if (is_directory_node found.node) ops.IsDir ∷ refuse_if (is_busy h p) ops.Busy ∷ [])
 open_refused h bytes p flags found works is write allowed f = go (is_none (tree_view h.tree p)) refl
   where
     plain : (flags.create ≡ false) × (flags.exclusive ≡ false) × (flags.truncate ≡ false)
     plain = no_writing flags write allowed
 
     go : (b : Bool) → is_none (tree_view h.tree p) ≡ b →
-        refusal_by_checks h (ops.Open bytes flags) ≡ first_refusal_in_list (found.fault ∷ refuse_if (is_absent_node found.node) ops.NoEnt ∷ refuse_if (is_directory_node found.node) ops.IsDir ∷ refuse_if (is_busy h p) ops.Busy ∷ [])
+        refusal_by_checks h (ops.Open bytes flags) ≡ first_refusal (found.fault ∷ refuse_if (is_absent found.node) ops.NoEnt ∷ refuse_if (is_directory_node found.node) ops.IsDir ∷ refuse_if (is_busy h p) ops.Busy ∷ [])
     go true e = rw (works, allowed, write, is, f.parents, e, sym f.nothing ∙ e, plain.0) refl
     go false e = rw (works, allowed, write, is, f.parents, e, sym f.nothing ∙ e, there (tree_view h.tree p) ∙ ap not e, plain.1, plain.2, f.directories) refl
 
 pub open_checked : (h : SessionView) (bytes : List ℕ) (p : Path) (flags : FlagsOfOpen) (found : FoundNode) (tree : TreeState) (absent directory busy : Bool) (a b d : Option Refusal) (x : FileContents) (r : Result FileContents Error) →
-    (is_file (tree_view h.tree p) ≡ true → IsInlineBytesOrSkipListOfFileAtPath h.tree.pairs p x) → false ≡ h.tree.failed → Some p ≡ path_of_bytes bytes → flags.write ≡ false → true ≡ are_flags_allowed flags → WasTreeOnlyRead h.tree tree → IsFoundNodeAtPath (tree_view h.tree) p found →
-    absent ≡ is_absent_node found.node → a ≡ refuse_if absent ops.NoEnt → directory ≡ is_directory_node found.node → b ≡ refuse_if directory ops.IsDir → busy ≡ is_busy h p → d ≡ refuse_if busy ops.Busy →
-    r ≡ value_unless_refused (first_refusal_in_list (found.fault ∷ a ∷ b ∷ d ∷ [])) x →
-    IsResultOfOperationChecks h (ops.Open bytes flags) (IsReadablePathWithContents h.tree h.files bytes) r tree
+    (is_file (tree_view h.tree p) ≡ true → IsStorageAt h.tree.pairs p x) → false ≡ h.tree.failed → Some p ≡ parse_path bytes → flags.write ≡ false → true ≡ are_allowed flags → OnlyReadsTree h.tree tree → IsFoundNode (tree_view h.tree) p found →
+    absent ≡ is_absent found.node → a ≡ refuse_if absent ops.NoEnt → directory ≡ is_directory_node found.node → b ≡ refuse_if directory ops.IsDir → busy ≡ is_busy h p → d ≡ refuse_if busy ops.Busy →
+    r ≡ value_unless (first_refusal (found.fault ∷ a ∷ b ∷ d ∷ [])) x →
+    IsChecksResult h (ops.Open bytes flags) (IsReadableWith h.tree h.files bytes) r tree
 open_checked h bytes p flags found tree absent directory busy a b d x r has works is write allowed asked f absent_is a_is directory_is b_is busy_is d_is r_is =
-    decided h (ops.Open bytes flags) (IsReadablePathWithContents h.tree h.files bytes) x _ tree r asked (reader_late h bytes p flags works is write allowed)
-    (open_refused h bytes p flags found (sym works) (sym is) write (sym allowed) f ∙ ap first_refusal_in_list (sym lists))
+    decided h (ops.Open bytes flags) (IsReadableWith h.tree h.files bytes) x _ tree r asked (reader_late h bytes p flags works is write allowed)
+    (open_refused h bytes p flags found (sym works) (sym is) write (sym allowed) f ∙ ap first_refusal (sym lists))
     readable r_is
   where
-    lists : (found.fault ∷ a ∷ b ∷ d ∷ []) ≡ (found.fault ∷ refuse_if (is_absent_node found.node) ops.NoEnt ∷ refuse_if (is_directory_node found.node) ops.IsDir ∷ refuse_if (is_busy h p) ops.Busy ∷ [])
+    lists : (found.fault ∷ a ∷ b ∷ d ∷ []) ≡ (found.fault ∷ refuse_if (is_absent found.node) ops.NoEnt ∷ refuse_if (is_directory_node found.node) ops.IsDir ∷ refuse_if (is_busy h p) ops.Busy ∷ [])
     lists = both refl (both (when ops.NoEnt a_is absent_is) (both (when ops.IsDir b_is directory_is) (both (when ops.Busy d_is busy_is) refl)))
 
     second : (x y : Bool) → (x || y) ≡ false → y ≡ false
@@ -207,27 +207,27 @@ open_checked h bytes p flags found tree absent directory busy a b d x r has work
     first true y e = absurd (cc)
     first false y e = refl
 
-    is_a_file : (n : Node) → is_absent_node n ≡ false → is_directory_node n ≡ false → is_file_node n ≡ true
+    is_a_file : (n : Node) → is_absent n ≡ false → is_directory_node n ≡ false → is_file_node n ≡ true
     is_a_file node.Nothing e k = absurd (cc)
     is_a_file (node.File size) e k = refl
     is_a_file node.Directory e k = absurd (cc)
 
-    readable : first_refusal_in_list (found.fault ∷ a ∷ b ∷ d ∷ []) ≡ None → IsReadablePathWithContents h.tree h.files bytes x
+    readable : first_refusal (found.fault ∷ a ∷ b ∷ d ∷ []) ≡ None → IsReadableWith h.tree h.files bytes x
     readable none =
-        let k = neither found.fault (first_refusal_in_list (a ∷ b ∷ d ∷ [])) none in
-        let l = neither a (first_refusal_in_list (b ∷ d ∷ [])) k.1 in
-        let m = neither b (first_refusal_in_list (d ∷ [])) l.1 in
+        let k = neither found.fault (first_refusal (a ∷ b ∷ d ∷ [])) none in
+        let l = neither a (first_refusal (b ∷ d ∷ [])) k.1 in
+        let m = neither b (first_refusal (d ∷ [])) l.1 in
         let n = neither d None m.1 in
-        let there = unrefused (is_absent_node found.node) ops.NoEnt (sym (when ops.NoEnt a_is absent_is) ∙ l.0) in
+        let there = unrefused (is_absent found.node) ops.NoEnt (sym (when ops.NoEnt a_is absent_is) ∙ l.0) in
         let leaf = unrefused (is_directory_node found.node) ops.IsDir (sym (when ops.IsDir b_is directory_is) ∙ m.0) in
         let free = unrefused (is_busy h p) ops.Busy (sym (when ops.Busy d_is busy_is) ∙ n.0) in
-        let path : p ≡ path_of_bytes_or_root bytes = ap (λ z. unwrap_or z []) is in
+        let path : p ≡ path_or_root bytes = ap (λ z. unwrap_or z []) is in
         record {
           readable = record {
             given = ap is_some (sym is);
             there = ap (λ q. is_none (tree_view h.tree q)) (sym path) ∙ f.nothing ∙ there;
-            few = second (list_any (λ w. same_path p w.path) (writers_of_open_files h.files)) (nat_le 16 (length (readers_of_open_files h.files))) free;
-            apart = ap (λ q. list_any (λ w. same_path q w.path) (writers_of_open_files h.files)) (sym path) ∙ first (list_any (λ w. same_path p w.path) (writers_of_open_files h.files)) (nat_le 16 (length (readers_of_open_files h.files))) free;
+            few = second (list_any (λ w. same_path p w.path) (all_writers h.files)) (nat_le 16 (length (all_readers h.files))) free;
+            apart = ap (λ q. list_any (λ w. same_path q w.path) (all_writers h.files)) (sym path) ∙ first (list_any (λ w. same_path p w.path) (all_writers h.files)) (nat_le 16 (length (all_readers h.files))) free;
           };
-          contents = subst (λ q. IsInlineBytesOrSkipListOfFileAtPath h.tree.pairs q x) path (has (f.files ∙ is_a_file found.node there leaf));
+          contents = subst (λ q. IsStorageAt h.tree.pairs q x) path (has (f.files ∙ is_a_file found.node there leaf));
         }

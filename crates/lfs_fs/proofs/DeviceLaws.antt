@@ -2,59 +2,59 @@
 use Rattle.std.proofs.Common.{◌≡◌, false, List, [], ◌∷◌, ◌++◌, Result, refl, sym, ap, subst, ◌∙◌}
 use Rattle.lfs_device.specs.declared.device.BlockDevice.{Ghosts}
 use Rattle.lfs_device.specs.declared.error.Error.{Error}
-use Rattle.lfs_model.specs.Blocks.{Blocks}
-use Rattle.lfs_model.specs.Disk.{Disk}
-use Rattle.lfs_model.specs.History.{DeviceCallEvent, IsTrueOfEachCall, AreBlocksLeftByNewestCall, IsReadThatKeepsBlocks, AreCallsSinceOnlyReads, read_count_of_call}
-use Rattle.lfs_model.specs.Conformance.{DoSuccessfulCallsHaveOnlyTheirEffect, HasOnlyItsEffectIfSuccessful}
-use Rattle.lfs_model.specs.Operations.{Operation}
+use Rattle.lfs_model.specs.format.Blocks.{Blocks}
+use Rattle.lfs_model.specs.format.Disk.{Disk}
+use Rattle.lfs_model.specs.session.History.{CallEvent, AllCalls, LeftByLatest, IsRead, OnlyReadsSince, call_reads}
+use Rattle.lfs_model.specs.crash.Conformance.{CallsConform, ConformsTo}
+use Rattle.lfs_model.specs.session.Operations.{Operation}
 use Rattle.lfs_model.proofs.Conformance.{conforms_next}
-use Rattle.lfs_tree.specs.TreeState.{WasTreeOnlyRead, TreeState}
-use Rattle.lfs_fs.specs.FileView.{RuntimeOpenFilesByNumber}
-use Rattle.lfs_fs.specs.SessionView.{IsResultOfOperationChecks, session_view_of_tree_and_files}
+use Rattle.lfs_tree.specs.TreeState.{OnlyReadsTree, TreeState}
+use Rattle.lfs_fs.specs.FileView.{RuntimeFiles}
+use Rattle.lfs_fs.specs.SessionView.{IsChecksResult, view_of_session}
 use Rattle.lfs_fs.proofs.Answered.{asked_by_checks, checked_ready}
-use Rattle.lfs_fs.specs.DeviceLaws.{HasSessionInvariant, IsDiskLeftByConformingDeviceCalls}
+use Rattle.lfs_fs.specs.DeviceLaws.{HasInvariant, LeftConforming}
 
 -- of the device that is lent
-pub laws_met : {D : Type 0} (g : Ghosts D) (device : D) (t : TreeState) → g.blocks device ≡ t.disk.blocks → g.history device ≡ t.history → AreBlocksLeftByNewestCall (g.history device) (g.blocks device) → DoSuccessfulCallsHaveOnlyTheirEffect (g.history device) → IsDiskLeftByConformingDeviceCalls t
+pub laws_met : {D : Type 0} (g : Ghosts D) (device : D) (t : TreeState) → g.blocks device ≡ t.disk.blocks → g.history device ≡ t.history → LeftByLatest (g.history device) (g.blocks device) → CallsConform (g.history device) → LeftConforming t
 laws_met g device t blocks history newest conforms = record {
-  newest = subst (λ (bs : Blocks). AreBlocksLeftByNewestCall t.history bs) blocks (subst (λ (h : List DeviceCallEvent). AreBlocksLeftByNewestCall h (g.blocks device)) history newest);
-  conforms = subst DoSuccessfulCallsHaveOnlyTheirEffect history conforms;
+  newest = subst (λ (bs : Blocks). LeftByLatest t.history bs) blocks (subst (λ (h : List CallEvent). LeftByLatest h (g.blocks device)) history newest);
+  conforms = subst CallsConform history conforms;
 }
 
 -- ---- behind reads
 
-conforming_reads : (blocks : Blocks) (e : DeviceCallEvent) → IsReadThatKeepsBlocks blocks e → HasOnlyItsEffectIfSuccessful e
+conforming_reads : (blocks : Blocks) (e : CallEvent) → IsRead blocks e → ConformsTo e
 conforming_reads blocks e read = record {
   reads = λ b o n is ok. read.after ∙ sym read.before;
-  programs = λ b o bytes is ok. absurd (let k = sym (ap read_count_of_call is) ∙ read.reads in cc);
-  others = λ b o bytes is ok. absurd (let k = sym (ap read_count_of_call is) ∙ read.reads in cc);
-  erases = λ b is ok. absurd (let k = sym (ap read_count_of_call is) ∙ read.reads in cc);
-  blanks = λ b o n is ok. absurd (let k = sym (ap read_count_of_call is) ∙ read.reads in cc);
+  programs = λ b o bytes is ok. absurd (let k = sym (ap call_reads is) ∙ read.reads in cc);
+  others = λ b o bytes is ok. absurd (let k = sym (ap call_reads is) ∙ read.reads in cc);
+  erases = λ b is ok. absurd (let k = sym (ap call_reads is) ∙ read.reads in cc);
+  blanks = λ b o n is ok. absurd (let k = sym (ap call_reads is) ∙ read.reads in cc);
 }
 
-abbrev left_by : List DeviceCallEvent → Blocks
+abbrev left_by : List CallEvent → Blocks
 left_by [] = []
 left_by (e ∷ older) = e.after
 
-reported_later : (t new : TreeState) → IsDiskLeftByConformingDeviceCalls t → AreCallsSinceOnlyReads t.disk.blocks t.history new.history → new.disk ≡ t.disk → IsDiskLeftByConformingDeviceCalls new
+reported_later : (t new : TreeState) → LeftConforming t → OnlyReadsSince t.disk.blocks t.history new.history → new.disk ≡ t.disk → LeftConforming new
 reported_later t new reported reads same = record {
-  newest = subst (λ (d : Disk). AreBlocksLeftByNewestCall new.history d.blocks) (sym same) (subst (λ h. AreBlocksLeftByNewestCall h t.disk.blocks) (sym reads.extends) (newest_on reads.events reads.each));
-  conforms = subst DoSuccessfulCallsHaveOnlyTheirEffect (sym reads.extends) (conforming_on reads.events reads.each);
+  newest = subst (λ (d : Disk). LeftByLatest new.history d.blocks) (sym same) (subst (λ h. LeftByLatest h t.disk.blocks) (sym reads.extends) (newest_on reads.events reads.each));
+  conforms = subst CallsConform (sym reads.extends) (conforming_on reads.events reads.each);
 }
   where
-    newest_on : (events : List DeviceCallEvent) → IsTrueOfEachCall (IsReadThatKeepsBlocks t.disk.blocks) events → AreBlocksLeftByNewestCall (events ++ t.history) t.disk.blocks
+    newest_on : (events : List CallEvent) → AllCalls (IsRead t.disk.blocks) events → LeftByLatest (events ++ t.history) t.disk.blocks
     newest_on [] each = reported.newest
     newest_on (e ∷ events) each = λ first older is. ap left_by (sym is) ∙ each.0.after
 
-    conforming_on : (events : List DeviceCallEvent) → IsTrueOfEachCall (IsReadThatKeepsBlocks t.disk.blocks) events → DoSuccessfulCallsHaveOnlyTheirEffect (events ++ t.history)
+    conforming_on : (events : List CallEvent) → AllCalls (IsRead t.disk.blocks) events → CallsConform (events ++ t.history)
     conforming_on [] each = reported.conforms
     conforming_on (e ∷ events) each = conforms_next refl (conforming_reads t.disk.blocks e each.0) (conforming_on events each.1)
 
-pub reported_asked : (t new : TreeState) → (t.failed ≡ false → IsDiskLeftByConformingDeviceCalls t) → WasTreeOnlyRead t new → new.failed ≡ false → IsDiskLeftByConformingDeviceCalls new
+pub reported_asked : (t new : TreeState) → (t.failed ≡ false → LeftConforming t) → OnlyReadsTree t new → new.failed ≡ false → LeftConforming new
 reported_asked t new reported asked works = reported_later t new (reported (sym (ap (λ (s : TreeState). s.failed) asked.same) ∙ works)) asked.reads (ap (λ (s : TreeState). s.disk) asked.same)
 
 -- behind checks
-pub between_checked : {A : Type 0} (t : TreeState) (files : RuntimeOpenFilesByNumber) (op : Operation) (P : A → Type 0) (r : Result A Error) (tree : TreeState) → HasSessionInvariant t files → IsResultOfOperationChecks (session_view_of_tree_and_files t files) op P r tree → HasSessionInvariant tree files
+pub between_checked : {A : Type 0} (t : TreeState) (files : RuntimeFiles) (op : Operation) (P : A → Type 0) (r : Result A Error) (tree : TreeState) → HasInvariant t files → IsChecksResult (view_of_session t files) op P r tree → HasInvariant tree files
 between_checked t files op P r tree between h = record {
   ready = checked_ready t files op P r tree between.ready h;
   reported = λ works. reported_asked t tree between.reported (asked_by_checks t files op P r tree h works) works;

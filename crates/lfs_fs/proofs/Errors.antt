@@ -2,11 +2,11 @@
 use Rattle.std.proofs.Common.{◌≡◌, true, Result, Ok, Err, refl, sym, ap, ◌∙◌}
 use Rattle.std.specs.Result.{IsErrAnd}
 use Rattle.lfs_device.specs.declared.error.Error.{Error}
-use Rattle.lfs_model.specs.Operations as ops
-use Rattle.lfs_model.specs.Operations.{Refusal}
-use Rattle.lfs_lookup.specs.Refusals.{error_survives_conversion_to_refusal_and_back, error_of_refusal, is_refusal, refusal_of_error}
+use Rattle.lfs_model.specs.session.Operations as ops
+use Rattle.lfs_model.specs.session.Operations.{Refusal}
+use Rattle.lfs_lookup.specs.RefusalErrors.{error_survives_refusal, refusal_error, is_refusal, error_refusal}
 
-pub error_refuses : (r : Refusal) → is_refusal (error_of_refusal r) ≡ true
+pub error_refuses : (r : Refusal) → is_refusal (refusal_error r) ≡ true
 error_refuses ops.NoEnt = refl
 error_refuses ops.BadFile = refl
 error_refuses ops.Busy = refl
@@ -23,7 +23,7 @@ error_refuses ops.NoAttr = refl
 error_refuses ops.Failed = refl
 error_refuses ops.EntryFull = refl
 
-pub refusal_again : (r : Refusal) → refusal_of_error (error_of_refusal r) ≡ r
+pub refusal_again : (r : Refusal) → error_refusal (refusal_error r) ≡ r
 refusal_again ops.NoEnt = refl
 refusal_again ops.BadFile = refl
 refusal_again ops.Busy = refl
@@ -45,5 +45,5 @@ pub given_on : {A : Type 0} (e : Error) (r : Result A Error) → IsErrAnd r (λ 
 given_on e (Ok x) h = absurd h
 given_on e (Err x) h = ap (λ z. Err z) h
 
-pub passed_on : (r : Refusal) (e : Error) → refusal_of_error e ≡ r → is_refusal e ≡ true → e ≡ error_of_refusal r
-passed_on r e is refuses = sym (error_survives_conversion_to_refusal_and_back e refuses) ∙ ap error_of_refusal is
+pub passed_on : (r : Refusal) (e : Error) → error_refusal e ≡ r → is_refusal e ≡ true → e ≡ refusal_error r
+passed_on r e is refuses = sym (error_survives_refusal e refuses) ∙ ap refusal_error is

@@ -3,25 +3,25 @@ use Rattle.std.proofs.Common.{inl, inr, ℕ, ◌≡◌, ◌+◌, ◌<◌, Bool, 
 use Rattle.std.specs.Prelude.{◌⊎◌}
 use Rattle.lfs_device.specs.declared.error.Error.{Error}
 use Rattle.lfs_device.specs.declared.error.Error.TheVariants.{Io, NoMemory}
-use Rattle.lfs_model.specs.Blocks.{Blocks}
-use Rattle.lfs_model.specs.Disk.{SameGeometry}
-use Rattle.lfs_model.specs.History.{DeviceCallEvent, DeviceCall, Read, Program, Erase, Blank, IsTrueOfEachCall, IsReadThatKeepsBlocks, read_count_of_call, program_count_of_call, erase_count_of_call, fault_count_of_history}
-use Rattle.lfs_model.specs.Operations.{Operation}
-use Rattle.lfs_model.specs.Session.{OpenFilesByNumber, Session}
-use Rattle.lfs_model.specs.State.{SessionHealth, HasFailed, Healthy, is_remount_operation}
-use Rattle.lfs_model.specs.Run.{SystemState, AreCallsWithoutWrites, is_read_only_operation, renames_to_itself}
-use Rattle.lfs_tree.specs.TreeState.{TreeState, IsSoundTreeState, WasTreeOnlyRead, IsFailedTree, IsTreeFailedByRead, IsIoWithFaultOrNoMemory}
-use Rattle.lfs_fs.specs.SessionView.{SessionView, session_view_of_tree_and_files_view, session_of_session_view, system_state_of_session_view, SessionFailsByError}
+use Rattle.lfs_model.specs.format.Blocks.{Blocks}
+use Rattle.lfs_model.specs.format.Disk.{SameGeometry}
+use Rattle.lfs_model.specs.session.History.{CallEvent, DeviceCall, Read, Program, Erase, Blank, AllCalls, IsRead, call_reads, call_programs, call_erases, fault_count}
+use Rattle.lfs_model.specs.session.Operations.{Operation}
+use Rattle.lfs_model.specs.session.Session.{OpenFilesByNumber, Session}
+use Rattle.lfs_model.specs.session.State.{SessionHealth, HasFailed, Healthy, is_remount}
+use Rattle.lfs_model.specs.session.Run.{SystemState, WriteNothing, is_read_only, renames_itself}
+use Rattle.lfs_tree.specs.TreeState.{TreeState, IsSoundState, OnlyReadsTree, IsFailedTree, FailedByReading, HasErrorCause}
+use Rattle.lfs_fs.specs.SessionView.{SessionView, view_of_files, viewed_session, system_state, SessionFails}
 
 -- ---- calls
 
-none_written : (call : DeviceCall) → read_count_of_call call ≡ 1 → (program_count_of_call call ≡ 0) × (erase_count_of_call call ≡ 0)
+none_written : (call : DeviceCall) → call_reads call ≡ 1 → (call_programs call ≡ 0) × (call_erases call ≡ 0)
 none_written (Read block off len) e = (refl, refl)
 none_written (Program block off bytes) e = absurd (cc)
 none_written (Erase block) e = absurd (cc)
 none_written (Blank block off len) e = absurd (cc)
 
-pub reads_write_nothing : (blocks : Blocks) (events : List DeviceCallEvent) → IsTrueOfEachCall (IsReadThatKeepsBlocks blocks) events → AreCallsWithoutWrites events
+pub reads_write_nothing : (blocks : Blocks) (events : List CallEvent) → AllCalls (IsRead blocks) events → WriteNothing events
 reads_write_nothing blocks [] h = (refl, refl)
 reads_write_nothing blocks (e ∷ older) h =
     let k = reads_write_nothing blocks older h.1 in
@@ -34,7 +34,7 @@ zero_left m n e = omega arith
 zero_right : (m n : ℕ) → m + n ≡ 0 → n ≡ 0
 zero_right m n e = omega arith
 
-pub nothing_written : (new old : List DeviceCallEvent) → AreCallsWithoutWrites new → AreCallsWithoutWrites old → AreCallsWithoutWrites (new ++ old)
+pub nothing_written : (new old : List CallEvent) → WriteNothing new → WriteNothing old → WriteNothing (new ++ old)
 nothing_written [] old h k = k
 nothing_written (e ∷ new) old h k =
     let l = nothing_written new old (zero_left _ _ h.0, zero_left _ _ h.1) k in
@@ -43,16 +43,16 @@ nothing_written (e ∷ new) old h k =
 -- ---- moments
 
 state_of : SessionView → Bool → SessionHealth
-state_of h b = cond b HasFailed (Healthy (session_of_session_view h))
+state_of h b = cond b HasFailed (Healthy (viewed_session h))
 
-pub failed_system : (h : SessionView) → h.tree.failed ≡ true → system_state_of_session_view h ≡ record { disk = h.tree.disk; calls = h.tree.history; state = HasFailed }
-failed_system h e = ap (λ b. record { disk = h.tree.disk; calls = h.tree.history; state = cond b HasFailed (Healthy (session_of_session_view h)) }) e
+pub failed_system : (h : SessionView) → h.tree.failed ≡ true → system_state h ≡ record { disk = h.tree.disk; calls = h.tree.history; state = HasFailed }
+failed_system h e = ap (λ b. record { disk = h.tree.disk; calls = h.tree.history; state = cond b HasFailed (Healthy (viewed_session h)) }) e
 
-pub healthy_system : (h : SessionView) → h.tree.failed ≡ false → system_state_of_session_view h ≡ record { disk = h.tree.disk; calls = h.tree.history; state = Healthy (session_of_session_view h) }
-healthy_system h e = ap (λ b. record { disk = h.tree.disk; calls = h.tree.history; state = cond b HasFailed (Healthy (session_of_session_view h)) }) e
+pub healthy_system : (h : SessionView) → h.tree.failed ≡ false → system_state h ≡ record { disk = h.tree.disk; calls = h.tree.history; state = Healthy (viewed_session h) }
+healthy_system h e = ap (λ b. record { disk = h.tree.disk; calls = h.tree.history; state = cond b HasFailed (Healthy (viewed_session h)) }) e
 
-works_not_failed : (h : SessionView) → h.tree.failed ≡ false → (system_state_of_session_view h).state ≡ HasFailed → ⊥
-works_not_failed h works f = let k : Healthy (session_of_session_view h) ≡ HasFailed = sym (ap (λ (m : SystemState). m.state) (healthy_system h works)) ∙ f in absurd (cc)
+works_not_failed : (h : SessionView) → h.tree.failed ≡ false → (system_state h).state ≡ HasFailed → ⊥
+works_not_failed h works f = let k : Healthy (viewed_session h) ≡ HasFailed = sym (ap (λ (m : SystemState). m.state) (healthy_system h works)) ∙ f in absurd (cc)
 
 same_session : (s t : Session) → Healthy s ≡ Healthy t → s ≡ t
 same_session s t e = ap or_else e
@@ -68,11 +68,11 @@ widened e (inl h) = inl h
 widened e (inr h) = inr (inl h)
 
 -- a call failed that only reads, and with it any operation
-pub asking_fails : (e : Error) (old : SessionView) (op : Operation) (tree : TreeState) (files : OpenFilesByNumber) → old.tree.failed ≡ false → IsTreeFailedByRead old.tree tree → IsIoWithFaultOrNoMemory old.tree tree e →
-    SessionFailsByError e (system_state_of_session_view old) op (system_state_of_session_view (session_view_of_tree_and_files_view tree files))
+pub asking_fails : (e : Error) (old : SessionView) (op : Operation) (tree : TreeState) (files : OpenFilesByNumber) → old.tree.failed ≡ false → FailedByReading old.tree tree → HasErrorCause old.tree tree e →
+    SessionFails e (system_state old) op (system_state (view_of_files tree files))
 asking_fails e old op tree files works broken error = record {
   fails = record {
-    failed = ap (λ (m : SystemState). m.state) (failed_system (session_view_of_tree_and_files_view tree files) broken.failed);
+    failed = ap (λ (m : SystemState). m.state) (failed_system (view_of_files tree files) broken.failed);
     geometry = subst (λ d. SameGeometry old.tree.disk d) (sym broken.disk) (record { block_size = refl; page = refl; order = refl; profile = refl; count = refl });
     calls = broken.reads.events;
     called = broken.reads.extends;
@@ -87,46 +87,46 @@ asking_fails e old op tree files works broken error = record {
   no_fault = error.no_fault;
 }
   where
-    writes : AreCallsWithoutWrites broken.reads.events
+    writes : WriteNothing broken.reads.events
     writes = reads_write_nothing old.tree.disk.blocks broken.reads.events broken.reads.each
 
 -- a call failed that changes the disk, which may be written
-pub broken_fails : (e : Error) (old : SessionView) (op : Operation) (mid new : TreeState) (files : OpenFilesByNumber) → old.tree.failed ≡ false → is_remount_operation op ≡ false → is_read_only_operation (session_of_session_view old) op ≡ false →
-    renames_to_itself op ≡ false → IsSoundTreeState old.tree → old.tree.writable ≡ true → WasTreeOnlyRead old.tree mid → IsFailedTree mid new → IsIoWithFaultOrNoMemory mid new e → SessionFailsByError e (system_state_of_session_view old) op (system_state_of_session_view (session_view_of_tree_and_files_view new files))
+pub broken_fails : (e : Error) (old : SessionView) (op : Operation) (mid new : TreeState) (files : OpenFilesByNumber) → old.tree.failed ≡ false → is_remount op ≡ false → is_read_only (viewed_session old) op ≡ false →
+    renames_itself op ≡ false → IsSoundState old.tree → old.tree.writable ≡ true → OnlyReadsTree old.tree mid → IsFailedTree mid new → HasErrorCause mid new e → SessionFails e (system_state old) op (system_state (view_of_files new files))
 broken_fails e old op mid new files works other asks itself sound writable asked broken error = record {
   fails = record {
-    failed = ap (λ (m : SystemState). m.state) (failed_system (session_view_of_tree_and_files_view new files) broken.failed);
+    failed = ap (λ (m : SystemState). m.state) (failed_system (view_of_files new files) broken.failed);
     geometry = subst (λ (t : TreeState). SameGeometry t.disk new.disk) asked.same broken.geometry;
     calls = broken.calls ++ asked.reads.events;
     called = broken.called ∙ ap (λ z. broken.calls ++ z) asked.reads.extends ∙ sym (append_assoc broken.calls asked.reads.events old.tree.history);
-    asks = λ s f a. absurd (let k = sym asks ∙ ap (λ z. is_read_only_operation z op) (same_session (session_of_session_view old) s (sym (ap (λ (m : SystemState). m.state) (healthy_system old works)) ∙ f)) ∙ a in cc);
+    asks = λ s f a. absurd (let k = sym asks ∙ ap (λ z. is_read_only z op) (same_session (viewed_session old) s (sym (ap (λ (m : SystemState). m.state) (healthy_system old works)) ∙ f)) ∙ a in cc);
     itself = λ h. absurd (let k = sym itself ∙ h in cc);
     unwritten = λ none. absurd (none old.tree.pairs sound.accepted (sound.fits writable));
     remounted = λ h. absurd (let k = sym other ∙ h in cc);
     silent = λ f h. absurd (works_not_failed old works f);
   };
   errors = widened e error.errors;
-  fault = λ h. subst (λ n. n < fault_count_of_history new.history) asked.no_fault (error.fault h);
+  fault = λ h. subst (λ n. n < fault_count new.history) asked.no_fault (error.fault h);
   no_fault = λ h. error.no_fault h ∙ asked.no_fault;
 }
 
 -- no memory is found for what the session keeps
-pub memory_error : (old mid : TreeState) → WasTreeOnlyRead old mid → IsIoWithFaultOrNoMemory old (record mid { failed = true }) NoMemory
+pub memory_error : (old mid : TreeState) → OnlyReadsTree old mid → HasErrorCause old (record mid { failed = true }) NoMemory
 memory_error old mid asked = record { errors = inr refl; fault = λ h. absurd (cc); no_fault = λ h. asked.no_fault }
 
-pub memory_broken : (old mid : TreeState) → WasTreeOnlyRead old mid → IsTreeFailedByRead old (record mid { failed = true })
+pub memory_broken : (old mid : TreeState) → OnlyReadsTree old mid → FailedByReading old (record mid { failed = true })
 memory_broken old mid asked = record {
   failed = refl;
   disk = ap (λ (t : TreeState). t.disk) asked.same;
   reads = asked.reads;
 }
 
-pub memory_fails : (old : SessionView) (op : Operation) (mid : TreeState) (files : OpenFilesByNumber) → old.tree.failed ≡ false → WasTreeOnlyRead old.tree mid →
-    SessionFailsByError NoMemory (system_state_of_session_view old) op (system_state_of_session_view (session_view_of_tree_and_files_view (record mid { failed = true }) files))
+pub memory_fails : (old : SessionView) (op : Operation) (mid : TreeState) (files : OpenFilesByNumber) → old.tree.failed ≡ false → OnlyReadsTree old.tree mid →
+    SessionFails NoMemory (system_state old) op (system_state (view_of_files (record mid { failed = true }) files))
 memory_fails old op mid files works asked = asking_fails NoMemory old op (record mid { failed = true }) files works (memory_broken old.tree mid asked) (memory_error old.tree mid asked)
 
 -- the same before any call, whether or not the session had failed
-pub memory_fails_at_once : (old : SessionView) (op : Operation) → SessionFailsByError NoMemory (system_state_of_session_view old) op (system_state_of_session_view (session_view_of_tree_and_files_view (record old.tree { failed = true }) old.files))
+pub memory_fails_at_once : (old : SessionView) (op : Operation) → SessionFails NoMemory (system_state old) op (system_state (view_of_files (record old.tree { failed = true }) old.files))
 memory_fails_at_once old op = record {
   fails = record {
     failed = refl;
@@ -144,5 +144,5 @@ memory_fails_at_once old op = record {
   no_fault = λ h. refl;
 }
 
-pub memory_fails_now : (old new : SessionView) (op : Operation) → new ≡ record old { tree = record old.tree { failed = true } } → SessionFailsByError NoMemory (system_state_of_session_view old) op (system_state_of_session_view new)
-memory_fails_now old new op is = subst (λ z. SessionFailsByError NoMemory (system_state_of_session_view old) op (system_state_of_session_view z)) (sym is) (memory_fails_at_once old op)
+pub memory_fails_now : (old new : SessionView) (op : Operation) → new ≡ record old { tree = record old.tree { failed = true } } → SessionFails NoMemory (system_state old) op (system_state new)
+memory_fails_now old new op is = subst (λ z. SessionFails NoMemory (system_state old) op (system_state z)) (sym is) (memory_fails_at_once old op)

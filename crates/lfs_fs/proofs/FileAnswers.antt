@@ -5,11 +5,11 @@ use Rattle.std.specs.Option.{option_map}
 use Rattle.std.specs.Prelude.{Err, Ok}
 use Rattle.std.proofs.lemmas.Option.{same_Some}
 use Rattle.lfs_device.specs.declared.error.Error.TheVariants.{BadFile, Failed}
-use Rattle.lfs_model.specs.Session as session
+use Rattle.lfs_model.specs.session.Session as session
 use Rattle.lfs_tree.specs.TreeState.{TreeState}
-use Rattle.lfs_fs.specs.FileAnswers.{AnswersOfOpenFile, position_of_open_file}
-use Rattle.lfs_fs.specs.FileView.{RuntimeOpenFilesByNumber, open_file_at, open_file_view, position_of_kept_file, reader_of_open_file_or_none, unsaved_or_tree_bytes_of_writer, writer_of_open_file_or_none, writers_among}
-use Rattle.lfs_fs.specs.SessionView.{IsWriterOverWritableImage, SessionView, session_view_of_tree_and_files}
+use Rattle.lfs_fs.specs.FileAnswers.{FileAnswersOf, file_position}
+use Rattle.lfs_fs.specs.FileView.{RuntimeFiles, open_file_at, file_view, kept_position, open_reader, unsaved_or_tree, open_writer, writers_among}
+use Rattle.lfs_fs.specs.SessionView.{IsWriterReady, SessionView, view_of_session}
 use Rattle.lfs_fs.specs.declared.files.OpenFile.{OpenFile}
 use Rattle.lfs_fs.specs.declared.files.OpenFile.TheVariants as file
 use Rattle.lfs_fs.specs.declared.files.Reader.{Reader}
@@ -19,55 +19,55 @@ use Rattle.lfs_fs.proofs.OpenFiles.{file_is}
 -- ---- the kinds of a file
 
 -- a file that is neither a writer nor a reader isn't open
-pub no_file : (o : Option OpenFile) → None ≡ writer_of_open_file_or_none o → None ≡ reader_of_open_file_or_none o → o ≡ None
+pub no_file : (o : Option OpenFile) → None ≡ open_writer o → None ≡ open_reader o → o ≡ None
 no_file None w r = refl
 no_file (Some (file.Reading x)) w r = absurd (cc)
 no_file (Some (file.Writing x)) w r = absurd (cc)
 
-pub a_writer : (o : Option OpenFile) (w : Writer) → Some w ≡ writer_of_open_file_or_none o → o ≡ Some (file.Writing w)
+pub a_writer : (o : Option OpenFile) (w : Writer) → Some w ≡ open_writer o → o ≡ Some (file.Writing w)
 a_writer None w e = absurd (cc)
 a_writer (Some (file.Reading x)) w e = absurd (cc)
 a_writer (Some (file.Writing x)) w e = ap (λ (v : Writer). Some (file.Writing v)) (sym (same_Some w x e))
 
-pub a_reader_file : (o : Option OpenFile) (r : Reader) → Some r ≡ reader_of_open_file_or_none o → o ≡ Some (file.Reading r)
+pub a_reader_file : (o : Option OpenFile) (r : Reader) → Some r ≡ open_reader o → o ≡ Some (file.Reading r)
 a_reader_file None r e = absurd (cc)
 a_reader_file (Some (file.Reading x)) r e = ap (λ (v : Reader). Some (file.Reading v)) (sym (same_Some r x e))
 a_reader_file (Some (file.Writing x)) r e = absurd (cc)
 
 -- the writer of a number has the size of its contents
-pub writer_sized : (t : TreeState) (fs : RuntimeOpenFilesByNumber) (fd : ℕ) (w : Writer) → Some w ≡ writer_of_open_file_or_none (open_file_at fs fd) → AllByRecursion (IsWriterOverWritableImage t) (writers_among fs) → length (unsaved_or_tree_bytes_of_writer t w.path w.unsaved) ≡ w.size
+pub writer_sized : (t : TreeState) (fs : RuntimeFiles) (fd : ℕ) (w : Writer) → Some w ≡ open_writer (open_file_at fs fd) → AllByRecursion (IsWriterReady t) (writers_among fs) → length (unsaved_or_tree t w.path w.unsaved) ≡ w.size
 writer_sized t [] fd w e h = absurd (cc)
 writer_sized t (None ∷ fs) zero w e h = absurd (cc)
 writer_sized t (Some (file.Reading q) ∷ fs) zero w e h = absurd (cc)
-writer_sized t (Some (file.Writing q) ∷ fs) zero w e h = subst (λ (v : Writer). length (unsaved_or_tree_bytes_of_writer t v.path v.unsaved) ≡ v.size) (sym (same_Some w q e)) h.0.size
+writer_sized t (Some (file.Writing q) ∷ fs) zero w e h = subst (λ (v : Writer). length (unsaved_or_tree t v.path v.unsaved) ≡ v.size) (sym (same_Some w q e)) h.0.size
 writer_sized t (None ∷ fs) (suc fd) w e h = writer_sized t fs fd w e h
 writer_sized t (Some (file.Reading q) ∷ fs) (suc fd) w e h = writer_sized t fs fd w e h
 writer_sized t (Some (file.Writing q) ∷ fs) (suc fd) w e h = writer_sized t fs fd w e h.1
 
 -- ---- the answers
 
-pub answers_failed : (number : SessionView → session.OpenFile → ℕ) (t : TreeState) (fs : RuntimeOpenFilesByNumber) (now : SessionView) (fd : ℕ) → session_view_of_tree_and_files t fs ≡ now → true ≡ t.failed → AnswersOfOpenFile number now fd (Err Failed)
-answers_failed number t fs now fd seen failed = subst (λ (h : SessionView). AnswersOfOpenFile number h fd (Err Failed)) seen (inl (sym failed, refl))
+pub answers_failed : (number : SessionView → session.OpenFile → ℕ) (t : TreeState) (fs : RuntimeFiles) (now : SessionView) (fd : ℕ) → view_of_session t fs ≡ now → true ≡ t.failed → FileAnswersOf number now fd (Err Failed)
+answers_failed number t fs now fd seen failed = subst (λ (h : SessionView). FileAnswersOf number h fd (Err Failed)) seen (inl (sym failed, refl))
 
-pub answers_none : (number : SessionView → session.OpenFile → ℕ) (t : TreeState) (fs : RuntimeOpenFilesByNumber) (now : SessionView) (fd : ℕ) → session_view_of_tree_and_files t fs ≡ now → false ≡ t.failed → open_file_at fs fd ≡ None → AnswersOfOpenFile number now fd (Err BadFile)
+pub answers_none : (number : SessionView → session.OpenFile → ℕ) (t : TreeState) (fs : RuntimeFiles) (now : SessionView) (fd : ℕ) → view_of_session t fs ≡ now → false ≡ t.failed → open_file_at fs fd ≡ None → FileAnswersOf number now fd (Err BadFile)
 answers_none number t fs now fd seen works none =
-    subst (λ (h : SessionView). AnswersOfOpenFile number h fd (Err BadFile)) seen (inr (sym works, (file_is t fs fd ∙ ap (option_map (open_file_view t)) none), refl))
+    subst (λ (h : SessionView). FileAnswersOf number h fd (Err BadFile)) seen (inr (sym works, (file_is t fs fd ∙ ap (option_map (file_view t)) none), refl))
 
-pub answers_some : (number : SessionView → session.OpenFile → ℕ) (t : TreeState) (fs : RuntimeOpenFilesByNumber) (now : SessionView) (fd n : ℕ) (o : OpenFile) → session_view_of_tree_and_files t fs ≡ now → false ≡ t.failed → open_file_at fs fd ≡ Some o
-    → number (session_view_of_tree_and_files t fs) (open_file_view t o) ≡ n → AnswersOfOpenFile number now fd (Ok n)
+pub answers_some : (number : SessionView → session.OpenFile → ℕ) (t : TreeState) (fs : RuntimeFiles) (now : SessionView) (fd n : ℕ) (o : OpenFile) → view_of_session t fs ≡ now → false ≡ t.failed → open_file_at fs fd ≡ Some o
+    → number (view_of_session t fs) (file_view t o) ≡ n → FileAnswersOf number now fd (Ok n)
 answers_some number t fs now fd n o seen works some is =
-    subst (λ (h : SessionView). AnswersOfOpenFile number h fd (Ok n)) seen
-    (sym works, ap (option_map (number (session_view_of_tree_and_files t fs))) (file_is t fs fd ∙ ap (option_map (open_file_view t)) some) ∙ ap Some is)
+    subst (λ (h : SessionView). FileAnswersOf number h fd (Ok n)) seen
+    (sym works, ap (option_map (number (view_of_session t fs))) (file_is t fs fd ∙ ap (option_map (file_view t)) some) ∙ ap Some is)
 
 -- a position that was found, if there is a file
-pub position_found : (o : Option OpenFile) (n : ℕ) → Some n ≡ option_map position_of_kept_file o → (f : OpenFile) × ((o ≡ Some f) × (position_of_kept_file f ≡ n))
+pub position_found : (o : Option OpenFile) (n : ℕ) → Some n ≡ option_map kept_position o → (f : OpenFile) × ((o ≡ Some f) × (kept_position f ≡ n))
 position_found None n e = absurd (cc)
-position_found (Some f) n e = (f, (refl, sym (same_Some n (position_of_kept_file f) e)))
+position_found (Some f) n e = (f, (refl, sym (same_Some n (kept_position f) e)))
 
-pub position_none : (o : Option OpenFile) → None ≡ option_map position_of_kept_file o → o ≡ None
+pub position_none : (o : Option OpenFile) → None ≡ option_map kept_position o → o ≡ None
 position_none None e = refl
 position_none (Some f) e = absurd (cc)
 
-pub position_seen : (h : SessionView) (t : TreeState) (f : OpenFile) → position_of_open_file h (open_file_view t f) ≡ position_of_kept_file f
+pub position_seen : (h : SessionView) (t : TreeState) (f : OpenFile) → file_position h (file_view t f) ≡ kept_position f
 position_seen h t (file.Reading r) = refl
 position_seen h t (file.Writing w) = refl

@@ -3,66 +3,66 @@ use Rattle.std.proofs.Common.{ℕ, ◌≡◌, ◌<◌, ◌∙◌, inl, inr, Bool
 use Rattle.std.specs.Prelude.{All, IfErr, IfOk, OnOk, nat_eq}
 use Rattle.std.specs.List.{IsDistinct}
 use Rattle.std.proofs.lemmas.List.Elements.{All-weaker}
-use Rattle.lfs_device.specs.Shown.{disk_with_profile}
-use Rattle.lfs_model.specs.Disk.{disk_in_order, Disk, block_count}
+use Rattle.lfs_device.specs.DeviceDisk.{profiled_disk}
+use Rattle.lfs_model.specs.format.Disk.{ordered_disk, Disk, block_count}
 use Rattle.lfs_device.specs.declared.device.BlockDevice.{Ghosts}
 use Rattle.lfs_device.specs.declared.error.Error.{Error}
 use Rattle.lfs_device.specs.declared.error.Error.TheVariants.{Corrupt}
-use Rattle.lfs_model.proofs.Histories.{AreCallsSinceOnlyReads-trans}
+use Rattle.lfs_model.proofs.Histories.{OnlyReadsSince-trans}
 use Rattle.lfs_model.proofs.Uniqueness.{one_thread}
-use Rattle.lfs_model.specs.Content.{content_of_pair_at}
-use Rattle.lfs_model.specs.EntryTypes.{SuperblockFields, superblock_fields_of_struct_bytes}
-use Rattle.lfs_model.specs.History.{DeviceCallEvent, AreCallsSinceOnlyReads, fault_count_of_history}
-use Rattle.lfs_model.specs.Profile.{are_usable_limits, profile_with_limits, superblock_of_image}
-use Rattle.lfs_model.specs.RepeatedPowerLoss.{IsJustMounted}
-use Rattle.lfs_model.specs.Session.{OpenFilesByNumber}
-use Rattle.lfs_model.specs.State.{SessionHealth}
-use Rattle.lfs_model.specs.Shown.{all_slots_not_moved, skip_list_blocks_of_struct, used_blocks}
-use Rattle.lfs_model.specs.Slots.{Slot, Struct, Inline, Ctz, Branch}
-use Rattle.lfs_model.specs.Thread.{Pair, blocks_of_pairs}
-use Rattle.lfs_model.specs.View.{IsAcceptedImage, IsSkipListIfCtzStruct, HasSuperblockIfAnySlot, is_accepted_version, pairs_of_superblock_chain}
+use Rattle.lfs_model.specs.format.Content.{content_at}
+use Rattle.lfs_model.specs.format.EntryTypes.{SuperblockFields, superblock_fields}
+use Rattle.lfs_model.specs.session.History.{CallEvent, OnlyReadsSince, fault_count}
+use Rattle.lfs_model.specs.tree.Profile.{are_usable, with_limits, image_fields}
+use Rattle.lfs_model.specs.crash.RepeatedPowerLoss.{IsMounted}
+use Rattle.lfs_model.specs.session.Session.{OpenFilesByNumber}
+use Rattle.lfs_model.specs.session.State.{SessionHealth}
+use Rattle.lfs_model.specs.tree.Shown.{all_slots_not_moved, struct_blocks, used_blocks}
+use Rattle.lfs_model.specs.format.Slots.{Slot, Struct, Inline, Ctz, Branch}
+use Rattle.lfs_model.specs.format.Thread.{Pair, blocks_of_pairs}
+use Rattle.lfs_model.specs.tree.View.{IsAccepted, IsWellFormedCtz, BeginsWithSuperblock, accepts_version, chain_pairs}
 use Rattle.lfs_model.specs.declared.limits.Profile.{Profile}
 use Rattle.lfs_model.specs.declared.order.NameOrder.{NameOrder}
 use Rattle.lfs_model.specs.declared.order.NameOrder.TheVariants.{LongerFirst, ShorterFirst}
 use Rattle.lfs_thread.specs.Kept.{disk_of_device}
-use Rattle.lfs_tree.specs.TreeState.{TreeState, OnlyReadsTreeOrFails, WasTreeOnlyRead}
-use Rattle.lfs_fs.specs.FileView.{RuntimeOpenFilesByNumber, open_files_view}
-use Rattle.lfs_fs.specs.DeviceLaws.{HasSessionInvariant, IsDiskLeftByConformingDeviceCalls}
-use Rattle.lfs_fs.specs.ImageLimits.{HasSessionFailedByRead, IsSessionBegunWithLimits, ReturnsUnchangedDeviceByAnyProfile, WasWorkingSessionRead}
-use Rattle.lfs_fs.specs.SessionView.{IsSessionBegunByMount, SessionView, session_view_of_tree_and_files, session_view_of_tree_and_files_view, system_state_of_session_view}
+use Rattle.lfs_tree.specs.TreeState.{TreeState, OnlyReadsTreeOrFails, OnlyReadsTree}
+use Rattle.lfs_fs.specs.FileView.{RuntimeFiles, files_view}
+use Rattle.lfs_fs.specs.DeviceLaws.{HasInvariant, LeftConforming}
+use Rattle.lfs_fs.specs.ImageLimits.{FailedByRead, BeginsLimited, ReturnsUnchangedDeviceByAnyProfile, WasSessionRead}
+use Rattle.lfs_fs.specs.SessionView.{BeginsByMount, SessionView, view_of_session, view_of_files, system_state}
 use Rattle.lfs_fs.proofs.Answered.{asked_ready}
 
 -- ---- a session that is only read
 
-was_read : (t new : TreeState) (files : RuntimeOpenFilesByNumber) (now : SessionView) → session_view_of_tree_and_files t files ≡ now → false ≡ t.failed → WasTreeOnlyRead t new → WasWorkingSessionRead now (session_view_of_tree_and_files new files)
+was_read : (t new : TreeState) (files : RuntimeFiles) (now : SessionView) → view_of_session t files ≡ now → false ≡ t.failed → OnlyReadsTree t new → WasSessionRead now (view_of_session new files)
 was_read t new files now is works asked =
-    subst (λ h. WasWorkingSessionRead h (session_view_of_tree_and_files new files)) is (record { works = sym works; tree = asked; files = ap (λ z. open_files_view z files) asked.same })
+    subst (λ h. WasSessionRead h (view_of_session new files)) is (record { works = sym works; tree = asked; files = ap (λ z. files_view z files) asked.same })
 
-pub read_if_ok : {A : Type 0} (t new : TreeState) (files : RuntimeOpenFilesByNumber) (now : SessionView) (r : Result A Error) → session_view_of_tree_and_files t files ≡ now → false ≡ t.failed → OnOk r (WasTreeOnlyRead t new) → OnOk r (WasWorkingSessionRead now (session_view_of_tree_and_files new files))
+pub read_if_ok : {A : Type 0} (t new : TreeState) (files : RuntimeFiles) (now : SessionView) (r : Result A Error) → view_of_session t files ≡ now → false ≡ t.failed → OnOk r (OnlyReadsTree t new) → OnOk r (WasSessionRead now (view_of_session new files))
 read_if_ok t new files now (Ok x) is works asked = was_read t new files now is works asked
 read_if_ok t new files now (Err e) is works asked = tt
 
-pub ready_if_read : {A : Type 0} (t new : TreeState) (files : RuntimeOpenFilesByNumber) (r : Result A Error) → HasSessionInvariant t files → OnlyReadsTreeOrFails t r new → IsDiskLeftByConformingDeviceCalls new → HasSessionInvariant new files
+pub ready_if_read : {A : Type 0} (t new : TreeState) (files : RuntimeFiles) (r : Result A Error) → HasInvariant t files → OnlyReadsTreeOrFails t r new → LeftConforming new → HasInvariant new files
 ready_if_read t new files (Ok x) between reads left = record { ready = asked_ready t new files between.ready reads.asked; reported = λ works. left }
 ready_if_read t new files (Err e) between reads left = record { ready = λ works. absurd (let k = sym reads.broken.failed ∙ works in cc); reported = λ works. left }
 
 -- ---- one image, by two profiles of the same versions
 
 module _ (disk : Disk) (from to : Profile) (same : from.versions ≡ to.versions) where
-  is_list : (s : Struct) → IsSkipListIfCtzStruct (disk_with_profile from disk) s → IsSkipListIfCtzStruct (disk_with_profile to disk) s
+  is_list : (s : Struct) → IsWellFormedCtz (profiled_disk from disk) s → IsWellFormedCtz (profiled_disk to disk) s
   is_list (Inline bytes) ok = ok
   is_list (Ctz head size) ok = ok
   is_list (Branch at) ok = ok
 
-  files : (s : Struct) → skip_list_blocks_of_struct (disk_with_profile from disk) s ≡ skip_list_blocks_of_struct (disk_with_profile to disk) s
+  files : (s : Struct) → struct_blocks (profiled_disk from disk) s ≡ struct_blocks (profiled_disk to disk) s
   files (Inline bytes) = refl
   files (Ctz head size) = refl
   files (Branch at) = refl
 
-  used : (ps : List Pair) → used_blocks (disk_with_profile from disk) ps ≡ used_blocks (disk_with_profile to disk) ps
+  used : (ps : List Pair) → used_blocks (profiled_disk from disk) ps ≡ used_blocks (profiled_disk to disk) ps
   used ps = ap (λ (f : Struct → List ℕ). blocks_of_pairs ps ++ flat_map (λ (s : Slot). f s.struct) (all_slots_not_moved ps)) (λ i s. files s i)
 
-  pub accepted_by : (ps : List Pair) → IsAcceptedImage (disk_with_profile from disk) ps → IsAcceptedImage (disk_with_profile to disk) ps
+  pub accepted_by : (ps : List Pair) → IsAccepted (profiled_disk from disk) ps → IsAccepted (profiled_disk to disk) ps
   accepted_by ps ok =
       let (bytes, (struct, chain)) = ok.superblock in
       record {
@@ -73,8 +73,8 @@ module _ (disk : Disk) (from to : Profile) (same : from.versions ≡ to.versions
         superblock = (
           bytes,
           (
-            record { len = struct.len; version = subst (λ v. is_accepted_version v (superblock_fields_of_struct_bytes bytes).version ≡ true) same struct.version; block_size = struct.block_size; block_count = struct.block_count },
-            subst (λ v. All (λ (p : Pair). HasSuperblockIfAnySlot v bytes p.content.slots) (pairs_of_superblock_chain ps)) same chain,
+            record { len = struct.len; version = subst (λ v. accepts_version v (superblock_fields bytes).version ≡ true) same struct.version; block_size = struct.block_size; block_count = struct.block_count },
+            subst (λ v. All (λ (p : Pair). BeginsWithSuperblock v bytes p.content.slots) (chain_pairs ps)) same chain,
           ),
         );
         slots = ok.slots;
@@ -83,12 +83,12 @@ module _ (disk : Disk) (from to : Profile) (same : from.versions ≡ to.versions
         once = ok.once;
         reached = ok.reached;
         move = ok.move;
-        lists = All-weaker (λ (s : Slot). IsSkipListIfCtzStruct (disk_with_profile from disk) s.struct) (λ (s : Slot). IsSkipListIfCtzStruct (disk_with_profile to disk) s.struct) (λ s. is_list s.struct) (all_slots_not_moved ps) ok.lists;
+        lists = All-weaker (λ (s : Slot). IsWellFormedCtz (profiled_disk from disk) s.struct) (λ (s : Slot). IsWellFormedCtz (profiled_disk to disk) s.struct) (λ s. is_list s.struct) (all_slots_not_moved ps) ok.lists;
         owned_once = subst (IsDistinct nat_eq) (used ps) ok.owned_once;
       }
 
-pub same_versions : (fields : SuperblockFields) (profile : Profile) → (profile_with_limits fields profile).versions ≡ profile.versions
-same_versions fields profile = go (are_usable_limits fields)
+pub same_versions : (fields : SuperblockFields) (profile : Profile) → (with_limits fields profile).versions ≡ profile.versions
+same_versions fields profile = go (are_usable fields)
   where
     limits : Profile
     limits = record profile { name_max = fields.name_max; file_max = fields.file_max; attr_max = fields.attr_max }
@@ -98,9 +98,9 @@ same_versions fields profile = go (are_usable_limits fields)
     go false = refl
 
 -- where the superblock's limits are the profile's, so is all else
-pub same_limits : (fields : SuperblockFields) (profile limits : Profile) → limits ≡ profile_with_limits fields profile → (limits.name_max ≡ profile.name_max) × (limits.file_max ≡ profile.file_max) × (limits.attr_max ≡ profile.attr_max) → limits ≡ profile
+pub same_limits : (fields : SuperblockFields) (profile limits : Profile) → limits ≡ with_limits fields profile → (limits.name_max ≡ profile.name_max) × (limits.file_max ≡ profile.file_max) × (limits.attr_max ≡ profile.attr_max) → limits ≡ profile
 same_limits fields profile limits is same =
-    is ∙ go (are_usable_limits fields) (sym (ap (λ (k : Profile). k.name_max) is) ∙ same.0) (sym (ap (λ (k : Profile). k.file_max) is) ∙ same.1) (sym (ap (λ (k : Profile). k.attr_max) is) ∙ same.2)
+    is ∙ go (are_usable fields) (sym (ap (λ (k : Profile). k.name_max) is) ∙ same.0) (sym (ap (λ (k : Profile). k.file_max) is) ∙ same.1) (sym (ap (λ (k : Profile). k.attr_max) is) ∙ same.2)
   where
     made : ℕ → ℕ → ℕ → Profile
     made n f a = record profile { name_max = n; file_max = f; attr_max = a }
@@ -111,22 +111,22 @@ same_limits fields profile limits is same =
     go false n f a = refl
 
 -- the pairs don't depend on the order of names or the profile
-pub same_pairs : (disk : Disk) (order other : NameOrder) (from to : Profile) (ps qs : List Pair) → IsAcceptedImage (disk_in_order order (disk_with_profile from disk)) ps → IsAcceptedImage (disk_in_order other (disk_with_profile to disk)) qs → ps ≡ qs
-same_pairs disk order other from to ps qs one two = one_thread (content_of_pair_at disk) (block_count disk) ps qs one.thread two.thread
+pub same_pairs : (disk : Disk) (order other : NameOrder) (from to : Profile) (ps qs : List Pair) → IsAccepted (ordered_disk order (profiled_disk from disk)) ps → IsAccepted (ordered_disk other (profiled_disk to disk)) qs → ps ≡ qs
+same_pairs disk order other from to ps qs one two = one_thread (content_at disk) (block_count disk) ps qs one.thread two.thread
 
 -- ---- a mounted session that was only read since then
 
-begun_read : (disk : Disk) (history : List DeviceCallEvent) (s new : SessionView) → IsSessionBegunByMount disk history s → WasWorkingSessionRead s new → IsSessionBegunByMount disk history new
+begun_read : (disk : Disk) (history : List CallEvent) (s new : SessionView) → BeginsByMount disk history s → WasSessionRead s new → BeginsByMount disk history new
 begun_read disk history s new begun read = record {
   works = ap (λ (t : TreeState). t.failed) read.tree.same ∙ begun.works;
   disk_is = ap (λ (t : TreeState). t.disk) read.tree.same ∙ begun.disk_is;
-  accepted = subst (λ (t : TreeState). IsAcceptedImage disk t.pairs) (sym read.tree.same) begun.accepted;
-  reads = AreCallsSinceOnlyReads-trans begun.reads read.tree.reads (ap (λ (d : Disk). d.blocks) begun.disk_is);
+  accepted = subst (λ (t : TreeState). IsAccepted disk t.pairs) (sym read.tree.same) begun.accepted;
+  reads = OnlyReadsSince-trans begun.reads read.tree.reads (ap (λ (d : Disk). d.blocks) begun.disk_is);
   no_fault = read.tree.no_fault ∙ begun.no_fault;
   no_files = read.files ∙ begun.no_files;
 }
 
-just_read : (disk : Disk) (s new : SessionView) → IsJustMounted disk (system_state_of_session_view s) → WasWorkingSessionRead s new → IsJustMounted disk (system_state_of_session_view new)
+just_read : (disk : Disk) (s new : SessionView) → IsMounted disk (system_state s) → WasSessionRead s new → IsMounted disk (system_state new)
 just_read disk s new just read = record {
   on = ap (λ (t : TreeState). t.disk) read.tree.same ∙ just.on;
   tree = just.tree;
@@ -135,87 +135,87 @@ just_read disk s new just read = record {
 }
   where
     state_of : TreeState → OpenFilesByNumber → SessionHealth
-    state_of t files = (system_state_of_session_view (session_view_of_tree_and_files_view t files)).state
+    state_of t files = (system_state (view_of_files t files)).state
 
 -- ---- a mount by limits
 
 -- the device was only read, by calls that didn't fail
-pub record IsDeviceOnlyRead {D : Type 0} (g : Ghosts D) (device back : D) : Type 0 where
-  pub disk : (order : NameOrder) (limits : Profile) → disk_in_order order (disk_with_profile limits (disk_of_device g back)) ≡ disk_in_order order (disk_with_profile limits (disk_of_device g device))
-  pub reads : AreCallsSinceOnlyReads (g.blocks device) (g.history device) (g.history back)
-  pub no_fault : fault_count_of_history (g.history back) ≡ fault_count_of_history (g.history device)
+pub record OnlyReadsDevice {D : Type 0} (g : Ghosts D) (device back : D) : Type 0 where
+  pub disk : (order : NameOrder) (limits : Profile) → ordered_disk order (profiled_disk limits (disk_of_device g back)) ≡ ordered_disk order (profiled_disk limits (disk_of_device g device))
+  pub reads : OnlyReadsSince (g.blocks device) (g.history device) (g.history back)
+  pub no_fault : fault_count (g.history back) ≡ fault_count (g.history device)
 
 module _ {D : Type 0} (g : Ghosts D) (device : D) (profile : Profile) (s read : SessionView)
-    (begun : IsSessionBegunByMount (disk_in_order s.tree.disk.order (disk_with_profile profile (disk_of_device g device))) (g.history device) s) where
+    (begun : BeginsByMount (ordered_disk s.tree.disk.order (profiled_disk profile (disk_of_device g device))) (g.history device) s) where
   abbrev below : NameOrder → Profile → Disk
-  below order limits = disk_in_order order (disk_with_profile limits (disk_of_device g device))
+  below order limits = ordered_disk order (profiled_disk limits (disk_of_device g device))
 
   its_profile : s.tree.disk.profile ≡ profile
   its_profile = ap (λ (d : Disk). d.profile) begun.disk_is
 
   -- ---- where the image has the profile's limits
 
-  module _ (only : WasWorkingSessionRead s read) where
+  module _ (only : WasSessionRead s read) where
     is_below : below s.tree.disk.order profile ≡ below read.tree.disk.order read.tree.disk.profile
     is_below = ap₂ below (sym (ap (λ (t : TreeState). t.disk.order) only.tree.same)) (sym (ap (λ (t : TreeState). t.disk.profile) only.tree.same ∙ its_profile))
 
-    pub begun_at_once : (fields : SuperblockFields) (limits : Profile) → superblock_of_image s.tree.pairs ≡ Some fields → limits ≡ profile_with_limits fields profile → limits ≡ profile → IsSessionBegunWithLimits (disk_of_device g device) (g.history device) profile read
+    pub begun_at_once : (fields : SuperblockFields) (limits : Profile) → image_fields s.tree.pairs ≡ Some fields → limits ≡ with_limits fields profile → limits ≡ profile → BeginsLimited (disk_of_device g device) (g.history device) profile read
     begun_at_once fields limits has limits_is same = record {
       fields = fields;
-      superblock = ap (λ (t : TreeState). superblock_of_image t.pairs) only.tree.same ∙ has;
+      superblock = ap (λ (t : TreeState). image_fields t.pairs) only.tree.same ∙ has;
       limits = ap (λ (t : TreeState). t.disk.profile) only.tree.same ∙ its_profile ∙ sym same ∙ limits_is;
-      begun = subst (λ d. IsSessionBegunByMount d (g.history device) read) is_below (begun_read (below s.tree.disk.order profile) (g.history device) s read begun only);
+      begun = subst (λ d. BeginsByMount d (g.history device) read) is_below (begun_read (below s.tree.disk.order profile) (g.history device) s read begun only);
     }
 
-    pub just_at_once : IsJustMounted (below s.tree.disk.order profile) (system_state_of_session_view s) → IsJustMounted (below read.tree.disk.order read.tree.disk.profile) (system_state_of_session_view read)
-    just_at_once just = subst (λ d. IsJustMounted d (system_state_of_session_view read)) is_below (just_read (below s.tree.disk.order profile) s read just only)
+    pub just_at_once : IsMounted (below s.tree.disk.order profile) (system_state s) → IsMounted (below read.tree.disk.order read.tree.disk.profile) (system_state read)
+    just_at_once just = subst (λ d. IsMounted d (system_state read)) is_below (just_read (below s.tree.disk.order profile) s read just only)
 
-    pub longer_at_once : (s.tree.disk.order ≡ ShorterFirst → (ps : List Pair) → IsAcceptedImage (below LongerFirst profile) ps → ⊥) → read.tree.disk.order ≡ ShorterFirst → (ps : List Pair) → IsAcceptedImage (below LongerFirst read.tree.disk.profile) ps → ⊥
+    pub longer_at_once : (s.tree.disk.order ≡ ShorterFirst → (ps : List Pair) → IsAccepted (below LongerFirst profile) ps → ⊥) → read.tree.disk.order ≡ ShorterFirst → (ps : List Pair) → IsAccepted (below LongerFirst read.tree.disk.profile) ps → ⊥
     longer_at_once longer short ps ok =
-        longer (sym (ap (λ (t : TreeState). t.disk.order) only.tree.same) ∙ short) ps (subst (λ k. IsAcceptedImage (below LongerFirst k) ps) (ap (λ (t : TreeState). t.disk.profile) only.tree.same ∙ its_profile) ok)
+        longer (sym (ap (λ (t : TreeState). t.disk.order) only.tree.same) ∙ short) ps (subst (λ k. IsAccepted (below LongerFirst k) ps) (ap (λ (t : TreeState). t.disk.profile) only.tree.same ∙ its_profile) ok)
 
   -- ---- the device of the session
 
-  same_below : (kept : Profile) (back : D) → disk_in_order read.tree.disk.order (disk_with_profile kept (disk_of_device g back)) ≡ read.tree.disk → read.tree.disk ≡ s.tree.disk → (order : NameOrder) (limits : Profile) →
-      disk_in_order order (disk_with_profile limits (disk_of_device g back)) ≡ below order limits
-  same_below kept back given same order limits = ap (λ (d : Disk). disk_in_order order (disk_with_profile limits d)) (given ∙ same ∙ begun.disk_is)
+  same_below : (kept : Profile) (back : D) → ordered_disk read.tree.disk.order (profiled_disk kept (disk_of_device g back)) ≡ read.tree.disk → read.tree.disk ≡ s.tree.disk → (order : NameOrder) (limits : Profile) →
+      ordered_disk order (profiled_disk limits (disk_of_device g back)) ≡ below order limits
+  same_below kept back given same order limits = ap (λ (d : Disk). ordered_disk order (profiled_disk limits d)) (given ∙ same ∙ begun.disk_is)
 
-  read_on : read.tree.disk ≡ s.tree.disk → AreCallsSinceOnlyReads s.tree.disk.blocks s.tree.history read.tree.history → AreCallsSinceOnlyReads (g.blocks device) (g.history device) read.tree.history
-  read_on same reads = AreCallsSinceOnlyReads-trans begun.reads reads (ap (λ (d : Disk). d.blocks) begun.disk_is)
+  read_on : read.tree.disk ≡ s.tree.disk → OnlyReadsSince s.tree.disk.blocks s.tree.history read.tree.history → OnlyReadsSince (g.blocks device) (g.history device) read.tree.history
+  read_on same reads = OnlyReadsSince-trans begun.reads reads (ap (λ (d : Disk). d.blocks) begun.disk_is)
 
-  pub given_back : (kept : Profile) (inner back : D) → back ≡ inner → disk_in_order read.tree.disk.order (disk_with_profile kept (disk_of_device g inner)) ≡ read.tree.disk → g.history inner ≡ read.tree.history → WasWorkingSessionRead s read → IsDeviceOnlyRead g device back
+  pub given_back : (kept : Profile) (inner back : D) → back ≡ inner → ordered_disk read.tree.disk.order (profiled_disk kept (disk_of_device g inner)) ≡ read.tree.disk → g.history inner ≡ read.tree.history → WasSessionRead s read → OnlyReadsDevice g device back
   given_back kept inner back is disk history only =
       let same = ap (λ (t : TreeState). t.disk) only.tree.same in
-      subst (IsDeviceOnlyRead g device) (sym is) (record {
+      subst (OnlyReadsDevice g device) (sym is) (record {
         disk = same_below kept inner disk same;
-        reads = subst (AreCallsSinceOnlyReads (g.blocks device) (g.history device)) (sym history) (read_on same only.tree.reads);
-        no_fault = ap fault_count_of_history history ∙ only.tree.no_fault ∙ begun.no_fault;
+        reads = subst (OnlyReadsSince (g.blocks device) (g.history device)) (sym history) (read_on same only.tree.reads);
+        no_fault = ap fault_count history ∙ only.tree.no_fault ∙ begun.no_fault;
       })
 
   -- where its superblock isn't read
-  pub failing_back : (kept : Profile) (inner back : D) (e : Error) → back ≡ inner → disk_in_order read.tree.disk.order (disk_with_profile kept (disk_of_device g inner)) ≡ read.tree.disk → g.history inner ≡ read.tree.history → HasSessionFailedByRead s read e →
+  pub failing_back : (kept : Profile) (inner back : D) (e : Error) → back ≡ inner → ordered_disk read.tree.disk.order (profiled_disk kept (disk_of_device g inner)) ≡ read.tree.disk → g.history inner ≡ read.tree.history → FailedByRead s read e →
       ReturnsUnchangedDeviceByAnyProfile g device back e
   failing_back kept inner back e is disk history (inl failed) = absurd (let k = sym failed.0 ∙ begun.works in cc)
   failing_back kept inner back e is disk history (inr (works, broken, error)) =
       subst (λ d. ReturnsUnchangedDeviceByAnyProfile g device d e) (sym is) (record {
         disk = same_below kept inner disk broken.disk;
-        reads = subst (AreCallsSinceOnlyReads (g.blocks device) (g.history device)) (sym history) (read_on broken.disk broken.reads);
-        fault = λ io. subst (λ n. n < fault_count_of_history (g.history inner)) begun.no_fault (subst (λ h. fault_count_of_history s.tree.history < fault_count_of_history h) (sym history) (error.fault io));
-        no_fault = λ other. ap fault_count_of_history history ∙ error.no_fault other ∙ begun.no_fault;
+        reads = subst (OnlyReadsSince (g.blocks device) (g.history device)) (sym history) (read_on broken.disk broken.reads);
+        fault = λ io. subst (λ n. n < fault_count (g.history inner)) begun.no_fault (subst (λ h. fault_count s.tree.history < fault_count h) (sym history) (error.fault io));
+        no_fault = λ other. ap fault_count history ∙ error.no_fault other ∙ begun.no_fault;
       })
 
   -- ---- where the image has other limits
 
-  module _ (back : D) (again : IsDeviceOnlyRead g device back) (limits : Profile) where
+  module _ (back : D) (again : OnlyReadsDevice g device back) (limits : Profile) where
     abbrev first : NameOrder → Disk
-    first order = disk_in_order order (disk_with_profile limits (disk_of_device g back))
+    first order = ordered_disk order (profiled_disk limits (disk_of_device g back))
 
-    begun_earlier : (h : SessionView) → IsSessionBegunByMount (first h.tree.disk.order) (g.history back) h → IsSessionBegunByMount (below h.tree.disk.order limits) (g.history device) h
+    begun_earlier : (h : SessionView) → BeginsByMount (first h.tree.disk.order) (g.history back) h → BeginsByMount (below h.tree.disk.order limits) (g.history device) h
     begun_earlier h later = record {
       works = later.works;
       disk_is = later.disk_is ∙ again.disk h.tree.disk.order limits;
-      accepted = subst (λ d. IsAcceptedImage d h.tree.pairs) (again.disk h.tree.disk.order limits) later.accepted;
-      reads = AreCallsSinceOnlyReads-trans again.reads later.reads (ap (λ (d : Disk). d.blocks) (again.disk h.tree.disk.order limits));
+      accepted = subst (λ d. IsAccepted d h.tree.pairs) (again.disk h.tree.disk.order limits) later.accepted;
+      reads = OnlyReadsSince-trans again.reads later.reads (ap (λ (d : Disk). d.blocks) (again.disk h.tree.disk.order limits));
       no_fault = later.no_fault ∙ again.no_fault;
       no_files = later.no_files;
     }
@@ -223,46 +223,46 @@ module _ {D : Type 0} (g : Ghosts D) (device : D) (profile : Profile) (s read : 
     new_profile : (h : SessionView) → h.tree.disk ≡ first h.tree.disk.order → limits ≡ h.tree.disk.profile
     new_profile h is = sym (ap (λ (d : Disk). d.profile) is)
 
-    begun_again : (fields : SuperblockFields) (h : SessionView) → superblock_of_image s.tree.pairs ≡ Some fields → limits ≡ profile_with_limits fields profile → IsSessionBegunByMount (first h.tree.disk.order) (g.history back) h → IsSessionBegunWithLimits (disk_of_device g device) (g.history device) profile h
+    begun_again : (fields : SuperblockFields) (h : SessionView) → image_fields s.tree.pairs ≡ Some fields → limits ≡ with_limits fields profile → BeginsByMount (first h.tree.disk.order) (g.history back) h → BeginsLimited (disk_of_device g device) (g.history device) profile h
     begun_again fields h has limits_is later =
         let earlier = begun_earlier h later in
         record {
           fields = fields;
-          superblock = ap superblock_of_image (same_pairs (disk_of_device g device) h.tree.disk.order s.tree.disk.order limits profile h.tree.pairs s.tree.pairs earlier.accepted begun.accepted) ∙ has;
+          superblock = ap image_fields (same_pairs (disk_of_device g device) h.tree.disk.order s.tree.disk.order limits profile h.tree.pairs s.tree.pairs earlier.accepted begun.accepted) ∙ has;
           limits = sym (new_profile h later.disk_is) ∙ limits_is;
-          begun = subst (λ k. IsSessionBegunByMount (below h.tree.disk.order k) (g.history device) h) (new_profile h later.disk_is) earlier;
+          begun = subst (λ k. BeginsByMount (below h.tree.disk.order k) (g.history device) h) (new_profile h later.disk_is) earlier;
         }
 
-    pub begun_if_ok : {A : Type 0} (fields : SuperblockFields) (r : Result SessionView A) → superblock_of_image s.tree.pairs ≡ Some fields → limits ≡ profile_with_limits fields profile → IfOk r (λ h. IsSessionBegunByMount (first h.tree.disk.order) (g.history back) h) →
-        IfOk r (IsSessionBegunWithLimits (disk_of_device g device) (g.history device) profile)
+    pub begun_if_ok : {A : Type 0} (fields : SuperblockFields) (r : Result SessionView A) → image_fields s.tree.pairs ≡ Some fields → limits ≡ with_limits fields profile → IfOk r (λ h. BeginsByMount (first h.tree.disk.order) (g.history back) h) →
+        IfOk r (BeginsLimited (disk_of_device g device) (g.history device) profile)
     begun_if_ok fields (Ok h) has limits_is later = begun_again fields h has limits_is later
     begun_if_ok fields (Err e) has limits_is later = tt
 
-    pub just_if_ok : {A : Type 0} (r : Result SessionView A) → IfOk r (λ h. IsSessionBegunByMount (first h.tree.disk.order) (g.history back) h) → IfOk r (λ h. IsJustMounted (first h.tree.disk.order) (system_state_of_session_view h)) →
-        IfOk r (λ h. IsJustMounted (below h.tree.disk.order h.tree.disk.profile) (system_state_of_session_view h))
+    pub just_if_ok : {A : Type 0} (r : Result SessionView A) → IfOk r (λ h. BeginsByMount (first h.tree.disk.order) (g.history back) h) → IfOk r (λ h. IsMounted (first h.tree.disk.order) (system_state h)) →
+        IfOk r (λ h. IsMounted (below h.tree.disk.order h.tree.disk.profile) (system_state h))
     just_if_ok (Ok h) later just =
-        subst (λ k. IsJustMounted (below h.tree.disk.order k) (system_state_of_session_view h)) (new_profile h later.disk_is)
-        (subst (λ d. IsJustMounted d (system_state_of_session_view h)) (again.disk h.tree.disk.order limits) just)
+        subst (λ k. IsMounted (below h.tree.disk.order k) (system_state h)) (new_profile h later.disk_is)
+        (subst (λ d. IsMounted d (system_state h)) (again.disk h.tree.disk.order limits) just)
     just_if_ok (Err e) later just = tt
 
-    pub longer_if_ok : {A : Type 0} (r : Result SessionView A) → IfOk r (λ h. IsSessionBegunByMount (first h.tree.disk.order) (g.history back) h) → IfOk r (λ h. h.tree.disk.order ≡ ShorterFirst → (ps : List Pair) → IsAcceptedImage (first LongerFirst) ps → ⊥) →
-        IfOk r (λ h. h.tree.disk.order ≡ ShorterFirst → (ps : List Pair) → IsAcceptedImage (below LongerFirst h.tree.disk.profile) ps → ⊥)
+    pub longer_if_ok : {A : Type 0} (r : Result SessionView A) → IfOk r (λ h. BeginsByMount (first h.tree.disk.order) (g.history back) h) → IfOk r (λ h. h.tree.disk.order ≡ ShorterFirst → (ps : List Pair) → IsAccepted (first LongerFirst) ps → ⊥) →
+        IfOk r (λ h. h.tree.disk.order ≡ ShorterFirst → (ps : List Pair) → IsAccepted (below LongerFirst h.tree.disk.profile) ps → ⊥)
     longer_if_ok (Ok h) later longer = λ short ps ok.
-        longer short ps (subst (λ d. IsAcceptedImage d ps) (sym (again.disk LongerFirst limits)) (subst (λ k. IsAcceptedImage (below LongerFirst k) ps) (sym (new_profile h later.disk_is)) ok))
+        longer short ps (subst (λ d. IsAccepted d ps) (sym (again.disk LongerFirst limits)) (subst (λ k. IsAccepted (below LongerFirst k) ps) (sym (new_profile h later.disk_is)) ok))
     longer_if_ok (Err e) later longer = tt
 
-    pub corrupt_if_err : {A : Type 0} (fields : SuperblockFields) (r : Result A (D × Error)) → limits ≡ profile_with_limits fields profile → IfErr r (λ e. e.1 ≡ Corrupt → (order : NameOrder) (ps : List Pair) → IsAcceptedImage (first order) ps → ⊥) →
-        IfErr r (λ e. e.1 ≡ Corrupt → (order : NameOrder) (ps : List Pair) → IsAcceptedImage (below order profile) ps → ⊥)
+    pub corrupt_if_err : {A : Type 0} (fields : SuperblockFields) (r : Result A (D × Error)) → limits ≡ with_limits fields profile → IfErr r (λ e. e.1 ≡ Corrupt → (order : NameOrder) (ps : List Pair) → IsAccepted (first order) ps → ⊥) →
+        IfErr r (λ e. e.1 ≡ Corrupt → (order : NameOrder) (ps : List Pair) → IsAccepted (below order profile) ps → ⊥)
     corrupt_if_err fields (Ok x) limits_is corrupt = tt
     corrupt_if_err fields (Err e) limits_is corrupt = λ is order ps ok.
-        corrupt is order ps (subst (λ d. IsAcceptedImage d ps) (sym (again.disk order limits))
-        (accepted_by (disk_in_order order (disk_of_device g device)) profile limits (sym (ap (λ (k : Profile). k.versions) limits_is ∙ same_versions fields profile)) ps ok))
+        corrupt is order ps (subst (λ d. IsAccepted d ps) (sym (again.disk order limits))
+        (accepted_by (ordered_disk order (disk_of_device g device)) profile limits (sym (ap (λ (k : Profile). k.versions) limits_is ∙ same_versions fields profile)) ps ok))
 
     back_again : (end : D) (e : Error) → ReturnsUnchangedDeviceByAnyProfile g back end e → ReturnsUnchangedDeviceByAnyProfile g device end e
     back_again end e given = record {
       disk = λ order k. given.disk order k ∙ again.disk order k;
-      reads = AreCallsSinceOnlyReads-trans again.reads given.reads (ap (λ (d : Disk). d.blocks) (again.disk LongerFirst limits));
-      fault = λ io. subst (λ n. n < fault_count_of_history (g.history end)) again.no_fault (given.fault io);
+      reads = OnlyReadsSince-trans again.reads given.reads (ap (λ (d : Disk). d.blocks) (again.disk LongerFirst limits));
+      fault = λ io. subst (λ n. n < fault_count (g.history end)) again.no_fault (given.fault io);
       no_fault = λ other. given.no_fault other ∙ again.no_fault;
     }
 

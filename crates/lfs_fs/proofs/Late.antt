@@ -2,127 +2,127 @@
 use Rattle.std.proofs.Common.{ℕ, ◌≡◌, ◌&&◌, ◌||◌, Bool, true, false, not, List, [], ◌∷◌, ◌++◌, Option, Some, None, is_none, is_some, length, nat_le, nat_lt, refl, sym, subst, ◌∙◌}
 use Rattle.std.specs.List.{list_any}
 use Rattle.std.specs.Option.{option_or}
-use Rattle.lfs_model.specs.Content.{attribute_bytes_of_type, attributes_with_attribute}
-use Rattle.lfs_model.specs.Frame.{refusal_needs_no_look_up}
-use Rattle.lfs_model.specs.Disk.{attr_max_of}
-use Rattle.lfs_model.specs.Operations as ops
-use Rattle.lfs_model.specs.Operations.{FlagsOfOpen, Operation, Refusal, path_of_bytes}
-use Rattle.lfs_model.specs.Refusals.{path_of_bytes_or_root}
-use Rattle.lfs_model.specs.Run.{is_write_or_truncate}
-use Rattle.lfs_model.specs.Session.{refusal_unless_directory, first_refusal_in_list, are_flags_allowed, has_too_long_last_name, has_open_file_with_path_satisfying, is_entry_over_charge_limit, lacks_free_blocks, overfills_disk, refusal_unless_parents_are_directories, readers_of_open_files, refuse_if, writers_of_open_files}
-use Rattle.lfs_model.specs.Tree.{Node, FileNode, DirectoryNode, Path, Tree}
-use Rattle.lfs_model.specs.TreeEdits.{attributes_of_node, file_bytes_of_node, is_path_beneath, is_directory, is_file, last_name_of_path, names_of_directory_node, path_without_prefix, same_path}
-use Rattle.lfs_model.specs.Writers.{writer_after_open}
-use Rattle.lfs_tree.specs.TreeState.{disk_summary_of_tree, tree_view}
-use Rattle.lfs_fs.specs.EntryPaths.{path_of_bytes_unless_root}
-use Rattle.lfs_fs.specs.SessionView.{PassesChecksWithoutDeviceCalls, SessionView, refusal_by_checks}
+use Rattle.lfs_model.specs.format.Content.{attribute_bytes, attributes_with}
+use Rattle.lfs_model.specs.crash.Frame.{is_early_refusal}
+use Rattle.lfs_model.specs.format.Disk.{attr_max_of}
+use Rattle.lfs_model.specs.session.Operations as ops
+use Rattle.lfs_model.specs.session.Operations.{FlagsOfOpen, Operation, Refusal, parse_path}
+use Rattle.lfs_model.specs.session.Refusals.{path_or_root}
+use Rattle.lfs_model.specs.session.Run.{writes_or_truncates}
+use Rattle.lfs_model.specs.session.Session.{directory_refusal, first_refusal, are_allowed, has_long_name, has_file, is_over_charge, lacks_free, overfills_disk, parents_refusal, all_readers, refuse_if, all_writers}
+use Rattle.lfs_model.specs.tree.Tree.{Node, FileNode, DirectoryNode, Path, Tree}
+use Rattle.lfs_model.specs.session.TreeEdits.{node_attributes_of, file_bytes, is_path_beneath, is_directory, is_file, last_name, directory_names, without_prefix, same_path}
+use Rattle.lfs_model.specs.session.Writers.{opened_writer}
+use Rattle.lfs_tree.specs.TreeState.{tree_summary, tree_view}
+use Rattle.lfs_fs.specs.EntryPaths.{entry_path}
+use Rattle.lfs_fs.specs.SessionView.{PassesChecks, SessionView, refusal_by_checks}
 use Rattle.lfs_fs.proofs.EntryPaths.{is_entry, root_false}
 
 -- refusals, those of them that are any, that don't come at once
 abbrev IsLate : Operation → Option Refusal → Type 0
 IsLate op None = Unit {0}
-IsLate op (Some r) = refusal_needs_no_look_up op r ≡ false
+IsLate op (Some r) = is_early_refusal op r ≡ false
 
 abbrev AreLate : Operation → List (Option Refusal) → Type 0
 AreLate op [] = Unit {0}
 AreLate op (r ∷ rs) = IsLate op r × AreLate op rs
 
-first_late : (op : Operation) (rs : List (Option Refusal)) → AreLate op rs → IsLate op (first_refusal_in_list rs)
+first_late : (op : Operation) (rs : List (Option Refusal)) → AreLate op rs → IsLate op (first_refusal rs)
 first_late op [] h = tt
 first_late op (None ∷ rs) h = first_late op rs h.1
 first_late op (Some r ∷ rs) h = h.0
 
 -- a check
-late : (op : Operation) (b : Bool) (e : Refusal) → refusal_needs_no_look_up op e ≡ false → IsLate op (refuse_if b e)
+late : (op : Operation) (b : Bool) (e : Refusal) → is_early_refusal op e ≡ false → IsLate op (refuse_if b e)
 late op true e h = h
 late op false e h = tt
 
 -- and the check of a path's parents
-parents : (op : Operation) (t : Tree) (above p : Path) → is_write_or_truncate op ≡ false → IsLate op (refusal_unless_parents_are_directories t above p)
+parents : (op : Operation) (t : Tree) (above p : Path) → writes_or_truncates op ≡ false → IsLate op (parents_refusal t above p)
 parents op t above [] h = tt
 parents op t above (name ∷ []) h = tt
 parents op t above (name ∷ next ∷ rest) h = go (t (above ++ name ∷ [])) (parents op t (above ++ name ∷ []) (next ∷ rest) h)
   where
-    go : (n : Option Node) → IsLate op (refusal_unless_parents_are_directories t (above ++ name ∷ []) (next ∷ rest)) → IsLate op (option_or (refusal_unless_directory n) (refusal_unless_parents_are_directories t (above ++ name ∷ []) (next ∷ rest)))
+    go : (n : Option Node) → IsLate op (parents_refusal t (above ++ name ∷ []) (next ∷ rest)) → IsLate op (option_or (directory_refusal n) (parents_refusal t (above ++ name ∷ []) (next ∷ rest)))
     go None k = h
     go (Some (FileNode attributes bytes)) k = h
     go (Some (DirectoryNode attributes names)) k = k
 
-told_late : (h : SessionView) (op : Operation) (rs : List (Option Refusal)) → refusal_by_checks h op ≡ first_refusal_in_list rs → AreLate op rs → PassesChecksWithoutDeviceCalls h op
+told_late : (h : SessionView) (op : Operation) (rs : List (Option Refusal)) → refusal_by_checks h op ≡ first_refusal rs → AreLate op rs → PassesChecks h op
 told_late h op rs are late r e = subst (IsLate op) (sym are ∙ e) (first_late op rs late)
 
 -- ---- questions
 
-pub stat_late : (h : SessionView) (bytes : List ℕ) (p : Path) → false ≡ h.tree.failed → Some p ≡ path_of_bytes bytes → PassesChecksWithoutDeviceCalls h (ops.Stat bytes)
+pub stat_late : (h : SessionView) (bytes : List ℕ) (p : Path) → false ≡ h.tree.failed → Some p ≡ parse_path bytes → PassesChecks h (ops.Stat bytes)
 stat_late h bytes p works is = let op = ops.Stat bytes in
     told_late h op
-    (refusal_unless_parents_are_directories (tree_view h.tree) [] p ∷ refuse_if (is_none (tree_view h.tree p)) ops.NoEnt ∷ [])
+    (parents_refusal (tree_view h.tree) [] p ∷ refuse_if (is_none (tree_view h.tree p)) ops.NoEnt ∷ [])
     (rw (sym works, sym is) refl)
     (parents op (tree_view h.tree) [] p refl, (late op _ _ refl, tt))
 
-pub list_late : (h : SessionView) (bytes : List ℕ) (p : Path) → false ≡ h.tree.failed → Some p ≡ path_of_bytes bytes → PassesChecksWithoutDeviceCalls h (ops.ListAll bytes)
+pub list_late : (h : SessionView) (bytes : List ℕ) (p : Path) → false ≡ h.tree.failed → Some p ≡ parse_path bytes → PassesChecks h (ops.ListAll bytes)
 list_late h bytes p works is = let op = ops.ListAll bytes in
     told_late h op
-    (refusal_unless_parents_are_directories (tree_view h.tree) [] p ∷ refuse_if (is_none (tree_view h.tree p)) ops.NoEnt ∷ refuse_if (is_file (tree_view h.tree p)) ops.NotDir ∷ [])
+    (parents_refusal (tree_view h.tree) [] p ∷ refuse_if (is_none (tree_view h.tree p)) ops.NoEnt ∷ refuse_if (is_file (tree_view h.tree p)) ops.NotDir ∷ [])
     (rw (sym works, sym is) refl)
     (parents op (tree_view h.tree) [] p refl, (late op _ _ refl, (late op _ _ refl, tt)))
 
-pub get_late : (h : SessionView) (bytes : List ℕ) (kind : ℕ) (p : Path) → false ≡ h.tree.failed → Some p ≡ path_of_bytes_unless_root bytes → PassesChecksWithoutDeviceCalls h (ops.GetAttr bytes kind)
+pub get_late : (h : SessionView) (bytes : List ℕ) (kind : ℕ) (p : Path) → false ≡ h.tree.failed → Some p ≡ entry_path bytes → PassesChecks h (ops.GetAttr bytes kind)
 get_late h bytes kind p works is = let op = ops.GetAttr bytes kind in
     told_late h op
-    (refusal_unless_parents_are_directories (tree_view h.tree) [] p ∷ refuse_if (is_none (tree_view h.tree p)) ops.NoEnt ∷ refuse_if (is_none (attribute_bytes_of_type kind (attributes_of_node (tree_view h.tree p)))) ops.NoAttr ∷ [])
+    (parents_refusal (tree_view h.tree) [] p ∷ refuse_if (is_none (tree_view h.tree p)) ops.NoEnt ∷ refuse_if (is_none (attribute_bytes kind (node_attributes_of (tree_view h.tree p)))) ops.NoAttr ∷ [])
     (rw (sym works, (is_entry bytes p is).0, root_false bytes p is) refl)
     (parents op (tree_view h.tree) [] p refl, (late op _ _ refl, (late op _ _ refl, tt)))
 
 -- ---- changes
 
-pub mkdir_late : (h : SessionView) (bytes : List ℕ) (p : Path) → false ≡ h.tree.failed → true ≡ h.tree.writable → Some p ≡ path_of_bytes bytes → PassesChecksWithoutDeviceCalls h (ops.Mkdir bytes)
+pub mkdir_late : (h : SessionView) (bytes : List ℕ) (p : Path) → false ≡ h.tree.failed → true ≡ h.tree.writable → Some p ≡ parse_path bytes → PassesChecks h (ops.Mkdir bytes)
 mkdir_late h bytes p works writable is = let op = ops.Mkdir bytes in
     told_late h op
-    (refusal_unless_parents_are_directories (tree_view h.tree) [] p ∷ refuse_if (has_too_long_last_name (disk_summary_of_tree h.tree) p) ops.NameTooLong ∷ refuse_if (is_some (tree_view h.tree p)) ops.Exist ∷ refuse_if (is_entry_over_charge_limit (disk_summary_of_tree h.tree) (last_name_of_path p) []) ops.EntryFull ∷ refuse_if (lacks_free_blocks (disk_summary_of_tree h.tree) h.files 4) ops.NoSpace ∷ [])
+    (parents_refusal (tree_view h.tree) [] p ∷ refuse_if (has_long_name (tree_summary h.tree) p) ops.NameTooLong ∷ refuse_if (is_some (tree_view h.tree p)) ops.Exist ∷ refuse_if (is_over_charge (tree_summary h.tree) (last_name p) []) ops.EntryFull ∷ refuse_if (lacks_free (tree_summary h.tree) h.files 4) ops.NoSpace ∷ [])
     (rw (sym works, sym writable, sym is) refl)
     (parents op (tree_view h.tree) [] p refl, (late op _ _ refl, (late op _ _ refl, (late op _ _ refl, (late op _ _ refl, tt)))))
 
-pub remove_late : (h : SessionView) (bytes : List ℕ) (p : Path) → false ≡ h.tree.failed → true ≡ h.tree.writable → Some p ≡ path_of_bytes_unless_root bytes → PassesChecksWithoutDeviceCalls h (ops.Remove bytes)
+pub remove_late : (h : SessionView) (bytes : List ℕ) (p : Path) → false ≡ h.tree.failed → true ≡ h.tree.writable → Some p ≡ entry_path bytes → PassesChecks h (ops.Remove bytes)
 remove_late h bytes p works writable is = let op = ops.Remove bytes in
     told_late h op
-    (refusal_unless_parents_are_directories (tree_view h.tree) [] p ∷ refuse_if (is_none (tree_view h.tree p)) ops.NoEnt ∷ refuse_if (nat_lt 0 (length (names_of_directory_node (tree_view h.tree p)))) ops.NotEmpty ∷ refuse_if (has_open_file_with_path_satisfying (same_path p) h.files) ops.Busy ∷ [])
+    (parents_refusal (tree_view h.tree) [] p ∷ refuse_if (is_none (tree_view h.tree p)) ops.NoEnt ∷ refuse_if (nat_lt 0 (length (directory_names (tree_view h.tree p)))) ops.NotEmpty ∷ refuse_if (has_file (same_path p) h.files) ops.Busy ∷ [])
     (rw (sym works, sym writable, (is_entry bytes p is).0, root_false bytes p is) refl)
     (parents op (tree_view h.tree) [] p refl, (late op _ _ refl, (late op _ _ refl, (late op _ _ refl, tt))))
 
-pub set_late : (h : SessionView) (bytes : List ℕ) (kind : ℕ) (value : List ℕ) (p : Path) → false ≡ h.tree.failed → true ≡ h.tree.writable → Some p ≡ path_of_bytes_unless_root bytes → PassesChecksWithoutDeviceCalls h (ops.SetAttr bytes kind value)
+pub set_late : (h : SessionView) (bytes : List ℕ) (kind : ℕ) (value : List ℕ) (p : Path) → false ≡ h.tree.failed → true ≡ h.tree.writable → Some p ≡ entry_path bytes → PassesChecks h (ops.SetAttr bytes kind value)
 set_late h bytes kind value p works writable is = let op = ops.SetAttr bytes kind value in
     told_late h op
-    (refusal_unless_parents_are_directories (tree_view h.tree) [] p ∷ refuse_if (is_none (tree_view h.tree p)) ops.NoEnt ∷ refuse_if (nat_lt (attr_max_of h.tree.disk.profile) (length value)) ops.TooBig ∷ refuse_if (is_entry_over_charge_limit (disk_summary_of_tree h.tree) (last_name_of_path p) (attributes_with_attribute kind value (attributes_of_node (tree_view h.tree p)))) ops.EntryFull ∷ refuse_if (lacks_free_blocks (disk_summary_of_tree h.tree) h.files 2) ops.NoSpace ∷ [])
+    (parents_refusal (tree_view h.tree) [] p ∷ refuse_if (is_none (tree_view h.tree p)) ops.NoEnt ∷ refuse_if (nat_lt (attr_max_of h.tree.disk.profile) (length value)) ops.TooBig ∷ refuse_if (is_over_charge (tree_summary h.tree) (last_name p) (attributes_with kind value (node_attributes_of (tree_view h.tree p)))) ops.EntryFull ∷ refuse_if (lacks_free (tree_summary h.tree) h.files 2) ops.NoSpace ∷ [])
     (rw (sym works, sym writable, (is_entry bytes p is).0, root_false bytes p is) refl)
     (parents op (tree_view h.tree) [] p refl, (late op _ _ refl, (late op _ _ refl, (late op _ _ refl, (late op _ _ refl, tt)))))
 
-pub remove_attr_late : (h : SessionView) (bytes : List ℕ) (kind : ℕ) (p : Path) → false ≡ h.tree.failed → true ≡ h.tree.writable → Some p ≡ path_of_bytes_unless_root bytes → PassesChecksWithoutDeviceCalls h (ops.RemoveAttr bytes kind)
+pub remove_attr_late : (h : SessionView) (bytes : List ℕ) (kind : ℕ) (p : Path) → false ≡ h.tree.failed → true ≡ h.tree.writable → Some p ≡ entry_path bytes → PassesChecks h (ops.RemoveAttr bytes kind)
 remove_attr_late h bytes kind p works writable is = let op = ops.RemoveAttr bytes kind in
     told_late h op
-    (refusal_unless_parents_are_directories (tree_view h.tree) [] p ∷ refuse_if (is_none (tree_view h.tree p)) ops.NoEnt ∷ refuse_if (is_none (attribute_bytes_of_type kind (attributes_of_node (tree_view h.tree p)))) ops.NoAttr ∷ [])
+    (parents_refusal (tree_view h.tree) [] p ∷ refuse_if (is_none (tree_view h.tree p)) ops.NoEnt ∷ refuse_if (is_none (attribute_bytes kind (node_attributes_of (tree_view h.tree p)))) ops.NoAttr ∷ [])
     (rw (sym works, sym writable, (is_entry bytes p is).0, root_false bytes p is) refl)
     (parents op (tree_view h.tree) [] p refl, (late op _ _ refl, (late op _ _ refl, tt)))
 
-pub rename_late : (h : SessionView) (old new : List ℕ) (p q : Path) → false ≡ h.tree.failed → true ≡ h.tree.writable → Some p ≡ path_of_bytes_unless_root old → Some q ≡ path_of_bytes_unless_root new → is_path_beneath (path_of_bytes_or_root old) (path_of_bytes_or_root new) ≡ false → PassesChecksWithoutDeviceCalls h (ops.Rename old new)
+pub rename_late : (h : SessionView) (old new : List ℕ) (p q : Path) → false ≡ h.tree.failed → true ≡ h.tree.writable → Some p ≡ entry_path old → Some q ≡ entry_path new → is_path_beneath (path_or_root old) (path_or_root new) ≡ false → PassesChecks h (ops.Rename old new)
 rename_late h old new p q works writable from to apart = let op = ops.Rename old new in
     told_late h op
-    (refusal_unless_parents_are_directories (tree_view h.tree) [] (path_of_bytes_or_root old) ∷ refusal_unless_parents_are_directories (tree_view h.tree) [] (path_of_bytes_or_root new) ∷ refuse_if (has_too_long_last_name (disk_summary_of_tree h.tree) (path_of_bytes_or_root new)) ops.NameTooLong ∷ refuse_if (is_none (tree_view h.tree (path_of_bytes_or_root old))) ops.NoEnt ∷ refuse_if (not (same_path (path_of_bytes_or_root old) (path_of_bytes_or_root new)) && is_directory (tree_view h.tree (path_of_bytes_or_root old)) && is_file (tree_view h.tree (path_of_bytes_or_root new))) ops.NotDir ∷ refuse_if (not (same_path (path_of_bytes_or_root old) (path_of_bytes_or_root new)) && is_file (tree_view h.tree (path_of_bytes_or_root old)) && is_directory (tree_view h.tree (path_of_bytes_or_root new))) ops.IsDir ∷ refuse_if (not (same_path (path_of_bytes_or_root old) (path_of_bytes_or_root new)) && nat_lt 0 (length (names_of_directory_node (tree_view h.tree (path_of_bytes_or_root new))))) ops.NotEmpty ∷ refuse_if (has_open_file_with_path_satisfying (λ x. is_some (path_without_prefix (path_of_bytes_or_root old) x) || same_path (path_of_bytes_or_root new) x) h.files) ops.Busy ∷ refuse_if (not (same_path (path_of_bytes_or_root old) (path_of_bytes_or_root new)) && is_entry_over_charge_limit (disk_summary_of_tree h.tree) (last_name_of_path (path_of_bytes_or_root new)) (attributes_of_node (tree_view h.tree (path_of_bytes_or_root old)))) ops.EntryFull ∷ refuse_if (lacks_free_blocks (disk_summary_of_tree h.tree) h.files 2) ops.NoSpace ∷ [])
+    (parents_refusal (tree_view h.tree) [] (path_or_root old) ∷ parents_refusal (tree_view h.tree) [] (path_or_root new) ∷ refuse_if (has_long_name (tree_summary h.tree) (path_or_root new)) ops.NameTooLong ∷ refuse_if (is_none (tree_view h.tree (path_or_root old))) ops.NoEnt ∷ refuse_if (not (same_path (path_or_root old) (path_or_root new)) && is_directory (tree_view h.tree (path_or_root old)) && is_file (tree_view h.tree (path_or_root new))) ops.NotDir ∷ refuse_if (not (same_path (path_or_root old) (path_or_root new)) && is_file (tree_view h.tree (path_or_root old)) && is_directory (tree_view h.tree (path_or_root new))) ops.IsDir ∷ refuse_if (not (same_path (path_or_root old) (path_or_root new)) && nat_lt 0 (length (directory_names (tree_view h.tree (path_or_root new))))) ops.NotEmpty ∷ refuse_if (has_file (λ x. is_some (without_prefix (path_or_root old) x) || same_path (path_or_root new) x) h.files) ops.Busy ∷ refuse_if (not (same_path (path_or_root old) (path_or_root new)) && is_over_charge (tree_summary h.tree) (last_name (path_or_root new)) (node_attributes_of (tree_view h.tree (path_or_root old)))) ops.EntryFull ∷ refuse_if (lacks_free (tree_summary h.tree) h.files 2) ops.NoSpace ∷ [])
     (rw (sym works, sym writable, (is_entry old p from).1, (is_entry new q to).1, apart) refl)
-    (parents op (tree_view h.tree) [] (path_of_bytes_or_root old) refl, (parents op (tree_view h.tree) [] (path_of_bytes_or_root new) refl, (late op _ _ refl, (late op _ _ refl, (late op _ _ refl, (late op _ _ refl, (late op _ _ refl, (late op _ _ refl, (late op _ _ refl, (late op _ _ refl, tt))))))))))
+    (parents op (tree_view h.tree) [] (path_or_root old) refl, (parents op (tree_view h.tree) [] (path_or_root new) refl, (late op _ _ refl, (late op _ _ refl, (late op _ _ refl, (late op _ _ refl, (late op _ _ refl, (late op _ _ refl, (late op _ _ refl, (late op _ _ refl, tt))))))))))
 
 -- ---- opens
 
-pub reader_late : (h : SessionView) (bytes : List ℕ) (p : Path) (flags : FlagsOfOpen) → false ≡ h.tree.failed → Some p ≡ path_of_bytes bytes → flags.write ≡ false → true ≡ are_flags_allowed flags → PassesChecksWithoutDeviceCalls h (ops.Open bytes flags)
+pub reader_late : (h : SessionView) (bytes : List ℕ) (p : Path) (flags : FlagsOfOpen) → false ≡ h.tree.failed → Some p ≡ parse_path bytes → flags.write ≡ false → true ≡ are_allowed flags → PassesChecks h (ops.Open bytes flags)
 reader_late h bytes p flags works is write allowed = let op = ops.Open bytes flags in
     told_late h op
-    (refusal_unless_parents_are_directories (tree_view h.tree) [] p ∷ refuse_if (is_none (tree_view h.tree p) && flags.create && has_too_long_last_name (disk_summary_of_tree h.tree) p) ops.NameTooLong ∷ refuse_if (is_none (tree_view h.tree p) && not flags.create) ops.NoEnt ∷ refuse_if (is_some (tree_view h.tree p) && flags.exclusive) ops.Exist ∷ refuse_if (is_directory (tree_view h.tree p)) ops.IsDir ∷ refuse_if (list_any (λ w. same_path p w.path) (writers_of_open_files h.files) || nat_le 16 (length (readers_of_open_files h.files))) ops.Busy ∷ refuse_if (is_none (tree_view h.tree p) && is_entry_over_charge_limit (disk_summary_of_tree h.tree) (last_name_of_path p) []) ops.EntryFull ∷ refuse_if (is_none (tree_view h.tree p) && lacks_free_blocks (disk_summary_of_tree h.tree) h.files 2) ops.NoSpace ∷ refuse_if (flags.truncate && overfills_disk (disk_summary_of_tree h.tree) (writer_after_open p flags (file_bytes_of_node (tree_view h.tree p)))) ops.NoSpace ∷ [])
+    (parents_refusal (tree_view h.tree) [] p ∷ refuse_if (is_none (tree_view h.tree p) && flags.create && has_long_name (tree_summary h.tree) p) ops.NameTooLong ∷ refuse_if (is_none (tree_view h.tree p) && not flags.create) ops.NoEnt ∷ refuse_if (is_some (tree_view h.tree p) && flags.exclusive) ops.Exist ∷ refuse_if (is_directory (tree_view h.tree p)) ops.IsDir ∷ refuse_if (list_any (λ w. same_path p w.path) (all_writers h.files) || nat_le 16 (length (all_readers h.files))) ops.Busy ∷ refuse_if (is_none (tree_view h.tree p) && is_over_charge (tree_summary h.tree) (last_name p) []) ops.EntryFull ∷ refuse_if (is_none (tree_view h.tree p) && lacks_free (tree_summary h.tree) h.files 2) ops.NoSpace ∷ refuse_if (flags.truncate && overfills_disk (tree_summary h.tree) (opened_writer p flags (file_bytes (tree_view h.tree p)))) ops.NoSpace ∷ [])
     (rw (sym works, sym is, sym allowed, write) refl)
     (parents op (tree_view h.tree) [] p refl, (late op _ _ refl, (late op _ _ refl, (late op _ _ refl, (late op _ _ refl, (late op _ _ refl, (late op _ _ refl, (late op _ _ refl, (late op _ _ refl, tt)))))))))
 
-pub writer_late : (h : SessionView) (bytes : List ℕ) (p : Path) (flags : FlagsOfOpen) → false ≡ h.tree.failed → true ≡ h.tree.writable → Some p ≡ path_of_bytes bytes → flags.write ≡ true → true ≡ are_flags_allowed flags → PassesChecksWithoutDeviceCalls h (ops.Open bytes flags)
+pub writer_late : (h : SessionView) (bytes : List ℕ) (p : Path) (flags : FlagsOfOpen) → false ≡ h.tree.failed → true ≡ h.tree.writable → Some p ≡ parse_path bytes → flags.write ≡ true → true ≡ are_allowed flags → PassesChecks h (ops.Open bytes flags)
 writer_late h bytes p flags works writable is write allowed = let op = ops.Open bytes flags in
     told_late h op
-    (refusal_unless_parents_are_directories (tree_view h.tree) [] p ∷ refuse_if (is_none (tree_view h.tree p) && flags.create && has_too_long_last_name (disk_summary_of_tree h.tree) p) ops.NameTooLong ∷ refuse_if (is_none (tree_view h.tree p) && not flags.create) ops.NoEnt ∷ refuse_if (is_some (tree_view h.tree p) && flags.exclusive) ops.Exist ∷ refuse_if (is_directory (tree_view h.tree p)) ops.IsDir ∷ refuse_if (nat_lt 0 (length (writers_of_open_files h.files)) || has_open_file_with_path_satisfying (same_path p) h.files) ops.Busy ∷ refuse_if (is_none (tree_view h.tree p) && is_entry_over_charge_limit (disk_summary_of_tree h.tree) (last_name_of_path p) []) ops.EntryFull ∷ refuse_if (is_none (tree_view h.tree p) && lacks_free_blocks (disk_summary_of_tree h.tree) h.files 2) ops.NoSpace ∷ refuse_if (flags.truncate && overfills_disk (disk_summary_of_tree h.tree) (writer_after_open p flags (file_bytes_of_node (tree_view h.tree p)))) ops.NoSpace ∷ [])
+    (parents_refusal (tree_view h.tree) [] p ∷ refuse_if (is_none (tree_view h.tree p) && flags.create && has_long_name (tree_summary h.tree) p) ops.NameTooLong ∷ refuse_if (is_none (tree_view h.tree p) && not flags.create) ops.NoEnt ∷ refuse_if (is_some (tree_view h.tree p) && flags.exclusive) ops.Exist ∷ refuse_if (is_directory (tree_view h.tree p)) ops.IsDir ∷ refuse_if (nat_lt 0 (length (all_writers h.files)) || has_file (same_path p) h.files) ops.Busy ∷ refuse_if (is_none (tree_view h.tree p) && is_over_charge (tree_summary h.tree) (last_name p) []) ops.EntryFull ∷ refuse_if (is_none (tree_view h.tree p) && lacks_free (tree_summary h.tree) h.files 2) ops.NoSpace ∷ refuse_if (flags.truncate && overfills_disk (tree_summary h.tree) (opened_writer p flags (file_bytes (tree_view h.tree p)))) ops.NoSpace ∷ [])
     (rw (sym works, sym writable, sym is, sym allowed, write) refl)
     (parents op (tree_view h.tree) [] p refl, (late op _ _ refl, (late op _ _ refl, (late op _ _ refl, (late op _ _ refl, (late op _ _ refl, (late op _ _ refl, (late op _ _ refl, (late op _ _ refl, tt)))))))))

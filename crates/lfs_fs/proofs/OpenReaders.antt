@@ -3,23 +3,23 @@ use Rattle.std.proofs.Common.{ℕ, zero, suc, ◌≡◌, ◌||◌, ◌∙◌, Bo
 use Rattle.std.specs.List.{AllByRecursion, list_any}
 use Rattle.std.specs.Option.{option_map}
 use Rattle.std.proofs.lemmas.Option.{same_Some}
-use Rattle.lfs_model.specs.Disk.{Disk}
-use Rattle.lfs_model.specs.Keeping.{removes_or_moves_path_or_ancestor}
-use Rattle.lfs_model.specs.Operations.{Operation}
-use Rattle.lfs_model.specs.Shown.{skip_list_bytes_on_disk, entries_by_directory_in_thread, tree_on_disk}
-use Rattle.lfs_model.specs.SlotEdits.{slot_of_path}
-use Rattle.lfs_model.specs.Slots.{Attributes, Slot}
-use Rattle.lfs_model.specs.Thread.{Pair}
-use Rattle.lfs_model.specs.Tree.{Path, node_of_struct_and_attributes}
-use Rattle.lfs_model.specs.TreeEdits.{is_file, same_path}
+use Rattle.lfs_model.specs.format.Disk.{Disk}
+use Rattle.lfs_model.specs.layers.Keeping.{takes_away}
+use Rattle.lfs_model.specs.session.Operations.{Operation}
+use Rattle.lfs_model.specs.tree.Shown.{struct_list_bytes, all_entries, tree_on_disk}
+use Rattle.lfs_model.specs.session.SlotEdits.{slot_of}
+use Rattle.lfs_model.specs.format.Slots.{Attributes, Slot}
+use Rattle.lfs_model.specs.format.Thread.{Pair}
+use Rattle.lfs_model.specs.tree.Tree.{Path, struct_node}
+use Rattle.lfs_model.specs.session.TreeEdits.{is_file, same_path}
 use Rattle.lfs_model.proofs.Paths.{path_from_same, path_itself}
-use Rattle.lfs_lookup.specs.FileContents.{IsInlineBytesOrSkipListOfFileAtPath, AreContentsOfFileAtPathOrNone, struct_of_file_contents}
+use Rattle.lfs_lookup.specs.FileContents.{IsStorageAt, AreContentsAt, contents_struct}
 use Rattle.lfs_lookup.specs.declared.file_contents.FileContents.{FileContents}
 use Rattle.lfs_lookup.specs.declared.file_contents.FileContents.TheVariants as contents
-use Rattle.lfs_tree.specs.KeptFiles.{KeepsStructsOfOtherFiles}
-use Rattle.lfs_tree.specs.TreeState.{IsOperationAppliedToTree, TreeState, kept_thread_of_tree_state, tree_view}
-use Rattle.lfs_fs.specs.FileView.{RuntimeOpenFilesByNumber, prepended_if_some, open_file_at, open_file_with_position, open_files_with_entry_at_number, reader_of_open_file_or_none, readers_among, writers_among, paths_of_writers}
-use Rattle.lfs_fs.specs.SessionView.{AreReadersOfCurrentContentsWithoutWriter, IsReaderOfCurrentContentsWithoutWriter}
+use Rattle.lfs_tree.specs.KeptFiles.{KeepsOtherFiles}
+use Rattle.lfs_tree.specs.TreeState.{IsApplied, TreeState, kept_thread, tree_view}
+use Rattle.lfs_fs.specs.FileView.{RuntimeFiles, prepended, open_file_at, file_with_position, runtime_files_with, open_reader, readers_among, writers_among, writers_paths}
+use Rattle.lfs_fs.specs.SessionView.{AreCurrentReaders, IsCurrentReader}
 use Rattle.lfs_fs.specs.declared.files.OpenFile.{OpenFile}
 use Rattle.lfs_fs.specs.declared.files.OpenFile.TheVariants as file
 use Rattle.lfs_fs.specs.declared.files.Reader.{Reader}
@@ -28,32 +28,32 @@ use Rattle.lfs_fs.specs.declared.files.Writer.{Writer}
 -- ---- contents
 
 -- a file is where contents are
-pub contents_are_file : (disk : Disk) (ps : List Pair) (path : Path) (c : FileContents) → IsInlineBytesOrSkipListOfFileAtPath ps path c → is_file (tree_on_disk disk ps path) ≡ true
-contents_are_file disk ps path c h = go (slot_of_path ps path) h.struct
+pub contents_are_file : (disk : Disk) (ps : List Pair) (path : Path) (c : FileContents) → IsStorageAt ps path c → is_file (tree_on_disk disk ps path) ≡ true
+contents_are_file disk ps path c h = go (slot_of ps path) h.struct
   where
-    kind : (attributes : Attributes) (d : FileContents) → is_file (Some (node_of_struct_and_attributes (skip_list_bytes_on_disk disk) (entries_by_directory_in_thread ps) attributes (struct_of_file_contents d))) ≡ true
+    kind : (attributes : Attributes) (d : FileContents) → is_file (Some (struct_node (struct_list_bytes disk) (all_entries ps) attributes (contents_struct d))) ≡ true
     kind attributes (contents.Inline bytes) = refl
     kind attributes (contents.List head size) = refl
 
-    go : (o : Option Slot) → option_map (λ (u : Slot). u.struct) o ≡ Some (struct_of_file_contents c) → is_file (option_map (λ (u : Slot). node_of_struct_and_attributes (skip_list_bytes_on_disk disk) (entries_by_directory_in_thread ps) u.attributes u.struct) o) ≡ true
+    go : (o : Option Slot) → option_map (λ (u : Slot). u.struct) o ≡ Some (contents_struct c) → is_file (option_map (λ (u : Slot). struct_node (struct_list_bytes disk) (all_entries ps) u.attributes u.struct) o) ≡ true
     go None e = absurd (cc)
-    go (Some u) e = subst (λ s. is_file (Some (node_of_struct_and_attributes (skip_list_bytes_on_disk disk) (entries_by_directory_in_thread ps) u.attributes s)) ≡ true) (sym (same_Some u.struct (struct_of_file_contents c) e)) (kind u.attributes c)
+    go (Some u) e = subst (λ s. is_file (Some (struct_node (struct_list_bytes disk) (all_entries ps) u.attributes s)) ≡ true) (sym (same_Some u.struct (contents_struct c) e)) (kind u.attributes c)
 
 -- contents that are found are those of the file there
-pub found_contents : (t : TreeState) (path : Path) (o : Option FileContents) (x none : FileContents) → AreContentsOfFileAtPathOrNone (kept_thread_of_tree_state t) path o → x ≡ unwrap_or o none → is_file (tree_view t path) ≡ true → IsInlineBytesOrSkipListOfFileAtPath t.pairs path x
+pub found_contents : (t : TreeState) (path : Path) (o : Option FileContents) (x none : FileContents) → AreContentsAt (kept_thread t) path o → x ≡ unwrap_or o none → is_file (tree_view t path) ≡ true → IsStorageAt t.pairs path x
 found_contents t path None x none found is there = absurd (let k = sym found ∙ there in cc)
-found_contents t path (Some c) x none found is there = subst (IsInlineBytesOrSkipListOfFileAtPath t.pairs path) (sym is) found
+found_contents t path (Some c) x none found is there = subst (IsStorageAt t.pairs path) (sym is) found
 
 -- ---- the readers of some open files
 
 module _ (P : Reader → Type 0) where
-  joined : (fs : RuntimeOpenFilesByNumber) (entry : Option OpenFile) → AllByRecursion P (prepended_if_some (reader_of_open_file_or_none entry) []) → AllByRecursion P (readers_among fs) → AllByRecursion P (readers_among (entry ∷ fs))
+  joined : (fs : RuntimeFiles) (entry : Option OpenFile) → AllByRecursion P (prepended (open_reader entry) []) → AllByRecursion P (readers_among fs) → AllByRecursion P (readers_among (entry ∷ fs))
   joined fs None e h = h
   joined fs (Some (file.Reading r)) e h = (e.0, h)
   joined fs (Some (file.Writing w)) e h = h
 
   -- with another entry in a place
-  pub all_set : (fs : RuntimeOpenFilesByNumber) (fd : ℕ) (entry : Option OpenFile) → AllByRecursion P (prepended_if_some (reader_of_open_file_or_none entry) []) → AllByRecursion P (readers_among fs) → AllByRecursion P (readers_among (set fs fd entry))
+  pub all_set : (fs : RuntimeFiles) (fd : ℕ) (entry : Option OpenFile) → AllByRecursion P (prepended (open_reader entry) []) → AllByRecursion P (readers_among fs) → AllByRecursion P (readers_among (set fs fd entry))
   all_set [] fd entry e h = h
   all_set (None ∷ fs) zero entry e h = joined fs entry e h
   all_set (Some (file.Reading r) ∷ fs) zero entry e h = joined fs entry e h.1
@@ -63,7 +63,7 @@ module _ (P : Reader → Type 0) where
   all_set (Some (file.Writing w) ∷ fs) (suc fd) entry e h = all_set fs fd entry e h
 
   -- with one more behind them
-  all_more : (fs : RuntimeOpenFilesByNumber) (entry : Option OpenFile) → AllByRecursion P (prepended_if_some (reader_of_open_file_or_none entry) []) → AllByRecursion P (readers_among fs) → AllByRecursion P (readers_among (fs ++ entry ∷ []))
+  all_more : (fs : RuntimeFiles) (entry : Option OpenFile) → AllByRecursion P (prepended (open_reader entry) []) → AllByRecursion P (readers_among fs) → AllByRecursion P (readers_among (fs ++ entry ∷ []))
   all_more [] None e h = h
   all_more [] (Some (file.Reading r)) e h = e
   all_more [] (Some (file.Writing w)) e h = h
@@ -71,7 +71,7 @@ module _ (P : Reader → Type 0) where
   all_more (Some (file.Reading r) ∷ fs) entry e h = (h.0, all_more fs entry e h.1)
   all_more (Some (file.Writing w) ∷ fs) entry e h = all_more fs entry e h
 
-  pub all_put : (fs : RuntimeOpenFilesByNumber) (fd : ℕ) (entry : Option OpenFile) → AllByRecursion P (prepended_if_some (reader_of_open_file_or_none entry) []) → AllByRecursion P (readers_among fs) → AllByRecursion P (readers_among (open_files_with_entry_at_number fs fd entry))
+  pub all_put : (fs : RuntimeFiles) (fd : ℕ) (entry : Option OpenFile) → AllByRecursion P (prepended (open_reader entry) []) → AllByRecursion P (readers_among fs) → AllByRecursion P (readers_among (runtime_files_with fs fd entry))
   all_put fs fd entry e h = go (nat_lt fd (length fs))
     where
       go : (b : Bool) → AllByRecursion P (readers_among (cond b (set fs fd entry) (fs ++ entry ∷ [])))
@@ -79,7 +79,7 @@ module _ (P : Reader → Type 0) where
       go false = all_more fs entry e h
 
   -- the one of a number
-  pub one_of_all : (fs : RuntimeOpenFilesByNumber) (fd : ℕ) (r : Reader) → Some r ≡ reader_of_open_file_or_none (open_file_at fs fd) → AllByRecursion P (readers_among fs) → P r
+  pub one_of_all : (fs : RuntimeFiles) (fd : ℕ) (r : Reader) → Some r ≡ open_reader (open_file_at fs fd) → AllByRecursion P (readers_among fs) → P r
   one_of_all [] fd r e h = absurd (cc)
   one_of_all (None ∷ fs) zero r e h = absurd (cc)
   one_of_all (Some (file.Reading q) ∷ fs) zero r e h = subst P (sym (same_Some r q e)) h.0
@@ -89,7 +89,7 @@ module _ (P : Reader → Type 0) where
   one_of_all (Some (file.Writing w) ∷ fs) (suc fd) r e h = one_of_all fs fd r e h
 
   -- where their positions don't matter
-  pub all_moved : ((r : Reader) (position : ℕ) → P r → P (record r { position = position })) → (fs : RuntimeOpenFilesByNumber) (fd position : ℕ) → AllByRecursion P (readers_among fs) → AllByRecursion P (readers_among (set fs fd (option_map (open_file_with_position position) (open_file_at fs fd))))
+  pub all_moved : ((r : Reader) (position : ℕ) → P r → P (record r { position = position })) → (fs : RuntimeFiles) (fd position : ℕ) → AllByRecursion P (readers_among fs) → AllByRecursion P (readers_among (set fs fd (option_map (file_with_position position) (open_file_at fs fd))))
   all_moved k [] fd position h = h
   all_moved k (None ∷ fs) zero position h = h
   all_moved k (Some (file.Reading r) ∷ fs) zero position h = (k r position h.0, h.1)
@@ -108,7 +108,7 @@ pub any_path : (p : Path) (ws : List Writer) → list_any (λ w. same_path p w.p
 any_path p [] = refl
 any_path p (w ∷ ws) = ap (λ b. same_path p w.path || b) (any_path p ws)
 
-pub paths_moved : (fs : RuntimeOpenFilesByNumber) (fd position : ℕ) → paths_of_writers (set fs fd (option_map (open_file_with_position position) (open_file_at fs fd))) ≡ paths_of_writers fs
+pub paths_moved : (fs : RuntimeFiles) (fd position : ℕ) → writers_paths (set fs fd (option_map (file_with_position position) (open_file_at fs fd))) ≡ writers_paths fs
 paths_moved [] fd position = refl
 paths_moved (None ∷ fs) zero position = refl
 paths_moved (Some (file.Reading r) ∷ fs) zero position = refl
@@ -124,7 +124,7 @@ no_more false b e = (refl, e)
 either : {a b : Bool} → a ≡ false → b ≡ false → (a || b) ≡ false
 either e f = rw e f
 
-paths_closed : (p : Path) (fs : RuntimeOpenFilesByNumber) (fd : ℕ) → list_any (same_path p) (paths_of_writers fs) ≡ false → list_any (same_path p) (paths_of_writers (set fs fd None)) ≡ false
+paths_closed : (p : Path) (fs : RuntimeFiles) (fd : ℕ) → list_any (same_path p) (writers_paths fs) ≡ false → list_any (same_path p) (writers_paths (set fs fd None)) ≡ false
 paths_closed p [] fd e = e
 paths_closed p (None ∷ fs) zero e = e
 paths_closed p (Some (file.Reading r) ∷ fs) zero e = e
@@ -135,23 +135,23 @@ paths_closed p (Some (file.Writing w) ∷ fs) (suc fd) e = let k = no_more (same
 
 -- ---- what they keep stays
 
-pub read_moved : (ps : List Pair) (fs : RuntimeOpenFilesByNumber) (fd position : ℕ) → AreReadersOfCurrentContentsWithoutWriter ps fs → AreReadersOfCurrentContentsWithoutWriter ps (set fs fd (option_map (open_file_with_position position) (open_file_at fs fd)))
+pub read_moved : (ps : List Pair) (fs : RuntimeFiles) (fd position : ℕ) → AreCurrentReaders ps fs → AreCurrentReaders ps (set fs fd (option_map (file_with_position position) (open_file_at fs fd)))
 read_moved ps fs fd position h =
-    subst (λ written. AllByRecursion (IsReaderOfCurrentContentsWithoutWriter ps written) (readers_among (set fs fd (option_map (open_file_with_position position) (open_file_at fs fd))))) (sym (paths_moved fs fd position))
-    (all_moved (IsReaderOfCurrentContentsWithoutWriter ps (paths_of_writers fs)) (λ r position k. record { contents = record { struct = k.contents.struct; fits = k.contents.fits }; apart = k.apart }) fs fd position h)
+    subst (λ written. AllByRecursion (IsCurrentReader ps written) (readers_among (set fs fd (option_map (file_with_position position) (open_file_at fs fd))))) (sym (paths_moved fs fd position))
+    (all_moved (IsCurrentReader ps (writers_paths fs)) (λ r position k. record { contents = record { struct = k.contents.struct; fits = k.contents.fits }; apart = k.apart }) fs fd position h)
 
-pub read_closed : (ps : List Pair) (fs : RuntimeOpenFilesByNumber) (fd : ℕ) → AreReadersOfCurrentContentsWithoutWriter ps fs → AreReadersOfCurrentContentsWithoutWriter ps (set fs fd None)
+pub read_closed : (ps : List Pair) (fs : RuntimeFiles) (fd : ℕ) → AreCurrentReaders ps fs → AreCurrentReaders ps (set fs fd None)
 read_closed ps fs fd h =
-    all_set (IsReaderOfCurrentContentsWithoutWriter ps (paths_of_writers (set fs fd None))) fs fd None tt
-    (all_weaker (IsReaderOfCurrentContentsWithoutWriter ps (paths_of_writers fs)) (IsReaderOfCurrentContentsWithoutWriter ps (paths_of_writers (set fs fd None))) (λ r k. record { contents = k.contents; apart = paths_closed r.path fs fd k.apart }) (readers_among fs) h)
+    all_set (IsCurrentReader ps (writers_paths (set fs fd None))) fs fd None tt
+    (all_weaker (IsCurrentReader ps (writers_paths fs)) (IsCurrentReader ps (writers_paths (set fs fd None))) (λ r k. record { contents = k.contents; apart = paths_closed r.path fs fd k.apart }) (readers_among fs) h)
 
-pub read_put : (ps : List Pair) (fs : RuntimeOpenFilesByNumber) (fd : ℕ) (r : Reader) → paths_of_writers (open_files_with_entry_at_number fs fd (Some (file.Reading r))) ≡ paths_of_writers fs → IsReaderOfCurrentContentsWithoutWriter ps (paths_of_writers fs) r → AreReadersOfCurrentContentsWithoutWriter ps fs → AreReadersOfCurrentContentsWithoutWriter ps (open_files_with_entry_at_number fs fd (Some (file.Reading r)))
+pub read_put : (ps : List Pair) (fs : RuntimeFiles) (fd : ℕ) (r : Reader) → writers_paths (runtime_files_with fs fd (Some (file.Reading r))) ≡ writers_paths fs → IsCurrentReader ps (writers_paths fs) r → AreCurrentReaders ps fs → AreCurrentReaders ps (runtime_files_with fs fd (Some (file.Reading r)))
 read_put ps fs fd r same k h =
-    subst (λ written. AllByRecursion (IsReaderOfCurrentContentsWithoutWriter ps written) (readers_among (open_files_with_entry_at_number fs fd (Some (file.Reading r))))) (sym same)
-    (all_put (IsReaderOfCurrentContentsWithoutWriter ps (paths_of_writers fs)) fs fd (Some (file.Reading r)) (k, tt) h)
+    subst (λ written. AllByRecursion (IsCurrentReader ps written) (readers_among (runtime_files_with fs fd (Some (file.Reading r))))) (sym same)
+    (all_put (IsCurrentReader ps (writers_paths fs)) fs fd (Some (file.Reading r)) (k, tt) h)
 
 -- in an operation that is about none of them
-pub read_carried : (old new : TreeState) (op : Operation) (written : List Path) (rs : List Reader) → IsOperationAppliedToTree old op new → AllByRecursion (λ r. removes_or_moves_path_or_ancestor op r.path ≡ false) rs → AllByRecursion (IsReaderOfCurrentContentsWithoutWriter old.pairs written) rs → AllByRecursion (IsReaderOfCurrentContentsWithoutWriter new.pairs written) rs
+pub read_carried : (old new : TreeState) (op : Operation) (written : List Path) (rs : List Reader) → IsApplied old op new → AllByRecursion (λ r. takes_away op r.path ≡ false) rs → AllByRecursion (IsCurrentReader old.pairs written) rs → AllByRecursion (IsCurrentReader new.pairs written) rs
 read_carried old new op written [] carried off h = tt
 read_carried old new op written (r ∷ rs) carried off h = (
   record {
@@ -164,7 +164,7 @@ read_carried old new op written (r ∷ rs) carried off h = (
   read_carried old new op written rs carried off.1 h.1,
 )
 
-pub none_read : (op : Operation) → ((p : Path) → removes_or_moves_path_or_ancestor op p ≡ false) → (rs : List Reader) → AllByRecursion (λ r. removes_or_moves_path_or_ancestor op r.path ≡ false) rs
+pub none_read : (op : Operation) → ((p : Path) → takes_away op p ≡ false) → (rs : List Reader) → AllByRecursion (λ r. takes_away op r.path ≡ false) rs
 none_read op h [] = tt
 none_read op h (r ∷ rs) = (h r.path, none_read op h rs)
 
@@ -176,10 +176,10 @@ other_way p q e = go (same_path q p) refl
     go true k = absurd (let l = sym e ∙ ap (λ z. same_path z q) (sym (path_from_same q p k)) ∙ path_itself q in cc)
 
 -- where the contents of a writer are stored at a path
-pub read_stored : (disk : Disk) (old new : List Pair) (path : Path) (written later : List Path) (rs : List Reader) → KeepsStructsOfOtherFiles (tree_on_disk disk old) old path new → ((p : Path) → list_any (same_path p) written ≡ false → (same_path p path ≡ false) × (list_any (same_path p) later ≡ false))
-    → AllByRecursion (IsReaderOfCurrentContentsWithoutWriter old written) rs → AllByRecursion (IsReaderOfCurrentContentsWithoutWriter new later) rs
+pub read_stored : (disk : Disk) (old new : List Pair) (path : Path) (written later : List Path) (rs : List Reader) → KeepsOtherFiles (tree_on_disk disk old) old path new → ((p : Path) → list_any (same_path p) written ≡ false → (same_path p path ≡ false) × (list_any (same_path p) later ≡ false))
+    → AllByRecursion (IsCurrentReader old written) rs → AllByRecursion (IsCurrentReader new later) rs
 read_stored disk old new path written later rs keeps apart h =
-    all_weaker (IsReaderOfCurrentContentsWithoutWriter old written) (IsReaderOfCurrentContentsWithoutWriter new later) (λ r k.
+    all_weaker (IsCurrentReader old written) (IsCurrentReader new later) (λ r k.
     let a = apart r.path k.apart in
     record {
       contents = record {
@@ -195,27 +195,27 @@ alone_apart p path e = (no_more (same_path p path) _ e).0
 -- ---- with another writer in a place
 
 -- that writer has the path of the only one
-pub read_rewritten : (ps qs : List Pair) (fs : RuntimeOpenFilesByNumber) (fd : ℕ) (w v : Writer) → writers_among fs ≡ w ∷ [] → writers_among (set fs fd (Some (file.Writing v))) ≡ v ∷ [] → v.path ≡ w.path → qs ≡ ps → AreReadersOfCurrentContentsWithoutWriter ps fs → AreReadersOfCurrentContentsWithoutWriter qs (set fs fd (Some (file.Writing v)))
+pub read_rewritten : (ps qs : List Pair) (fs : RuntimeFiles) (fd : ℕ) (w v : Writer) → writers_among fs ≡ w ∷ [] → writers_among (set fs fd (Some (file.Writing v))) ≡ v ∷ [] → v.path ≡ w.path → qs ≡ ps → AreCurrentReaders ps fs → AreCurrentReaders qs (set fs fd (Some (file.Writing v)))
 read_rewritten ps qs fs fd w v was now path same h =
-    let paths : paths_of_writers fs ≡ paths_of_writers (set fs fd (Some (file.Writing v))) = ap (map (λ x. x.path)) was ∙ ap (λ p. p ∷ []) (sym path) ∙ sym (ap (map (λ x. x.path)) now) in
-    subst (λ zs. AreReadersOfCurrentContentsWithoutWriter zs (set fs fd (Some (file.Writing v)))) (sym same)
-    (subst (λ written. AllByRecursion (IsReaderOfCurrentContentsWithoutWriter ps written) (readers_among (set fs fd (Some (file.Writing v))))) paths
-    (all_set (IsReaderOfCurrentContentsWithoutWriter ps (paths_of_writers fs)) fs fd (Some (file.Writing v)) tt h))
+    let paths : writers_paths fs ≡ writers_paths (set fs fd (Some (file.Writing v))) = ap (map (λ x. x.path)) was ∙ ap (λ p. p ∷ []) (sym path) ∙ sym (ap (map (λ x. x.path)) now) in
+    subst (λ zs. AreCurrentReaders zs (set fs fd (Some (file.Writing v)))) (sym same)
+    (subst (λ written. AllByRecursion (IsCurrentReader ps written) (readers_among (set fs fd (Some (file.Writing v))))) paths
+    (all_set (IsCurrentReader ps (writers_paths fs)) fs fd (Some (file.Writing v)) tt h))
 
 -- its contents were stored, and there is another entry in its place
-pub read_saved : (disk : Disk) (old new : List Pair) (fs : RuntimeOpenFilesByNumber) (fd : ℕ) (entry : Option OpenFile) (path : Path) (later : List Path) → reader_of_open_file_or_none entry ≡ None → paths_of_writers fs ≡ path ∷ [] → paths_of_writers (set fs fd entry) ≡ later
-    → KeepsStructsOfOtherFiles (tree_on_disk disk old) old path new → ((p : Path) → same_path p path ≡ false → list_any (same_path p) later ≡ false) → AreReadersOfCurrentContentsWithoutWriter old fs → AreReadersOfCurrentContentsWithoutWriter new (set fs fd entry)
+pub read_saved : (disk : Disk) (old new : List Pair) (fs : RuntimeFiles) (fd : ℕ) (entry : Option OpenFile) (path : Path) (later : List Path) → open_reader entry ≡ None → writers_paths fs ≡ path ∷ [] → writers_paths (set fs fd entry) ≡ later
+    → KeepsOtherFiles (tree_on_disk disk old) old path new → ((p : Path) → same_path p path ≡ false → list_any (same_path p) later ≡ false) → AreCurrentReaders old fs → AreCurrentReaders new (set fs fd entry)
 read_saved disk old new fs fd entry path later none was now keeps apart h =
-    subst (λ written. AllByRecursion (IsReaderOfCurrentContentsWithoutWriter new written) (readers_among (set fs fd entry))) (sym now)
-    (all_set (IsReaderOfCurrentContentsWithoutWriter new later) fs fd entry (subst (λ o. AllByRecursion (IsReaderOfCurrentContentsWithoutWriter new later) (prepended_if_some o [])) (sym none) tt)
-    (read_stored disk old new path (path ∷ []) later (readers_among fs) keeps (λ p e. let k = alone_apart p path e in (k, apart p k)) (subst (λ written. AllByRecursion (IsReaderOfCurrentContentsWithoutWriter old written) (readers_among fs)) was h)))
+    subst (λ written. AllByRecursion (IsCurrentReader new written) (readers_among (set fs fd entry))) (sym now)
+    (all_set (IsCurrentReader new later) fs fd entry (subst (λ o. AllByRecursion (IsCurrentReader new later) (prepended o [])) (sym none) tt)
+    (read_stored disk old new path (path ∷ []) later (readers_among fs) keeps (λ p e. let k = alone_apart p path e in (k, apart p k)) (subst (λ written. AllByRecursion (IsCurrentReader old written) (readers_among fs)) was h)))
 
 -- it is the first one, at a path where no reader is
-pub read_opened : (ps : List Pair) (fs : RuntimeOpenFilesByNumber) (fd : ℕ) (w : Writer) → paths_of_writers (open_files_with_entry_at_number fs fd (Some (file.Writing w))) ≡ w.path ∷ [] → AllByRecursion (λ r. same_path w.path r.path ≡ false) (readers_among fs) → AreReadersOfCurrentContentsWithoutWriter ps fs → AreReadersOfCurrentContentsWithoutWriter ps (open_files_with_entry_at_number fs fd (Some (file.Writing w)))
+pub read_opened : (ps : List Pair) (fs : RuntimeFiles) (fd : ℕ) (w : Writer) → writers_paths (runtime_files_with fs fd (Some (file.Writing w))) ≡ w.path ∷ [] → AllByRecursion (λ r. same_path w.path r.path ≡ false) (readers_among fs) → AreCurrentReaders ps fs → AreCurrentReaders ps (runtime_files_with fs fd (Some (file.Writing w)))
 read_opened ps fs fd w now off h =
-    subst (λ written. AllByRecursion (IsReaderOfCurrentContentsWithoutWriter ps written) (readers_among (open_files_with_entry_at_number fs fd (Some (file.Writing w))))) (sym now)
-    (all_put (IsReaderOfCurrentContentsWithoutWriter ps (w.path ∷ [])) fs fd (Some (file.Writing w)) tt (each (readers_among fs) off h))
+    subst (λ written. AllByRecursion (IsCurrentReader ps written) (readers_among (runtime_files_with fs fd (Some (file.Writing w))))) (sym now)
+    (all_put (IsCurrentReader ps (w.path ∷ [])) fs fd (Some (file.Writing w)) tt (each (readers_among fs) off h))
   where
-    each : (rs : List Reader) → AllByRecursion (λ r. same_path w.path r.path ≡ false) rs → AllByRecursion (IsReaderOfCurrentContentsWithoutWriter ps (paths_of_writers fs)) rs → AllByRecursion (IsReaderOfCurrentContentsWithoutWriter ps (w.path ∷ [])) rs
+    each : (rs : List Reader) → AllByRecursion (λ r. same_path w.path r.path ≡ false) rs → AllByRecursion (IsCurrentReader ps (writers_paths fs)) rs → AllByRecursion (IsCurrentReader ps (w.path ∷ [])) rs
     each [] off h = tt
     each (r ∷ rs) off h = (record { contents = h.0.contents; apart = either (other_way w.path r.path off.0) refl }, each rs off.1 h.1)

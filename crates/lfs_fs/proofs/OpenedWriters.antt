@@ -6,31 +6,31 @@ use Rattle.std.proofs.lemmas.Bool.{lt-ltb, ltb-true}
 use Rattle.std.proofs.lemmas.Bool.Decides.{nat_tests}
 use Rattle.lfs_device.specs.declared.error.Error.{Error}
 use Rattle.lfs_device.specs.declared.error.Error.TheVariants.{NoMemory}
-use Rattle.lfs_model.specs.TreeEdits.{tree_after_creation, file_bytes_of_node, is_directory, last_name_of_path, same_path}
-use Rattle.lfs_model.specs.BlockSets.{in_flight_block_count}
-use Rattle.lfs_model.specs.Disk.{block_count}
-use Rattle.lfs_model.specs.Cache.{CachedBlocks}
-use Rattle.lfs_model.specs.History.{DeviceCallEvent}
-use Rattle.lfs_model.specs.Operations as ops
-use Rattle.lfs_model.specs.Operations.{FlagsOfOpen, path_of_bytes}
-use Rattle.lfs_model.specs.Run.{IsSessionStep}
-use Rattle.lfs_model.specs.Session as session
-use Rattle.lfs_model.specs.Session.{OpenFilesByNumber, Session, Reading, Writing, free_file_number, reserved_block_count_of_writers, has_too_long_last_name, has_open_file_with_path_satisfying, is_entry_over_charge_limit, lacks_free_blocks, overfills_disk, refusal_unless_parents_are_directories, open_files_with_file_at_number, readers_of_open_files, writers_of_open_files}
-use Rattle.lfs_model.specs.Writers.{writer_after_open}
-use Rattle.lfs_model.specs.State.{Healthy}
-use Rattle.lfs_model.specs.Refusals.{path_of_bytes_or_root}
-use Rattle.lfs_model.specs.Effects.{effect_of_operation, file_size_of_node}
-use Rattle.lfs_model.specs.Tree.{DirectoryNode, FileNode, Node, Path}
+use Rattle.lfs_model.specs.session.TreeEdits.{tree_creating, file_bytes, is_directory, last_name, same_path}
+use Rattle.lfs_model.specs.layers.BlockSets.{in_flight_count}
+use Rattle.lfs_model.specs.format.Disk.{block_count}
+use Rattle.lfs_model.specs.layers.Cache.{CachedBlocks}
+use Rattle.lfs_model.specs.session.History.{CallEvent}
+use Rattle.lfs_model.specs.session.Operations as ops
+use Rattle.lfs_model.specs.session.Operations.{FlagsOfOpen, parse_path}
+use Rattle.lfs_model.specs.session.Run.{IsStep}
+use Rattle.lfs_model.specs.session.Session as session
+use Rattle.lfs_model.specs.session.Session.{OpenFilesByNumber, Session, Reading, Writing, free_number_of, reserved_for_writers, has_long_name, has_file, is_over_charge, lacks_free, overfills_disk, parents_refusal, files_with_file, all_readers, all_writers}
+use Rattle.lfs_model.specs.session.Writers.{opened_writer}
+use Rattle.lfs_model.specs.session.State.{Healthy}
+use Rattle.lfs_model.specs.session.Refusals.{path_or_root}
+use Rattle.lfs_model.specs.session.Effects.{operation_effect, node_file_size}
+use Rattle.lfs_model.specs.tree.Tree.{DirectoryNode, FileNode, Node, Path}
 use Rattle.lfs_model.proofs.Committed.{recovered_from}
 use Rattle.lfs_model.proofs.StepsMade.{completed_step}
-use Rattle.lfs_tree.specs.Permissions.{CanCreateFileAtPath}
-use Rattle.lfs_lookup.specs.Refusals.{refusal_of_error}
-use Rattle.lfs_tree.specs.TreeState.{WasTreeOnlyRead, IsFailedTree, IsOperationAppliedToTree, IsIoWithFaultOrNoMemory, IsSoundTreeState, TreeState, disk_summary_of_tree, tree_view}
-use Rattle.lfs_fs.specs.WriterChanges.{CanOpenWriter, IsOpenedWriterSeenAs}
-use Rattle.lfs_fs.specs.FileView.{RuntimeOpenFilesByNumber, open_file_at, open_files_view, lowest_free_number_of_runtime_files, has_unsaved_writer, open_files_with_entry_at_number, readers_among, writer_of_open_file_or_none, writer_view, writers_among}
-use Rattle.lfs_fs.specs.SessionView.{IsSessionStepOrFailure, AreReadersOfCurrentContentsWithoutWriter, HasKnownListBlocks, SessionView, IsSessionReadyForCalls, IsWriterOverWritableImage, session_view_of_tree_and_files, session_view_of_tree_and_files_view, system_state_of_session_view, refusal_by_checks, session_of_session_view}
-use Rattle.lfs_fs.specs.Replies.{reply_from_result}
-use Rattle.lfs_fs.specs.OpenFilesStay.{KeepsFilesOfWriters}
+use Rattle.lfs_tree.specs.Permissions.{CanCreateFile}
+use Rattle.lfs_lookup.specs.RefusalErrors.{error_refusal}
+use Rattle.lfs_tree.specs.TreeState.{OnlyReadsTree, IsFailedTree, IsApplied, HasErrorCause, IsSoundState, TreeState, tree_summary, tree_view}
+use Rattle.lfs_fs.specs.WriterChanges.{CanOpenWriter, IsOpenedWriter}
+use Rattle.lfs_fs.specs.FileView.{RuntimeFiles, open_file_at, files_view, lowest_free, has_unsaved, runtime_files_with, readers_among, open_writer, writer_view, writers_among}
+use Rattle.lfs_fs.specs.SessionView.{StepsOrFails, AreCurrentReaders, HasKnownBlocks, SessionView, IsReady, IsWriterReady, view_of_session, view_of_files, system_state, refusal_by_checks, viewed_session}
+use Rattle.lfs_fs.specs.Replies.{reply_from}
+use Rattle.lfs_fs.specs.OpenFilesStay.{KeepsWriters}
 use Rattle.lfs_fs.specs.declared.files.OpenFile.{OpenFile}
 use Rattle.lfs_fs.specs.declared.files.OpenFile.TheVariants as file
 use Rattle.lfs_fs.specs.declared.files.Writer.{Writer}
@@ -49,22 +49,22 @@ use Rattle.lfs_fs.proofs.ReadersKnow.{known_opened}
 pub record IsPassed (h : SessionView) (bytes : List ℕ) (p : Path) (flags : FlagsOfOpen) : Type 0 where
   pub works : h.tree.failed ≡ false
   pub writable : h.tree.writable ≡ true
-  pub given : is_some (path_of_bytes bytes) ≡ true
-  pub parents : refusal_unless_parents_are_directories (tree_view h.tree) [] p ≡ None
-  pub name : (is_none (tree_view h.tree p) && flags.create && has_too_long_last_name (disk_summary_of_tree h.tree) p) ≡ false
+  pub given : is_some (parse_path bytes) ≡ true
+  pub parents : parents_refusal (tree_view h.tree) [] p ≡ None
+  pub name : (is_none (tree_view h.tree p) && flags.create && has_long_name (tree_summary h.tree) p) ≡ false
   pub creates : (is_none (tree_view h.tree p) && not flags.create) ≡ false
   pub directory : is_directory (tree_view h.tree p) ≡ false
-  pub few : nat_lt 0 (length (writers_of_open_files h.files)) ≡ false
-  pub closed : has_open_file_with_path_satisfying (same_path p) h.files ≡ false
-  pub fits : (is_none (tree_view h.tree p) && is_entry_over_charge_limit (disk_summary_of_tree h.tree) (last_name_of_path p) []) ≡ false
-  pub room : (is_none (tree_view h.tree p) && lacks_free_blocks (disk_summary_of_tree h.tree) h.files 2) ≡ false
-  pub anew : (flags.truncate && overfills_disk (disk_summary_of_tree h.tree) (writer_after_open p flags (file_bytes_of_node (tree_view h.tree p)))) ≡ false
+  pub few : nat_lt 0 (length (all_writers h.files)) ≡ false
+  pub closed : has_file (same_path p) h.files ≡ false
+  pub fits : (is_none (tree_view h.tree p) && is_over_charge (tree_summary h.tree) (last_name p) []) ≡ false
+  pub room : (is_none (tree_view h.tree p) && lacks_free (tree_summary h.tree) h.files 2) ≡ false
+  pub anew : (flags.truncate && overfills_disk (tree_summary h.tree) (opened_writer p flags (file_bytes (tree_view h.tree p)))) ≡ false
 
 both_false : (a b : Bool) → (a || b) ≡ false → (a ≡ false) × (b ≡ false)
 both_false true b e = absurd (cc)
 both_false false b e = (refl, e)
 
-pub open_passed : (h : SessionView) (bytes : List ℕ) (flags : FlagsOfOpen) → flags.write ≡ true → refusal_by_checks h (ops.Open bytes flags) ≡ None → IsPassed h bytes (path_of_bytes_or_root bytes) flags
+pub open_passed : (h : SessionView) (bytes : List ℕ) (flags : FlagsOfOpen) → flags.write ≡ true → refusal_by_checks h (ops.Open bytes flags) ≡ None → IsPassed h bytes (path_or_root bytes) flags
 open_passed h bytes flags write e =
     let a = neither _ _ (not_refused h (ops.Open bytes flags) e) in
     let b = neither _ _ a.1 in
@@ -80,15 +80,15 @@ open_passed h bytes flags write e =
     record {
       works = not_failed h (ops.Open bytes flags) e;
       writable = negated h.tree.writable (sym (ap (λ w. w && not h.tree.writable) write) ∙ unrefused _ _ a.0);
-      given = there (path_of_bytes bytes) ∙ ap not (both_false (is_none (path_of_bytes bytes)) _ (unrefused _ _ b.0)).0;
+      given = there (parse_path bytes) ∙ ap not (both_false (is_none (parse_path bytes)) _ (unrefused _ _ b.0)).0;
       parents = c.0;
       name = unrefused _ _ d.0;
       creates = unrefused _ _ i.0;
       directory = unrefused _ _ k.0;
-      few = (both_false (nat_lt 0 (length (writers_of_open_files h.files))) _ (sym (ap (λ w. if w then nat_lt 0 (length (writers_of_open_files h.files)) || has_open_file_with_path_satisfying (same_path (path_of_bytes_or_root bytes)) h.files
-          else list_any (λ x. same_path (path_of_bytes_or_root bytes) x.path) (writers_of_open_files h.files) || nat_le 16 (length (readers_of_open_files h.files))) write) ∙ unrefused _ _ l.0)).0;
-      closed = (both_false (nat_lt 0 (length (writers_of_open_files h.files))) _ (sym (ap (λ w. if w then nat_lt 0 (length (writers_of_open_files h.files)) || has_open_file_with_path_satisfying (same_path (path_of_bytes_or_root bytes)) h.files
-          else list_any (λ x. same_path (path_of_bytes_or_root bytes) x.path) (writers_of_open_files h.files) || nat_le 16 (length (readers_of_open_files h.files))) write) ∙ unrefused _ _ l.0)).1;
+      few = (both_false (nat_lt 0 (length (all_writers h.files))) _ (sym (ap (λ w. if w then nat_lt 0 (length (all_writers h.files)) || has_file (same_path (path_or_root bytes)) h.files
+          else list_any (λ x. same_path (path_or_root bytes) x.path) (all_writers h.files) || nat_le 16 (length (all_readers h.files))) write) ∙ unrefused _ _ l.0)).0;
+      closed = (both_false (nat_lt 0 (length (all_writers h.files))) _ (sym (ap (λ w. if w then nat_lt 0 (length (all_writers h.files)) || has_file (same_path (path_or_root bytes)) h.files
+          else list_any (λ x. same_path (path_or_root bytes) x.path) (all_writers h.files) || nat_le 16 (length (all_readers h.files))) write) ∙ unrefused _ _ l.0)).1;
       fits = unrefused _ _ m.0;
       room = unrefused _ _ n.0;
       anew = unrefused _ _ o.0;
@@ -100,26 +100,26 @@ not_less n m e = grind (arith, nat_tests)
 room_left : (n m k f l : ℕ) → f ≡ 0 → nat_lt n (m + k + l) ≡ false → m + f + l ≤ n
 room_left n m k f l none e = grind (arith, nat_tests)
 
-room_anew : (h : SessionView) (p : Path) (flags : FlagsOfOpen) (size : ℕ) → file_size_of_node (tree_view h.tree p) ≡ Some size →
-    (flags.truncate && overfills_disk (disk_summary_of_tree h.tree) (writer_after_open p flags (file_bytes_of_node (tree_view h.tree p)))) ≡ false → flags.truncate ≡ true → 1 ≤ size → length (disk_summary_of_tree h.tree).used + 2 ≤ block_count h.tree.disk
+room_anew : (h : SessionView) (p : Path) (flags : FlagsOfOpen) (size : ℕ) → node_file_size (tree_view h.tree p) ≡ Some size →
+    (flags.truncate && overfills_disk (tree_summary h.tree) (opened_writer p flags (file_bytes (tree_view h.tree p)))) ≡ false → flags.truncate ≡ true → 1 ≤ size → length (tree_summary h.tree).used + 2 ≤ block_count h.tree.disk
 room_anew h p flags size sizes fits truncates some =
-    not_less (block_count h.tree.disk) (length (disk_summary_of_tree h.tree).used + 2)
-    (sym (ap₂ (λ t s. t && nat_lt (block_count h.tree.disk) (length (disk_summary_of_tree h.tree).used + (if s then 2 else 0))) truncates (lt-ltb 0 size (omega (arith, some))))
-    ∙ writes_anew h p flags (Some size) (nat_lt (block_count h.tree.disk) (length (disk_summary_of_tree h.tree).used + (if nat_lt 0 size then 2 else 0))) sizes refl ∙ fits)
+    not_less (block_count h.tree.disk) (length (tree_summary h.tree).used + 2)
+    (sym (ap₂ (λ t s. t && nat_lt (block_count h.tree.disk) (length (tree_summary h.tree).used + (if s then 2 else 0))) truncates (lt-ltb 0 size (omega (arith, some))))
+    ∙ writes_anew h p flags (Some size) (nat_lt (block_count h.tree.disk) (length (tree_summary h.tree).used + (if nat_lt 0 size then 2 else 0))) sizes refl ∙ fits)
 
 nothing_left : {A : Type 0} (xs : List A) → length xs ≤ 0 → xs ≡ []
 nothing_left [] h = refl
 nothing_left (x ∷ xs) h = absurd (omega (arith, h))
 
-pub no_writer : (t : TreeState) (fs : RuntimeOpenFilesByNumber) (bytes : List ℕ) (flags : FlagsOfOpen) → flags.write ≡ true → refusal_by_checks (session_view_of_tree_and_files t fs) (ops.Open bytes flags) ≡ None → writers_among fs ≡ []
+pub no_writer : (t : TreeState) (fs : RuntimeFiles) (bytes : List ℕ) (flags : FlagsOfOpen) → flags.write ≡ true → refusal_by_checks (view_of_session t fs) (ops.Open bytes flags) ≡ None → writers_among fs ≡ []
 no_writer t fs bytes flags write e =
-    nothing_left (writers_among fs) (not_less 0 (length (writers_among fs)) (ap (nat_lt 0) (sym (writer_count t fs)) ∙ (open_passed (session_view_of_tree_and_files t fs) bytes flags write e).few))
+    nothing_left (writers_among fs) (not_less 0 (length (writers_among fs)) (ap (nat_lt 0) (sym (writer_count t fs)) ∙ (open_passed (view_of_session t fs) bytes flags write e).few))
 
-none_saved : (fs : RuntimeOpenFilesByNumber) → writers_among fs ≡ [] → has_unsaved_writer fs ≡ false
+none_saved : (fs : RuntimeFiles) → writers_among fs ≡ [] → has_unsaved fs ≡ false
 none_saved fs none = ap (list_any (λ w. is_some w.unsaved)) none
 
-pub can_begin : (t mid : TreeState) (fs : RuntimeOpenFilesByNumber) (bytes : List ℕ) (flags : FlagsOfOpen) (p : Path) (size : ℕ) → (t.failed ≡ false → IsSessionReadyForCalls t fs) → WasTreeOnlyRead t mid → refusal_by_checks (session_view_of_tree_and_files t fs) (ops.Open bytes flags) ≡ None →
-    flags.write ≡ true → p ≡ path_of_bytes_or_root bytes → file_size_of_node (tree_view t p) ≡ Some size → CanOpenWriter mid p size flags.truncate
+pub can_begin : (t mid : TreeState) (fs : RuntimeFiles) (bytes : List ℕ) (flags : FlagsOfOpen) (p : Path) (size : ℕ) → (t.failed ≡ false → IsReady t fs) → OnlyReadsTree t mid → refusal_by_checks (view_of_session t fs) (ops.Open bytes flags) ≡ None →
+    flags.write ≡ true → p ≡ path_or_root bytes → node_file_size (tree_view t p) ≡ Some size → CanOpenWriter mid p size flags.truncate
 can_begin t mid fs bytes flags p size ready asked e write is sizes =
     subst (λ z. CanOpenWriter z p size flags.truncate) (sym asked.same)
     (subst (λ q. CanOpenWriter (record t { history = mid.history; cache = mid.cache }) q size flags.truncate) (sym is) (record {
@@ -128,45 +128,45 @@ can_begin t mid fs bytes flags p size ready asked e write is sizes =
       sound = record { accepted = now.sound.accepted; fits = now.sound.fits; is_kept = now.sound.is_kept; used = now.sound.used; size = now.sound.size };
       idle = now.idle (none_saved fs (no_writer t fs bytes flags write e));
       there = sized;
-      room = room_anew (session_view_of_tree_and_files t fs) (path_of_bytes_or_root bytes) flags size sized passed.anew;
+      room = room_anew (view_of_session t fs) (path_or_root bytes) flags size sized passed.anew;
     }))
   where
-    passed : IsPassed (session_view_of_tree_and_files t fs) bytes (path_of_bytes_or_root bytes) flags
-    passed = open_passed (session_view_of_tree_and_files t fs) bytes flags write e
+    passed : IsPassed (view_of_session t fs) bytes (path_or_root bytes) flags
+    passed = open_passed (view_of_session t fs) bytes flags write e
 
-    now : IsSessionReadyForCalls t fs
+    now : IsReady t fs
     now = ready passed.works
 
-    sized : file_size_of_node (tree_view t (path_of_bytes_or_root bytes)) ≡ Some size
-    sized = sym (ap (λ q. file_size_of_node (tree_view t q)) is) ∙ sizes
+    sized : node_file_size (tree_view t (path_or_root bytes)) ≡ Some size
+    sized = sym (ap (λ q. node_file_size (tree_view t q)) is) ∙ sizes
 
-no_node : (n : Option Node) → file_size_of_node n ≡ None → is_directory n ≡ false → n ≡ None
+no_node : (n : Option Node) → node_file_size n ≡ None → is_directory n ≡ false → n ≡ None
 no_node None e d = refl
 no_node (Some (FileNode attributes bytes)) e d = absurd (cc)
 no_node (Some (DirectoryNode attributes names)) e d = absurd (cc)
 
-pub can_create : (t mid : TreeState) (fs : RuntimeOpenFilesByNumber) (bytes : List ℕ) (flags : FlagsOfOpen) (p : Path) → (t.failed ≡ false → IsSessionReadyForCalls t fs) → WasTreeOnlyRead t mid → refusal_by_checks (session_view_of_tree_and_files t fs) (ops.Open bytes flags) ≡ None →
-    flags.write ≡ true → p ≡ path_of_bytes_or_root bytes → file_size_of_node (tree_view t p) ≡ None → CanCreateFileAtPath mid p
+pub can_create : (t mid : TreeState) (fs : RuntimeFiles) (bytes : List ℕ) (flags : FlagsOfOpen) (p : Path) → (t.failed ≡ false → IsReady t fs) → OnlyReadsTree t mid → refusal_by_checks (view_of_session t fs) (ops.Open bytes flags) ≡ None →
+    flags.write ≡ true → p ≡ path_or_root bytes → node_file_size (tree_view t p) ≡ None → CanCreateFile mid p
 can_create t mid fs bytes flags p ready asked e write is sizes =
-    subst (λ z. CanCreateFileAtPath z p) (sym asked.same)
-    (subst (λ q. CanCreateFileAtPath (record t { history = mid.history; cache = mid.cache }) q) (sym is) (record {
+    subst (λ z. CanCreateFile z p) (sym asked.same)
+    (subst (λ q. CanCreateFile (record t { history = mid.history; cache = mid.cache }) q) (sym is) (record {
       works = passed.works;
       writable = passed.writable;
       parents = passed.parents;
-      name = sym (ap₂ (λ x c. x && c && has_too_long_last_name (disk_summary_of_tree t) (path_of_bytes_or_root bytes)) absent creates) ∙ passed.name;
+      name = sym (ap₂ (λ x c. x && c && has_long_name (tree_summary t) (path_or_root bytes)) absent creates) ∙ passed.name;
       nothing = ap is_some none;
-      fits = sym (ap (λ x. x && is_entry_over_charge_limit (disk_summary_of_tree t) (last_name_of_path (path_of_bytes_or_root bytes)) []) absent) ∙ passed.fits;
-      room = room_left (block_count t.disk) (length (disk_summary_of_tree t).used) (reserved_block_count_of_writers t.disk.profile t.disk.block_size (open_files_view t fs)) (in_flight_block_count t.map) 2 ((ready passed.works).idle (none_saved fs (no_writer t fs bytes flags write e)))
-          (sym (ap (λ x. x && lacks_free_blocks (disk_summary_of_tree t) (open_files_view t fs) 2) absent) ∙ passed.room);
+      fits = sym (ap (λ x. x && is_over_charge (tree_summary t) (last_name (path_or_root bytes)) []) absent) ∙ passed.fits;
+      room = room_left (block_count t.disk) (length (tree_summary t).used) (reserved_for_writers t.disk.profile t.disk.block_size (files_view t fs)) (in_flight_count t.map) 2 ((ready passed.works).idle (none_saved fs (no_writer t fs bytes flags write e)))
+          (sym (ap (λ x. x && lacks_free (tree_summary t) (files_view t fs) 2) absent) ∙ passed.room);
     }))
   where
-    passed : IsPassed (session_view_of_tree_and_files t fs) bytes (path_of_bytes_or_root bytes) flags
-    passed = open_passed (session_view_of_tree_and_files t fs) bytes flags write e
+    passed : IsPassed (view_of_session t fs) bytes (path_or_root bytes) flags
+    passed = open_passed (view_of_session t fs) bytes flags write e
 
-    none : tree_view t (path_of_bytes_or_root bytes) ≡ None
-    none = no_node (tree_view t (path_of_bytes_or_root bytes)) (sym (ap (λ q. file_size_of_node (tree_view t q)) is) ∙ sizes) passed.directory
+    none : tree_view t (path_or_root bytes) ≡ None
+    none = no_node (tree_view t (path_or_root bytes)) (sym (ap (λ q. node_file_size (tree_view t q)) is) ∙ sizes) passed.directory
 
-    absent : is_none (tree_view t (path_of_bytes_or_root bytes)) ≡ true
+    absent : is_none (tree_view t (path_or_root bytes)) ≡ true
     absent = ap is_none none
 
     creates : flags.create ≡ true
@@ -174,21 +174,21 @@ can_create t mid fs bytes flags p ready asked e write is sizes =
 
 -- ---- room for one more file
 
-set_length : (fs : RuntimeOpenFilesByNumber) (n : ℕ) (x : Option OpenFile) → length (set fs n x) ≡ length fs
+set_length : (fs : RuntimeFiles) (n : ℕ) (x : Option OpenFile) → length (set fs n x) ≡ length fs
 set_length [] n x = refl
 set_length (f ∷ fs) zero x = refl
 set_length (f ∷ fs) (suc n) x = ap suc (set_length fs n x)
 
-behind_length : (fs : RuntimeOpenFilesByNumber) (x : Option OpenFile) → length (fs ++ x ∷ []) ≡ 1 + length fs
+behind_length : (fs : RuntimeFiles) (x : Option OpenFile) → length (fs ++ x ∷ []) ≡ 1 + length fs
 behind_length [] x = refl
 behind_length (f ∷ fs) x = let k = behind_length fs x in omega (arith, k)
 
-set_there : (fs : RuntimeOpenFilesByNumber) (n : ℕ) (x : Option OpenFile) → n < length fs → open_file_at (set fs n x) n ≡ x
+set_there : (fs : RuntimeFiles) (n : ℕ) (x : Option OpenFile) → n < length fs → open_file_at (set fs n x) n ≡ x
 set_there [] n x lt = absurd (omega (arith, lt))
 set_there (f ∷ fs) zero x lt = refl
 set_there (f ∷ fs) (suc n) x lt = set_there fs n x (omega (arith, lt))
 
-set_twice : (fs : RuntimeOpenFilesByNumber) (n : ℕ) (x y : Option OpenFile) → set (set fs n x) n y ≡ set fs n y
+set_twice : (fs : RuntimeFiles) (n : ℕ) (x y : Option OpenFile) → set (set fs n x) n y ≡ set fs n y
 set_twice [] n x y = refl
 set_twice (f ∷ fs) zero x y = refl
 set_twice (f ∷ fs) (suc n) x y = ap (λ gs. f ∷ gs) (set_twice fs n x y)
@@ -199,98 +199,98 @@ one_more n = omega arith
 one_back : (n m : ℕ) → nat_lt (1 + n) (suc m) ≡ false → nat_lt n m ≡ false
 one_back n m e = grind (arith, nat_tests)
 
-set_behind : (fs : RuntimeOpenFilesByNumber) (x y : Option OpenFile) → nat_lt (lowest_free_number_of_runtime_files fs) (length fs) ≡ false → set (fs ++ x ∷ []) (lowest_free_number_of_runtime_files fs) y ≡ fs ++ y ∷ []
+set_behind : (fs : RuntimeFiles) (x y : Option OpenFile) → nat_lt (lowest_free fs) (length fs) ≡ false → set (fs ++ x ∷ []) (lowest_free fs) y ≡ fs ++ y ∷ []
 set_behind [] x y e = refl
 set_behind (None ∷ fs) x y e = absurd (let k = sym (lt-ltb 0 (length (None ∷ fs)) (omega arith)) ∙ e in cc)
 set_behind (Some f ∷ fs) x y e =
-    ap (λ n. set (Some f ∷ fs ++ x ∷ []) n y) (one_more (lowest_free_number_of_runtime_files fs))
-    ∙ ap (λ gs. Some f ∷ gs) (set_behind fs x y (one_back (lowest_free_number_of_runtime_files fs) (length fs) e))
+    ap (λ n. set (Some f ∷ fs ++ x ∷ []) n y) (one_more (lowest_free fs))
+    ∙ ap (λ gs. Some f ∷ gs) (set_behind fs x y (one_back (lowest_free fs) (length fs) e))
 
-room_inside : (fs : RuntimeOpenFilesByNumber) → lowest_free_number_of_runtime_files fs < length (open_files_with_entry_at_number fs (lowest_free_number_of_runtime_files fs) None)
-room_inside fs = go (nat_lt (lowest_free_number_of_runtime_files fs) (length fs)) refl
+room_inside : (fs : RuntimeFiles) → lowest_free fs < length (runtime_files_with fs (lowest_free fs) None)
+room_inside fs = go (nat_lt (lowest_free fs) (length fs)) refl
   where
-    go : (b : Bool) → nat_lt (lowest_free_number_of_runtime_files fs) (length fs) ≡ b → lowest_free_number_of_runtime_files fs < length (open_files_with_entry_at_number fs (lowest_free_number_of_runtime_files fs) None)
-    go true e = rw e (let k = ltb-true (lowest_free_number_of_runtime_files fs) (length fs) e in let l = set_length fs (lowest_free_number_of_runtime_files fs) None in omega (arith, k, l))
+    go : (b : Bool) → nat_lt (lowest_free fs) (length fs) ≡ b → lowest_free fs < length (runtime_files_with fs (lowest_free fs) None)
+    go true e = rw e (let k = ltb-true (lowest_free fs) (length fs) e in let l = set_length fs (lowest_free fs) None in omega (arith, k, l))
     go false e = rw e (let k = free_at_most fs in let l = behind_length fs None in omega (arith, k, l))
 
-room_filled : (fs : RuntimeOpenFilesByNumber) (y : Option OpenFile) → set (open_files_with_entry_at_number fs (lowest_free_number_of_runtime_files fs) None) (lowest_free_number_of_runtime_files fs) y ≡ open_files_with_entry_at_number fs (lowest_free_number_of_runtime_files fs) y
-room_filled fs y = go (nat_lt (lowest_free_number_of_runtime_files fs) (length fs)) refl
+room_filled : (fs : RuntimeFiles) (y : Option OpenFile) → set (runtime_files_with fs (lowest_free fs) None) (lowest_free fs) y ≡ runtime_files_with fs (lowest_free fs) y
+room_filled fs y = go (nat_lt (lowest_free fs) (length fs)) refl
   where
-    go : (b : Bool) → nat_lt (lowest_free_number_of_runtime_files fs) (length fs) ≡ b → set (open_files_with_entry_at_number fs (lowest_free_number_of_runtime_files fs) None) (lowest_free_number_of_runtime_files fs) y ≡ open_files_with_entry_at_number fs (lowest_free_number_of_runtime_files fs) y
-    go true e = rw e (set_twice fs (lowest_free_number_of_runtime_files fs) None y)
+    go : (b : Bool) → nat_lt (lowest_free fs) (length fs) ≡ b → set (runtime_files_with fs (lowest_free fs) None) (lowest_free fs) y ≡ runtime_files_with fs (lowest_free fs) y
+    go true e = rw e (set_twice fs (lowest_free fs) None y)
     go false e = rw e (set_behind fs None y e)
 
 -- what there is once room is made
-pub record HasRoomFor (fs gs : RuntimeOpenFilesByNumber) (n : ℕ) : Type 0 where
+pub record HasRoomFor (fs gs : RuntimeFiles) (n : ℕ) : Type 0 where
   pub inside : n < length gs
   pub free : open_file_at gs n ≡ None
   pub none : writers_among gs ≡ []
-  pub filled : (w : Writer) → set gs n (Some (file.Writing w)) ≡ open_files_with_entry_at_number fs (lowest_free_number_of_runtime_files fs) (Some (file.Writing w))
-  pub alone : (w : Writer) → writers_among (open_files_with_entry_at_number fs (lowest_free_number_of_runtime_files fs) (Some (file.Writing w))) ≡ w ∷ []
+  pub filled : (w : Writer) → set gs n (Some (file.Writing w)) ≡ runtime_files_with fs (lowest_free fs) (Some (file.Writing w))
+  pub alone : (w : Writer) → writers_among (runtime_files_with fs (lowest_free fs) (Some (file.Writing w))) ≡ w ∷ []
 
-pub room_made : (fs gs : RuntimeOpenFilesByNumber) (n : ℕ) → writers_among fs ≡ [] → n ≡ lowest_free_number_of_runtime_files fs → gs ≡ open_files_with_entry_at_number fs (lowest_free_number_of_runtime_files fs) None → HasRoomFor fs gs n
+pub room_made : (fs gs : RuntimeFiles) (n : ℕ) → writers_among fs ≡ [] → n ≡ lowest_free fs → gs ≡ runtime_files_with fs (lowest_free fs) None → HasRoomFor fs gs n
 room_made fs gs n none number is =
-    subst (λ m. HasRoomFor fs gs m) (sym number) (subst (λ xs. HasRoomFor fs xs (lowest_free_number_of_runtime_files fs)) (sym is) (record {
+    subst (λ m. HasRoomFor fs gs m) (sym number) (subst (λ xs. HasRoomFor fs xs (lowest_free fs)) (sym is) (record {
       inside = room_inside fs;
-      free = sym (ap (λ xs. open_file_at xs (lowest_free_number_of_runtime_files fs)) (room_filled fs None)) ∙ set_there (open_files_with_entry_at_number fs (lowest_free_number_of_runtime_files fs) None) (lowest_free_number_of_runtime_files fs) None (room_inside fs);
-      none = nothing_left (writers_among (open_files_with_entry_at_number fs (lowest_free_number_of_runtime_files fs) None)) (let k = count_put writer_of_open_file_or_none fs (lowest_free_number_of_runtime_files fs) None in let l = ap (λ ws. length ws) none in omega (arith, k, l));
+      free = sym (ap (λ xs. open_file_at xs (lowest_free fs)) (room_filled fs None)) ∙ set_there (runtime_files_with fs (lowest_free fs) None) (lowest_free fs) None (room_inside fs);
+      none = nothing_left (writers_among (runtime_files_with fs (lowest_free fs) None)) (let k = count_put open_writer fs (lowest_free fs) None in let l = ap (λ ws. length ws) none in omega (arith, k, l));
       filled = λ w. room_filled fs (Some (file.Writing w));
-      alone = λ w. (only (open_files_with_entry_at_number fs (lowest_free_number_of_runtime_files fs) (Some (file.Writing w))) (lowest_free_number_of_runtime_files fs) w
-          (sym (ap (λ xs. open_file_at xs (lowest_free_number_of_runtime_files fs)) (room_filled fs (Some (file.Writing w)))) ∙ set_there (open_files_with_entry_at_number fs (lowest_free_number_of_runtime_files fs) None) (lowest_free_number_of_runtime_files fs) (Some (file.Writing w)) (room_inside fs))
-          (let k = count_put writer_of_open_file_or_none fs (lowest_free_number_of_runtime_files fs) (Some (file.Writing w)) in let l = ap (λ ws. length ws) none in omega (arith, k, l))).writers;
+      alone = λ w. (only (runtime_files_with fs (lowest_free fs) (Some (file.Writing w))) (lowest_free fs) w
+          (sym (ap (λ xs. open_file_at xs (lowest_free fs)) (room_filled fs (Some (file.Writing w)))) ∙ set_there (runtime_files_with fs (lowest_free fs) None) (lowest_free fs) (Some (file.Writing w)) (room_inside fs))
+          (let k = count_put open_writer fs (lowest_free fs) (Some (file.Writing w)) in let l = ap (λ ws. length ws) none in omega (arith, k, l))).writers;
     }))
 
 -- ---- the session once the writer is open
 
-ready_with : (t : TreeState) (fs gs : RuntimeOpenFilesByNumber) (w : Writer) → writers_among fs ≡ [] → writers_among gs ≡ w ∷ [] → IsSessionReadyForCalls t fs → IsWriterOverWritableImage t w → AreReadersOfCurrentContentsWithoutWriter t.pairs gs → AllByRecursion (HasKnownListBlocks t.disk) (readers_among gs) → IsSessionReadyForCalls t gs
+ready_with : (t : TreeState) (fs gs : RuntimeFiles) (w : Writer) → writers_among fs ≡ [] → writers_among gs ≡ w ∷ [] → IsReady t fs → IsWriterReady t w → AreCurrentReaders t.pairs gs → AllByRecursion (HasKnownBlocks t.disk) (readers_among gs) → IsReady t gs
 ready_with t fs gs w none alone h written read known = record {
   sound = h.sound;
   called = h.called;
   one = subst (λ ws. length ws ≤ 1) (sym alone) (omega arith);
   idle = λ e. h.idle (ap (list_any (λ w. is_some w.unsaved)) none);
-  written = subst (AllByRecursion (IsWriterOverWritableImage t)) (sym alone) (written, tt);
+  written = subst (AllByRecursion (IsWriterReady t)) (sym alone) (written, tt);
   read = read;
   known = known;
 }
 
-keeps_none : (t s : TreeState) (fs : RuntimeOpenFilesByNumber) → writers_among fs ≡ [] → KeepsFilesOfWriters t s (writers_among fs)
-keeps_none t s fs none = subst (λ ws. KeepsFilesOfWriters t s ws) (sym none) tt
+keeps_none : (t s : TreeState) (fs : RuntimeFiles) → writers_among fs ≡ [] → KeepsWriters t s (writers_among fs)
+keeps_none t s fs none = subst (λ ws. KeepsWriters t s ws) (sym none) tt
 
 -- what either way of opening comes to: the session is ready but for the writer, which is as the definitions have it
-pub record IsOpenedBy (t : TreeState) (fs : RuntimeOpenFilesByNumber) (bytes : List ℕ) (flags : FlagsOfOpen) (new : TreeState) (w : Writer) : Type 0 where
-  pub ready : IsSessionReadyForCalls new fs
-  pub unread : AllByRecursion (λ r. same_path (path_of_bytes_or_root bytes) r.path ≡ false) (readers_among fs)
-  pub begun : IsOpenedWriterSeenAs new (writer_after_open (path_of_bytes_or_root bytes) flags (file_bytes_of_node (tree_view t (path_of_bytes_or_root bytes)))) w
-  pub turn : (files : OpenFilesByNumber) → (effect_of_operation (disk_summary_of_tree t) (session_of_session_view (session_view_of_tree_and_files t fs)) (ops.Open bytes flags)).1.files ≡ files →
-      IsSessionStep (system_state_of_session_view (session_view_of_tree_and_files t fs)) (ops.Open bytes flags) (effect_of_operation (disk_summary_of_tree t) (session_of_session_view (session_view_of_tree_and_files t fs)) (ops.Open bytes flags)).0 (system_state_of_session_view (session_view_of_tree_and_files_view new files))
+pub record IsOpenedBy (t : TreeState) (fs : RuntimeFiles) (bytes : List ℕ) (flags : FlagsOfOpen) (new : TreeState) (w : Writer) : Type 0 where
+  pub ready : IsReady new fs
+  pub unread : AllByRecursion (λ r. same_path (path_or_root bytes) r.path ≡ false) (readers_among fs)
+  pub begun : IsOpenedWriter new (opened_writer (path_or_root bytes) flags (file_bytes (tree_view t (path_or_root bytes)))) w
+  pub turn : (files : OpenFilesByNumber) → (operation_effect (tree_summary t) (viewed_session (view_of_session t fs)) (ops.Open bytes flags)).1.files ≡ files →
+      IsStep (system_state (view_of_session t fs)) (ops.Open bytes flags) (operation_effect (tree_summary t) (viewed_session (view_of_session t fs)) (ops.Open bytes flags)).0 (system_state (view_of_files new files))
 
-later : TreeState → List DeviceCallEvent → CachedBlocks → TreeState
+later : TreeState → List CallEvent → CachedBlocks → TreeState
 later t events cache = record t { history = events ++ t.history; cache = cache }
 
-asked_later : (old new : TreeState) (asked : WasTreeOnlyRead old new) → new ≡ later old asked.reads.events new.cache
+asked_later : (old new : TreeState) (asked : OnlyReadsTree old new) → new ≡ later old asked.reads.events new.cache
 unfolding later
 asked_later old new asked = asked.same ∙ ap (λ history. record old { history = history; cache = new.cache }) asked.reads.extends
 
 -- a file that is there, once the image is recovered
-there_turn : (old : SessionView) (bytes : List ℕ) (flags : FlagsOfOpen) (mid new : TreeState) (files : OpenFilesByNumber) (n : Node) → (old.tree.failed ≡ false → IsSoundTreeState old.tree) → WasTreeOnlyRead old.tree mid →
-    refusal_by_checks old (ops.Open bytes flags) ≡ None → flags.write ≡ true → tree_view old.tree (path_of_bytes_or_root bytes) ≡ Some n → IsOperationAppliedToTree mid ops.Recover new →
-    (effect_of_operation (disk_summary_of_tree old.tree) (session_of_session_view old) (ops.Open bytes flags)).1.files ≡ files →
-    IsSessionStep (system_state_of_session_view old) (ops.Open bytes flags) (effect_of_operation (disk_summary_of_tree old.tree) (session_of_session_view old) (ops.Open bytes flags)).0 (system_state_of_session_view (session_view_of_tree_and_files_view new files))
+there_turn : (old : SessionView) (bytes : List ℕ) (flags : FlagsOfOpen) (mid new : TreeState) (files : OpenFilesByNumber) (n : Node) → (old.tree.failed ≡ false → IsSoundState old.tree) → OnlyReadsTree old.tree mid →
+    refusal_by_checks old (ops.Open bytes flags) ≡ None → flags.write ≡ true → tree_view old.tree (path_or_root bytes) ≡ Some n → IsApplied mid ops.Recover new →
+    (operation_effect (tree_summary old.tree) (viewed_session old) (ops.Open bytes flags)).1.files ≡ files →
+    IsStep (system_state old) (ops.Open bytes flags) (operation_effect (tree_summary old.tree) (viewed_session old) (ops.Open bytes flags)).0 (system_state (view_of_files new files))
 unfolding later
 there_turn old bytes flags mid new files n sound asked e write node carried opened =
     let op = ops.Open bytes flags in
     let works = not_failed old op e in
     let good = sound works in
     let events = asked.reads.events in
-    let c = subst (λ t. IsOperationAppliedToTree t ops.Recover new) (asked_later old.tree mid asked) carried in
-    let kept : tree_view old.tree ≡ (if is_none (tree_view old.tree (path_of_bytes_or_root bytes)) then tree_after_creation (path_of_bytes_or_root bytes) (FileNode [] []) (tree_view old.tree) else tree_view old.tree) =
-    sym (ap (λ o. if is_none o then tree_after_creation (path_of_bytes_or_root bytes) (FileNode [] []) (tree_view old.tree) else tree_view old.tree) node) in
-    let is : record { tree = tree_view new; files = files } ≡ (effect_of_operation (disk_summary_of_tree old.tree) (session_of_session_view old) op).1 = ap₂ (λ t f. record { tree = t; files = f }) (c.shows (disk_summary_of_tree old.tree) old.files ∙ kept) (sym opened) in
-    let to = healthy_system (session_view_of_tree_and_files_view new files) c.works
-    ∙ ap₂ (λ (calls : List DeviceCallEvent) (s : Session). record { disk = new.disk; calls = calls; state = Healthy s }) (c.called ∙ sym (append_assoc c.calls events old.tree.history)) is in
-    subst (λ m. IsSessionStep m op (effect_of_operation (disk_summary_of_tree old.tree) (session_of_session_view old) op).0 (system_state_of_session_view (session_view_of_tree_and_files_view new files))) (sym (healthy_system old works))
-    (subst (λ m. IsSessionStep (record { disk = old.tree.disk; calls = old.tree.history; state = Healthy (session_of_session_view old) }) op (effect_of_operation (disk_summary_of_tree old.tree) (session_of_session_view old) op).0 m) (sym to)
-    (completed_step old.tree.disk old.tree.pairs (session_of_session_view old) (disk_summary_of_tree old.tree) op new.disk new.pairs (c.calls ++ events) old.tree.history (is_over old.tree old.files good) (not_refused old op e)
+    let c = subst (λ t. IsApplied t ops.Recover new) (asked_later old.tree mid asked) carried in
+    let kept : tree_view old.tree ≡ (if is_none (tree_view old.tree (path_or_root bytes)) then tree_creating (path_or_root bytes) (FileNode [] []) (tree_view old.tree) else tree_view old.tree) =
+    sym (ap (λ o. if is_none o then tree_creating (path_or_root bytes) (FileNode [] []) (tree_view old.tree) else tree_view old.tree) node) in
+    let is : record { tree = tree_view new; files = files } ≡ (operation_effect (tree_summary old.tree) (viewed_session old) op).1 = ap₂ (λ t f. record { tree = t; files = f }) (c.shows (tree_summary old.tree) old.files ∙ kept) (sym opened) in
+    let to = healthy_system (view_of_files new files) c.works
+    ∙ ap₂ (λ (calls : List CallEvent) (s : Session). record { disk = new.disk; calls = calls; state = Healthy s }) (c.called ∙ sym (append_assoc c.calls events old.tree.history)) is in
+    subst (λ m. IsStep m op (operation_effect (tree_summary old.tree) (viewed_session old) op).0 (system_state (view_of_files new files))) (sym (healthy_system old works))
+    (subst (λ m. IsStep (record { disk = old.tree.disk; calls = old.tree.history; state = Healthy (viewed_session old) }) op (operation_effect (tree_summary old.tree) (viewed_session old) op).0 m) (sym to)
+    (completed_step old.tree.disk old.tree.pairs (viewed_session old) (tree_summary old.tree) op new.disk new.pairs (c.calls ++ events) old.tree.history (is_over old.tree old.files good) (not_refused old op e)
     (record {
       geometry = c.geometry;
       other = refl;
@@ -306,77 +306,77 @@ there_turn old bytes flags mid new files n sound asked e write node carried open
       writable = c.fits;
       recovered = c.recovered;
       tree = λ around. c.shows around old.files ∙ kept;
-      arranged = there_arranged old.tree.disk new.disk old.tree.pairs new.pairs (session_of_session_view old) bytes flags n node (c.arranged old.files);
+      arranged = there_arranged old.tree.disk new.disk old.tree.pairs new.pairs (viewed_session old) bytes flags n node (c.arranged old.files);
     })))
 
-file_node : (n : Option Node) (size : ℕ) → file_size_of_node n ≡ Some size → (m : Node) × (n ≡ Some m)
+file_node : (n : Option Node) (size : ℕ) → node_file_size n ≡ Some size → (m : Node) × (n ≡ Some m)
 file_node None size e = absurd (cc)
 file_node (Some m) size e = (m, refl)
 
-pub opened_there : (t mid new : TreeState) (fs : RuntimeOpenFilesByNumber) (bytes : List ℕ) (flags : FlagsOfOpen) (w : Writer) (p : Path) (size : ℕ) → (t.failed ≡ false → IsSessionReadyForCalls t fs) → WasTreeOnlyRead t mid →
-    refusal_by_checks (session_view_of_tree_and_files t fs) (ops.Open bytes flags) ≡ None → flags.write ≡ true → p ≡ path_of_bytes_or_root bytes → file_size_of_node (tree_view t p) ≡ Some size →
-    IsOperationAppliedToTree mid ops.Recover new → IsOpenedWriterSeenAs new (writer_after_open p flags (file_bytes_of_node (tree_view mid p))) w → IsOpenedBy t fs bytes flags new w
+pub opened_there : (t mid new : TreeState) (fs : RuntimeFiles) (bytes : List ℕ) (flags : FlagsOfOpen) (w : Writer) (p : Path) (size : ℕ) → (t.failed ≡ false → IsReady t fs) → OnlyReadsTree t mid →
+    refusal_by_checks (view_of_session t fs) (ops.Open bytes flags) ≡ None → flags.write ≡ true → p ≡ path_or_root bytes → node_file_size (tree_view t p) ≡ Some size →
+    IsApplied mid ops.Recover new → IsOpenedWriter new (opened_writer p flags (file_bytes (tree_view mid p))) w → IsOpenedBy t fs bytes flags new w
 opened_there t mid new fs bytes flags w p size ready asked e write is sizes carried begun =
-    let passed = open_passed (session_view_of_tree_and_files t fs) bytes flags write e in
-    let node = file_node (tree_view t (path_of_bytes_or_root bytes)) size (sym (ap (λ q. file_size_of_node (tree_view t q)) is) ∙ sizes) in
+    let passed = open_passed (view_of_session t fs) bytes flags write e in
+    let node = file_node (tree_view t (path_or_root bytes)) size (sym (ap (λ q. node_file_size (tree_view t q)) is) ∙ sizes) in
     let none = no_writer t fs bytes flags write e in
     record {
-      unread = no_reader_at t fs (same_path (path_of_bytes_or_root bytes)) passed.closed;
+      unread = no_reader_at t fs (same_path (path_or_root bytes)) passed.closed;
       ready = carried_ready mid new fs ops.Recover (λ p. refl) (ready_later t mid fs (ready passed.works) asked) (none_saved fs none) (keeps_none mid new fs none) carried;
-      begun = subst (λ (z : TreeState). IsOpenedWriterSeenAs new (writer_after_open (path_of_bytes_or_root bytes) flags (file_bytes_of_node (tree_view z (path_of_bytes_or_root bytes)))) w) asked.same
-          (subst (λ q. IsOpenedWriterSeenAs new (writer_after_open q flags (file_bytes_of_node (tree_view mid q))) w) is begun);
-      turn = λ files opened. there_turn (session_view_of_tree_and_files t fs) bytes flags mid new files node.0 (sound_by t fs ready) asked e write node.1 carried opened;
+      begun = subst (λ (z : TreeState). IsOpenedWriter new (opened_writer (path_or_root bytes) flags (file_bytes (tree_view z (path_or_root bytes)))) w) asked.same
+          (subst (λ q. IsOpenedWriter new (opened_writer q flags (file_bytes (tree_view mid q))) w) is begun);
+      turn = λ files opened. there_turn (view_of_session t fs) bytes flags mid new files node.0 (sound_by t fs ready) asked e write node.1 carried opened;
     }
 
-pub opened_new : (t mid new : TreeState) (fs : RuntimeOpenFilesByNumber) (bytes : List ℕ) (flags : FlagsOfOpen) (w : Writer) (p : Path) → (t.failed ≡ false → IsSessionReadyForCalls t fs) → WasTreeOnlyRead t mid →
-    refusal_by_checks (session_view_of_tree_and_files t fs) (ops.Open bytes flags) ≡ None → flags.write ≡ true → p ≡ path_of_bytes_or_root bytes → file_size_of_node (tree_view t p) ≡ None →
-    IsOperationAppliedToTree mid (ops.Open bytes flags) new → IsOpenedWriterSeenAs new (writer_after_open p flags []) w → IsOpenedBy t fs bytes flags new w
+pub opened_new : (t mid new : TreeState) (fs : RuntimeFiles) (bytes : List ℕ) (flags : FlagsOfOpen) (w : Writer) (p : Path) → (t.failed ≡ false → IsReady t fs) → OnlyReadsTree t mid →
+    refusal_by_checks (view_of_session t fs) (ops.Open bytes flags) ≡ None → flags.write ≡ true → p ≡ path_or_root bytes → node_file_size (tree_view t p) ≡ None →
+    IsApplied mid (ops.Open bytes flags) new → IsOpenedWriter new (opened_writer p flags []) w → IsOpenedBy t fs bytes flags new w
 opened_new t mid new fs bytes flags w p ready asked e write is sizes carried begun =
-    let passed = open_passed (session_view_of_tree_and_files t fs) bytes flags write e in
-    let node : tree_view t (path_of_bytes_or_root bytes) ≡ None = no_node (tree_view t (path_of_bytes_or_root bytes)) (sym (ap (λ q. file_size_of_node (tree_view t q)) is) ∙ sizes) passed.directory in
+    let passed = open_passed (view_of_session t fs) bytes flags write e in
+    let node : tree_view t (path_or_root bytes) ≡ None = no_node (tree_view t (path_or_root bytes)) (sym (ap (λ q. node_file_size (tree_view t q)) is) ∙ sizes) passed.directory in
     let none = no_writer t fs bytes flags write e in
     record {
-      unread = no_reader_at t fs (same_path (path_of_bytes_or_root bytes)) passed.closed;
+      unread = no_reader_at t fs (same_path (path_or_root bytes)) passed.closed;
       ready = carried_ready mid new fs (ops.Open bytes flags) (λ p. refl) (ready_later t mid fs (ready passed.works) asked) (none_saved fs none) (keeps_none mid new fs none) carried;
-      begun = subst (λ n. IsOpenedWriterSeenAs new (writer_after_open (path_of_bytes_or_root bytes) flags (file_bytes_of_node n)) w) (sym node) (subst (λ q. IsOpenedWriterSeenAs new (writer_after_open q flags []) w) is begun);
-      turn = λ files opened. carried_answer (session_view_of_tree_and_files t fs) (ops.Open bytes flags) mid new files (sound_by t fs ready) asked e carried refl (ap not write) refl (ap is_some node) refl opened;
+      begun = subst (λ n. IsOpenedWriter new (opened_writer (path_or_root bytes) flags (file_bytes n)) w) (sym node) (subst (λ q. IsOpenedWriter new (opened_writer q flags []) w) is begun);
+      turn = λ files opened. carried_answer (view_of_session t fs) (ops.Open bytes flags) mid new files (sound_by t fs ready) asked e carried refl (ap not write) refl (ap is_some node) refl opened;
     }
 
 -- ---- answers
 
-pub writer_ready : (t new : TreeState) (fs gs : RuntimeOpenFilesByNumber) (bytes : List ℕ) (flags : FlagsOfOpen) (w : Writer) → IsOpenedBy t fs bytes flags new w → writers_among fs ≡ [] → writers_among (open_files_with_entry_at_number fs (lowest_free_number_of_runtime_files fs) (Some (file.Writing w))) ≡ w ∷ [] →
-    gs ≡ open_files_with_entry_at_number fs (lowest_free_number_of_runtime_files fs) (Some (file.Writing w)) → IsSessionReadyForCalls new gs
+pub writer_ready : (t new : TreeState) (fs gs : RuntimeFiles) (bytes : List ℕ) (flags : FlagsOfOpen) (w : Writer) → IsOpenedBy t fs bytes flags new w → writers_among fs ≡ [] → writers_among (runtime_files_with fs (lowest_free fs) (Some (file.Writing w))) ≡ w ∷ [] →
+    gs ≡ runtime_files_with fs (lowest_free fs) (Some (file.Writing w)) → IsReady new gs
 writer_ready t new fs gs bytes flags w opened none alone is =
-    let path : path_of_bytes_or_root bytes ≡ w.path = sym (ap (λ (x : session.FileWriter). x.path) opened.begun.seen) in
+    let path : path_or_root bytes ≡ w.path = sym (ap (λ (x : session.FileWriter). x.path) opened.begun.seen) in
     ready_with new fs gs w none (ap (λ xs. writers_among xs) is ∙ alone) opened.ready opened.begun.written
-    (subst (AreReadersOfCurrentContentsWithoutWriter new.pairs) (sym is) (read_opened new.pairs fs (lowest_free_number_of_runtime_files fs) w (ap (map (λ x. x.path)) alone) (subst (λ p. AllByRecursion (λ r. same_path p r.path ≡ false) (readers_among fs)) path opened.unread) opened.ready.read))
-    (subst (λ xs. AllByRecursion (HasKnownListBlocks new.disk) (readers_among xs)) (sym is) (known_opened new.disk fs (lowest_free_number_of_runtime_files fs) w opened.ready.known))
+    (subst (AreCurrentReaders new.pairs) (sym is) (read_opened new.pairs fs (lowest_free fs) w (ap (map (λ x. x.path)) alone) (subst (λ p. AllByRecursion (λ r. same_path p r.path ≡ false) (readers_among fs)) path opened.unread) opened.ready.read))
+    (subst (λ xs. AllByRecursion (HasKnownBlocks new.disk) (readers_among xs)) (sym is) (known_opened new.disk fs (lowest_free fs) w opened.ready.known))
 
-pub writer_opened : (t new : TreeState) (fs gs : RuntimeOpenFilesByNumber) (now : SessionView) (bytes : List ℕ) (flags : FlagsOfOpen) (w : Writer) (n : ℕ) → session_view_of_tree_and_files t fs ≡ now → IsOpenedBy t fs bytes flags new w → flags.write ≡ true → writers_among fs ≡ [] →
-    n ≡ lowest_free_number_of_runtime_files fs → gs ≡ open_files_with_entry_at_number fs (lowest_free_number_of_runtime_files fs) (Some (file.Writing w)) → IsSessionStepOrFailure now (ops.Open bytes flags) (Ok (ops.Opened n)) (session_view_of_tree_and_files new gs)
+pub writer_opened : (t new : TreeState) (fs gs : RuntimeFiles) (now : SessionView) (bytes : List ℕ) (flags : FlagsOfOpen) (w : Writer) (n : ℕ) → view_of_session t fs ≡ now → IsOpenedBy t fs bytes flags new w → flags.write ≡ true → writers_among fs ≡ [] →
+    n ≡ lowest_free fs → gs ≡ runtime_files_with fs (lowest_free fs) (Some (file.Writing w)) → StepsOrFails now (ops.Open bytes flags) (Ok (ops.Opened n)) (view_of_session new gs)
 writer_opened t new fs gs now bytes flags w n same opened write none number is =
-    subst (λ z. IsSessionStepOrFailure z (ops.Open bytes flags) (Ok (ops.Opened n)) (session_view_of_tree_and_files new gs)) same
-    (subst (λ m. IsSessionStep (system_state_of_session_view (session_view_of_tree_and_files t fs)) (ops.Open bytes flags) (ops.Opened m) (system_state_of_session_view (session_view_of_tree_and_files new gs))) (sym (number ∙ free_is t fs))
-    (opened.turn (open_files_view new gs) (sym brought)))
+    subst (λ z. StepsOrFails z (ops.Open bytes flags) (Ok (ops.Opened n)) (view_of_session new gs)) same
+    (subst (λ m. IsStep (system_state (view_of_session t fs)) (ops.Open bytes flags) (ops.Opened m) (system_state (view_of_session new gs))) (sym (number ∙ free_is t fs))
+    (opened.turn (files_view new gs) (sym brought)))
   where
-    brought : open_files_view new gs ≡ open_files_with_file_at_number (open_files_view t fs) (free_file_number (open_files_view t fs)) (Some (if flags.write then Writing (writer_after_open (path_of_bytes_or_root bytes) flags (file_bytes_of_node (tree_view t (path_of_bytes_or_root bytes)))) else Reading (record { path = path_of_bytes_or_root bytes; position = 0 })))
-    brought = ap (open_files_view new) is ∙ put_is new fs (lowest_free_number_of_runtime_files fs) (Some (file.Writing w))
-        ∙ ap₂ (λ files m. open_files_with_file_at_number files m (Some (Writing (writer_view new w)))) (sym (kept_files t new fs (none_saved fs none) (keeps_none t new fs none))) (free_is t fs)
-        ∙ ap (λ x. open_files_with_file_at_number (open_files_view t fs) (free_file_number (open_files_view t fs)) (Some (Writing x))) opened.begun.seen
-        ∙ ap (λ b. open_files_with_file_at_number (open_files_view t fs) (free_file_number (open_files_view t fs)) (Some (if b then Writing (writer_after_open (path_of_bytes_or_root bytes) flags (file_bytes_of_node (tree_view t (path_of_bytes_or_root bytes)))) else Reading (record { path = path_of_bytes_or_root bytes; position = 0 })))) (sym write)
+    brought : files_view new gs ≡ files_with_file (files_view t fs) (free_number_of (files_view t fs)) (Some (if flags.write then Writing (opened_writer (path_or_root bytes) flags (file_bytes (tree_view t (path_or_root bytes)))) else Reading (record { path = path_or_root bytes; position = 0 })))
+    brought = ap (files_view new) is ∙ put_is new fs (lowest_free fs) (Some (file.Writing w))
+        ∙ ap₂ (λ files m. files_with_file files m (Some (Writing (writer_view new w)))) (sym (kept_files t new fs (none_saved fs none) (keeps_none t new fs none))) (free_is t fs)
+        ∙ ap (λ x. files_with_file (files_view t fs) (free_number_of (files_view t fs)) (Some (Writing x))) opened.begun.seen
+        ∙ ap (λ b. files_with_file (files_view t fs) (free_number_of (files_view t fs)) (Some (if b then Writing (opened_writer (path_or_root bytes) flags (file_bytes (tree_view t (path_or_root bytes)))) else Reading (record { path = path_or_root bytes; position = 0 })))) (sym write)
 
-pub writer_breaks : (t mid new : TreeState) (fs gs : RuntimeOpenFilesByNumber) (now : SessionView) (bytes : List ℕ) (flags : FlagsOfOpen) (e : Error) (r : Result ℕ Error) → session_view_of_tree_and_files t fs ≡ now → WasTreeOnlyRead t mid → refusal_by_checks (session_view_of_tree_and_files t fs) (ops.Open bytes flags) ≡ None →
-    IsSoundTreeState t → flags.write ≡ true → IsFailedTree mid new → IsIoWithFaultOrNoMemory mid new e → r ≡ Err e → IsSessionStepOrFailure now (ops.Open bytes flags) (reply_from_result ops.Opened r) (session_view_of_tree_and_files new gs)
+pub writer_breaks : (t mid new : TreeState) (fs gs : RuntimeFiles) (now : SessionView) (bytes : List ℕ) (flags : FlagsOfOpen) (e : Error) (r : Result ℕ Error) → view_of_session t fs ≡ now → OnlyReadsTree t mid → refusal_by_checks (view_of_session t fs) (ops.Open bytes flags) ≡ None →
+    IsSoundState t → flags.write ≡ true → IsFailedTree mid new → HasErrorCause mid new e → r ≡ Err e → StepsOrFails now (ops.Open bytes flags) (reply_from ops.Opened r) (view_of_session new gs)
 writer_breaks t mid new fs gs now bytes flags e r same asked passed sound write broken error is =
-    subst (λ z. IsSessionStepOrFailure z (ops.Open bytes flags) (reply_from_result ops.Opened r) (session_view_of_tree_and_files new gs)) same
-    (subst (λ z. IsSessionStepOrFailure (session_view_of_tree_and_files t fs) (ops.Open bytes flags) (reply_from_result ops.Opened z) (session_view_of_tree_and_files new gs)) (sym is)
-    (error_answers (session_view_of_tree_and_files t fs) (ops.Open bytes flags) e (session_view_of_tree_and_files new gs) (ops.Refused (refusal_of_error e)) error.errors
-    (broken_fails e (session_view_of_tree_and_files t fs) (ops.Open bytes flags) mid new (open_files_view new gs) (not_failed (session_view_of_tree_and_files t fs) (ops.Open bytes flags) passed) refl (ap not write) refl sound (open_passed (session_view_of_tree_and_files t fs) bytes flags write passed).writable asked broken error)))
+    subst (λ z. StepsOrFails z (ops.Open bytes flags) (reply_from ops.Opened r) (view_of_session new gs)) same
+    (subst (λ z. StepsOrFails (view_of_session t fs) (ops.Open bytes flags) (reply_from ops.Opened z) (view_of_session new gs)) (sym is)
+    (error_answers (view_of_session t fs) (ops.Open bytes flags) e (view_of_session new gs) (ops.Refused (error_refusal e)) error.errors
+    (broken_fails e (view_of_session t fs) (ops.Open bytes flags) mid new (files_view new gs) (not_failed (view_of_session t fs) (ops.Open bytes flags) passed) refl (ap not write) refl sound (open_passed (view_of_session t fs) bytes flags write passed).writable asked broken error)))
 
 -- no memory is found for it
-pub writer_lacks_memory : (t mid left : TreeState) (fs gs : RuntimeOpenFilesByNumber) (now : SessionView) (bytes : List ℕ) (flags : FlagsOfOpen) → session_view_of_tree_and_files t fs ≡ now → WasTreeOnlyRead t mid → refusal_by_checks (session_view_of_tree_and_files t fs) (ops.Open bytes flags) ≡ None →
-    left ≡ record mid { failed = true } → IsSessionStepOrFailure now (ops.Open bytes flags) (Err NoMemory) (session_view_of_tree_and_files left gs)
+pub writer_lacks_memory : (t mid left : TreeState) (fs gs : RuntimeFiles) (now : SessionView) (bytes : List ℕ) (flags : FlagsOfOpen) → view_of_session t fs ≡ now → OnlyReadsTree t mid → refusal_by_checks (view_of_session t fs) (ops.Open bytes flags) ≡ None →
+    left ≡ record mid { failed = true } → StepsOrFails now (ops.Open bytes flags) (Err NoMemory) (view_of_session left gs)
 writer_lacks_memory t mid left fs gs now bytes flags same asked passed is =
-    subst (λ z. IsSessionStepOrFailure z (ops.Open bytes flags) (Err NoMemory) (session_view_of_tree_and_files left gs)) same
-    (subst (λ z. IsSessionStepOrFailure (session_view_of_tree_and_files t fs) (ops.Open bytes flags) (Err NoMemory) (session_view_of_tree_and_files z gs)) (sym is)
-    (memory_fails (session_view_of_tree_and_files t fs) (ops.Open bytes flags) mid (open_files_view (record mid { failed = true }) gs) (not_failed (session_view_of_tree_and_files t fs) (ops.Open bytes flags) passed) asked))
+    subst (λ z. StepsOrFails z (ops.Open bytes flags) (Err NoMemory) (view_of_session left gs)) same
+    (subst (λ z. StepsOrFails (view_of_session t fs) (ops.Open bytes flags) (Err NoMemory) (view_of_session z gs)) (sym is)
+    (memory_fails (view_of_session t fs) (ops.Open bytes flags) mid (files_view (record mid { failed = true }) gs) (not_failed (view_of_session t fs) (ops.Open bytes flags) passed) asked))

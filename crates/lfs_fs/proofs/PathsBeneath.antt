@@ -5,11 +5,11 @@ use Rattle.std.specs.Cmp.Lexicographic.{pointwise}
 use Rattle.std.proofs.lemmas.Slice.Eq.{starts_is}
 use Rattle.std.proofs.lemmas.Bool.{and_parts, lt-ltb, ltb-true, ltb-false}
 use Rattle.std.proofs.lemmas.Bool.Decides.{Decides-eqb}
-use Rattle.lfs_model.specs.TreeEdits.{path_without_prefix}
-use Rattle.lfs_model.specs.Names.{Name, is_path_component, same_name, slash_byte}
-use Rattle.lfs_model.specs.Operations.{path_of_bytes}
-use Rattle.lfs_model.specs.Refusals.{path_of_bytes_or_root, is_root_or_invalid_path}
-use Rattle.lfs_model.specs.Tree.{Path}
+use Rattle.lfs_model.specs.session.TreeEdits.{without_prefix}
+use Rattle.lfs_model.specs.format.Names.{Name, is_component, same_name, slash_byte}
+use Rattle.lfs_model.specs.session.Operations.{parse_path}
+use Rattle.lfs_model.specs.session.Refusals.{path_or_root, is_unusable}
+use Rattle.lfs_model.specs.tree.Tree.{Path}
 use Rattle.lfs_model.proofs.Paths.{Names, alike, unlike, names, same_itself, unlike_test}
 use Rattle.lfs_fs.specs.RenamePaths.{is_path_prefix}
 
@@ -47,7 +47,7 @@ abbrev part : ℕ → List ℕ → Path → Path
 part x xs rest = if x == slash_byte then [] ∷ rest else onto_first x rest
 
 abbrev is_on : Path → Path → Bool
-is_on p q = is_some (path_without_prefix p q)
+is_on p q = is_some (without_prefix p q)
 
 -- the parts of bytes are at least one
 record IsParts (parts : Path) : Type 0 where
@@ -100,16 +100,16 @@ split_on (x ∷ xs) (y ∷ ys) = go (split_on xs ys) (x == slash_byte) (y == sla
     go so false true e f k l = ap (λ z. is_on (onto_first x z) ([] ∷ qs)) k.are ∙ sym (apart (differs false true e f (λ z. absurd (cc))))
     go so false false e f k l =
         ap₂ (λ z w. is_on (onto_first x z) (onto_first y w)) k.are l.are
-        ∙ ap (λ c. is_some (cond c (path_without_prefix k.rest l.rest) None)) (first_names x y k.first l.first)
-        ∙ halves (x == y) (same_name k.first l.first) (path_without_prefix k.rest l.rest)
+        ∙ ap (λ c. is_some (cond c (without_prefix k.rest l.rest) None)) (first_names x y k.first l.first)
+        ∙ halves (x == y) (same_name k.first l.first) (without_prefix k.rest l.rest)
         ∙ ap (λ b. (x == y) && b) (sym (ap₂ is_on k.are l.are) ∙ so)
       where
         halves : (a b : Bool) (o : Option Path) → is_some (cond (a && b) o None) ≡ (a && is_some (cond b o None))
         halves true b o = refl
         halves false b o = refl
 
-parts_of : (b : ℕ) (xs : List ℕ) → is_some (path_of_bytes (b ∷ xs)) ≡ true → (b ≡ slash_byte) × (path_of_bytes_or_root (b ∷ xs) ≡ cond (nat_lt 0 (length xs)) (slice_split (λ c. c == slash_byte) xs) [])
-parts_of b xs h = go (b == slash_byte) (nat_lt 0 (length xs)) (list_all is_path_component (slice_split (λ c. c == slash_byte) xs)) refl h
+parts_of : (b : ℕ) (xs : List ℕ) → is_some (parse_path (b ∷ xs)) ≡ true → (b ≡ slash_byte) × (path_or_root (b ∷ xs) ≡ cond (nat_lt 0 (length xs)) (slice_split (λ c. c == slash_byte) xs) [])
+parts_of b xs h = go (b == slash_byte) (nat_lt 0 (length xs)) (list_all is_component (slice_split (λ c. c == slash_byte) xs)) refl h
   where
     go : (s l c : Bool) → (b == slash_byte) ≡ s → is_some (cond (not s) None (cond l (cond c (Some (slice_split (λ c. c == slash_byte) xs)) None) (Some []))) ≡ true
         → (b ≡ slash_byte) × (unwrap_or (cond (not s) None (cond l (cond c (Some (slice_split (λ c. c == slash_byte) xs)) None) (Some []))) [] ≡ cond l (slice_split (λ c. c == slash_byte) xs) [])
@@ -118,34 +118,34 @@ parts_of b xs h = go (b == slash_byte) (nat_lt 0 (length xs)) (list_all is_path_
     go true true false e k = absurd (cc)
     go true true true e k = (eqb-true b slash_byte e, refl)
 
-good : (o : Option Path) → is_root_or_invalid_path o ≡ false → is_some o ≡ true
+good : (o : Option Path) → is_unusable o ≡ false → is_some o ≡ true
 good None e = absurd (cc)
 good (Some p) e = refl
 
 -- the path of the second bytes is that of the first, which is an entry's, or lies beneath it
-pub is_beneath_bytes : (xs ys : List ℕ) → is_root_or_invalid_path (path_of_bytes xs) ≡ false → is_some (path_of_bytes ys) ≡ true → is_path_prefix xs ys ≡ is_some (path_without_prefix (path_of_bytes_or_root xs) (path_of_bytes_or_root ys))
-is_beneath_bytes [] ys e f = absurd (let k = good (path_of_bytes []) e in cc)
+pub is_beneath_bytes : (xs ys : List ℕ) → is_unusable (parse_path xs) ≡ false → is_some (parse_path ys) ≡ true → is_path_prefix xs ys ≡ is_some (without_prefix (path_or_root xs) (path_or_root ys))
+is_beneath_bytes [] ys e f = absurd (let k = good (parse_path []) e in cc)
 is_beneath_bytes (x ∷ []) ys e f = absurd (go (x == slash_byte) e)
   where
-    go : (s : Bool) → is_root_or_invalid_path (cond (not s) None (Some [])) ≡ false → ⊥
+    go : (s : Bool) → is_unusable (cond (not s) None (Some [])) ≡ false → ⊥
     go true k = absurd (cc)
     go false k = absurd (cc)
 is_beneath_bytes (x ∷ a ∷ xs) [] e f = absurd (cc)
-is_beneath_bytes (x ∷ a ∷ xs) (y ∷ ys) e f = both ys (parts_of x (a ∷ xs) (good (path_of_bytes (x ∷ a ∷ xs)) e)) (parts_of y ys f) (parts_are (a ∷ xs))
+is_beneath_bytes (x ∷ a ∷ xs) (y ∷ ys) e f = both ys (parts_of x (a ∷ xs) (good (parse_path (x ∷ a ∷ xs)) e)) (parts_of y ys f) (parts_are (a ∷ xs))
   where
     from : Path
     from = slice_split (λ c. c == slash_byte) (a ∷ xs)
 
-    both : (ys : List ℕ) → (x ≡ slash_byte) × (path_of_bytes_or_root (x ∷ a ∷ xs) ≡ cond (nat_lt 0 (length (a ∷ xs))) from []) → (y ≡ slash_byte) × (path_of_bytes_or_root (y ∷ ys) ≡ cond (nat_lt 0 (length ys)) (slice_split (λ c. c == slash_byte) ys) []) → IsParts from
-        → is_path_prefix (x ∷ a ∷ xs) (y ∷ ys) ≡ is_some (path_without_prefix (path_of_bytes_or_root (x ∷ a ∷ xs)) (path_of_bytes_or_root (y ∷ ys)))
+    both : (ys : List ℕ) → (x ≡ slash_byte) × (path_or_root (x ∷ a ∷ xs) ≡ cond (nat_lt 0 (length (a ∷ xs))) from []) → (y ≡ slash_byte) × (path_or_root (y ∷ ys) ≡ cond (nat_lt 0 (length ys)) (slice_split (λ c. c == slash_byte) ys) []) → IsParts from
+        → is_path_prefix (x ∷ a ∷ xs) (y ∷ ys) ≡ is_some (without_prefix (path_or_root (x ∷ a ∷ xs)) (path_or_root (y ∷ ys)))
     both [] h k p =
-        ap (λ b. b && false) first ∙ sym (ap₂ (λ p q. is_some (path_without_prefix p q)) (h.1 ∙ ap (λ b. cond b from []) (lt-ltb 0 (length (a ∷ xs)) (omega arith)) ∙ p.are) k.1)
+        ap (λ b. b && false) first ∙ sym (ap₂ (λ p q. is_some (without_prefix p q)) (h.1 ∙ ap (λ b. cond b from []) (lt-ltb 0 (length (a ∷ xs)) (omega arith)) ∙ p.are) k.1)
       where
         first : (x == y) ≡ true
         first = ap₂ (λ z w. z == w) h.0 k.0 ∙ same_number slash_byte
     both (b ∷ ys) h k p =
         ap (λ z. z && is_path_prefix (a ∷ xs) (b ∷ ys)) first ∙ sym (split_on (a ∷ xs) (b ∷ ys))
-        ∙ sym (ap₂ (λ p q. is_some (path_without_prefix p q)) (h.1 ∙ ap (λ z. cond z from []) (lt-ltb 0 (length (a ∷ xs)) (omega arith)))
+        ∙ sym (ap₂ (λ p q. is_some (without_prefix p q)) (h.1 ∙ ap (λ z. cond z from []) (lt-ltb 0 (length (a ∷ xs)) (omega arith)))
         (k.1 ∙ ap (λ z. cond z (slice_split (λ c. c == slash_byte) (b ∷ ys)) []) (lt-ltb 0 (length (b ∷ ys)) (omega arith))))
       where
         first : (x == y) ≡ true

@@ -2,69 +2,69 @@
 use Rattle.std.proofs.Common.{◌≡◌, ◌<◌, ◌≤◌, Bool, not, nat_le, arith, true, false, cond, ℕ, Option, Some, None, Result, Ok, Err, refl, sym, ap, subst, ◌∙◌}
 use Rattle.std.specs.Prelude.{IfErr}
 use Rattle.lfs_device.specs.declared.error.Error.{Error}
-use Rattle.lfs_model.specs.History.{fault_count_of_history}
-use Rattle.lfs_model.specs.Operations as ops
-use Rattle.lfs_model.specs.Operations.{Operation, Reply, Failed}
-use Rattle.lfs_model.specs.Refusals.{refusal_of_operation}
-use Rattle.lfs_model.specs.Effects.{effect_of_operation}
+use Rattle.lfs_model.specs.session.History.{fault_count}
+use Rattle.lfs_model.specs.session.Operations as ops
+use Rattle.lfs_model.specs.session.Operations.{Operation, Reply, Failed}
+use Rattle.lfs_model.specs.session.Refusals.{operation_refusal}
+use Rattle.lfs_model.specs.session.Effects.{operation_effect}
 use Rattle.std.proofs.lemmas.Bool.{le-leb, leb-true}
-use Rattle.lfs_model.specs.Session.{refuse_if}
-use Rattle.lfs_model.specs.State.{is_remount_operation}
-use Rattle.lfs_model.specs.Run.{IsSessionStep}
-use Rattle.lfs_model.specs.Headline.{is_query_needing_no_open_file}
-use Rattle.lfs_model.proofs.Histories.{AreCallsSinceOnlyReads-trans}
+use Rattle.lfs_model.specs.session.Session.{refuse_if}
+use Rattle.lfs_model.specs.session.State.{is_remount}
+use Rattle.lfs_model.specs.session.Run.{IsStep}
+use Rattle.lfs_model.specs.session.Headline.{is_query}
+use Rattle.lfs_model.proofs.Histories.{OnlyReadsSince-trans}
 use Rattle.lfs_model.proofs.SessionSteps.{not_remount}
-use Rattle.lfs_lookup.specs.Refusals.{refusal_of_error}
-use Rattle.lfs_tree.specs.TreeState.{TreeState, IsSoundTreeState, disk_summary_of_tree, WasTreeOnlyRead, IsTreeFailedByRead, IsIoWithFaultOrNoMemory}
-use Rattle.lfs_fs.specs.SessionView.{SessionView, session_of_session_view, system_state_of_session_view, refusal_by_checks, IsSessionStepOrFailure}
+use Rattle.lfs_lookup.specs.RefusalErrors.{error_refusal}
+use Rattle.lfs_tree.specs.TreeState.{TreeState, IsSoundState, tree_summary, OnlyReadsTree, FailedByReading, HasErrorCause}
+use Rattle.lfs_fs.specs.SessionView.{SessionView, viewed_session, system_state, refusal_by_checks, StepsOrFails}
 use Rattle.lfs_fs.proofs.Answered.{refused_answer, asked_answer, nothing_asked, question_only_asks, question_keeps, question_recovers_nothing, question_lays_nothing}
 
 -- ---- without a call
 
 pub failed_by : (h : SessionView) (op : Operation) → true ≡ h.tree.failed → refusal_by_checks h op ≡ Some Failed
-failed_by h op e = ap (λ b. cond b (Some Failed) (refusal_of_operation (disk_summary_of_tree h.tree) (session_of_session_view h) op)) (sym e)
+failed_by h op e = ap (λ b. cond b (Some Failed) (operation_refusal (tree_summary h.tree) (viewed_session h) op)) (sym e)
 
-pub works_by : (h : SessionView) (op : Operation) (r : Option ops.Refusal) → false ≡ h.tree.failed → refusal_of_operation (disk_summary_of_tree h.tree) (session_of_session_view h) op ≡ r → refusal_by_checks h op ≡ r
-works_by h op r e is = ap (λ b. cond b (Some Failed) (refusal_of_operation (disk_summary_of_tree h.tree) (session_of_session_view h) op)) (sym e) ∙ is
+pub works_by : (h : SessionView) (op : Operation) (r : Option ops.Refusal) → false ≡ h.tree.failed → operation_refusal (tree_summary h.tree) (viewed_session h) op ≡ r → refusal_by_checks h op ≡ r
+works_by h op r e is = ap (λ b. cond b (Some Failed) (operation_refusal (tree_summary h.tree) (viewed_session h) op)) (sym e) ∙ is
 
-pub refused_kept : (old now : SessionView) (op : Operation) (e : Error) → old ≡ now → (old.tree.failed ≡ false → IsSoundTreeState old.tree) → is_remount_operation op ≡ false → refusal_by_checks old op ≡ Some (refusal_of_error e) →
-    IsSessionStepOrFailure now op (Ok (ops.Refused (refusal_of_error e))) now
+pub refused_kept : (old now : SessionView) (op : Operation) (e : Error) → old ≡ now → (old.tree.failed ≡ false → IsSoundState old.tree) → is_remount op ≡ false → refusal_by_checks old op ≡ Some (error_refusal e) →
+    StepsOrFails now op (Ok (ops.Refused (error_refusal e))) now
 refused_kept old now op e same ready other is =
-    subst (λ z. IsSessionStepOrFailure z op (Ok (ops.Refused (refusal_of_error e))) z) same (refused_answer old op (refusal_of_error e) old.tree ready other (nothing_asked old.tree) is)
+    subst (λ z. StepsOrFails z op (Ok (ops.Refused (error_refusal e))) z) same (refused_answer old op (error_refusal e) old.tree ready other (nothing_asked old.tree) is)
 
-pub question_kept : (old now : SessionView) (op : Operation) (reply : Reply) → old ≡ now → (old.tree.failed ≡ false → IsSoundTreeState old.tree) → is_query_needing_no_open_file op ≡ true → refusal_by_checks old op ≡ None →
-    reply ≡ (effect_of_operation (disk_summary_of_tree old.tree) (session_of_session_view old) op).0 → IsSessionStepOrFailure now op (Ok reply) now
+pub question_kept : (old now : SessionView) (op : Operation) (reply : Reply) → old ≡ now → (old.tree.failed ≡ false → IsSoundState old.tree) → is_query op ≡ true → refusal_by_checks old op ≡ None →
+    reply ≡ (operation_effect (tree_summary old.tree) (viewed_session old) op).0 → StepsOrFails now op (Ok reply) now
 question_kept old now op reply same ready asks e is =
-    subst (λ z. IsSessionStepOrFailure z op (Ok reply) z) same
-    (subst (λ r. IsSessionStep (system_state_of_session_view old) op r (system_state_of_session_view old)) (sym is)
-    (asked_answer old op old.tree old.files ready (nothing_asked old.tree) e (not_remount op asks) (question_only_asks (session_of_session_view old) op asks) (question_keeps (disk_summary_of_tree old.tree) (session_of_session_view old) op asks)
-    (question_recovers_nothing op asks) (question_lays_nothing (session_of_session_view old) op asks) (λ k. refl)))
+    subst (λ z. StepsOrFails z op (Ok reply) z) same
+    (subst (λ r. IsStep (system_state old) op r (system_state old)) (sym is)
+    (asked_answer old op old.tree old.files ready (nothing_asked old.tree) e (not_remount op asks) (question_only_asks (viewed_session old) op asks) (question_keeps (tree_summary old.tree) (viewed_session old) op asks)
+    (question_recovers_nothing op asks) (question_lays_nothing (viewed_session old) op asks) (λ k. refl)))
 
 -- ---- two calls
 
-pub asked_twice : (a b c : TreeState) → WasTreeOnlyRead a b → WasTreeOnlyRead b c → WasTreeOnlyRead a c
+pub asked_twice : (a b c : TreeState) → OnlyReadsTree a b → OnlyReadsTree b c → OnlyReadsTree a c
 asked_twice a b c h k = record {
   same = k.same ∙ ap (λ (t : TreeState). record t { history = c.history; cache = c.cache }) h.same;
   failed = λ e. k.failed (ap (λ (t : TreeState). t.failed) (h.failed e) ∙ e) ∙ h.failed e;
-  reads = AreCallsSinceOnlyReads-trans h.reads k.reads (ap (λ (t : TreeState). t.disk.blocks) h.same);
+  reads = OnlyReadsSince-trans h.reads k.reads (ap (λ (t : TreeState). t.disk.blocks) h.same);
   no_fault = k.no_fault ∙ h.no_fault;
 }
 
-pub broken_twice : (a b c : TreeState) → WasTreeOnlyRead a b → IsTreeFailedByRead b c → IsTreeFailedByRead a c
+pub broken_twice : (a b c : TreeState) → OnlyReadsTree a b → FailedByReading b c → FailedByReading a c
 broken_twice a b c h k = record {
   failed = k.failed;
   disk = k.disk ∙ ap (λ (t : TreeState). t.disk) h.same;
-  reads = AreCallsSinceOnlyReads-trans h.reads k.reads (ap (λ (t : TreeState). t.disk.blocks) h.same);
+  reads = OnlyReadsSince-trans h.reads k.reads (ap (λ (t : TreeState). t.disk.blocks) h.same);
 }
 
-pub error_twice : (a b c : TreeState) (e : Error) → WasTreeOnlyRead a b → IsIoWithFaultOrNoMemory b c e → IsIoWithFaultOrNoMemory a c e
+pub error_twice : (a b c : TreeState) (e : Error) → OnlyReadsTree a b → HasErrorCause b c e → HasErrorCause a c e
 error_twice a b c e h k = record {
   errors = k.errors;
-  fault = λ x. subst (λ n. n < fault_count_of_history c.history) h.no_fault (k.fault x);
+  fault = λ x. subst (λ n. n < fault_count c.history) h.no_fault (k.fault x);
   no_fault = λ x. k.no_fault x ∙ h.no_fault;
 }
 
-pub error_either : {A : Type 0} (a b c : TreeState) (r : Result A Error) → WasTreeOnlyRead a b → IfErr r (IsIoWithFaultOrNoMemory b c) → IfErr r (IsIoWithFaultOrNoMemory a c)
+pub error_either : {A : Type 0} (a b c : TreeState) (r : Result A Error) → OnlyReadsTree a b → IfErr r (HasErrorCause b c) → IfErr r (HasErrorCause a c)
 error_either a b c (Ok x) h k = tt
 error_either a b c (Err e) h k = error_twice a b c e h k
 

@@ -1,36 +1,36 @@
 -- What an open reader gives.
 use Rattle.std.proofs.Common.{ℕ, ◌≡◌, ◌≤◌, ◌+◌, ◌-◌, ◌++◌, min, true, false, List, length, take, drop, Option, Some, None, is_none, Result, Ok, Err, refl, sym, ap, ap₂, subst, ◌∙◌, arith}
 use Rattle.std.specs.Option.{option_map}
-use Rattle.lfs_model.specs.TreeEdits.{file_bytes_of_node, is_file}
-use Rattle.lfs_model.specs.Operations as ops
-use Rattle.lfs_model.specs.Operations.{Operation, Reply}
-use Rattle.lfs_model.specs.Session.{OpenFilesByNumber, OpenFile, FileReader, Reading, Writing, open_file_with_number, open_files_with_file_at_number, reader_of_open_file, refuse_if}
-use Rattle.lfs_model.specs.Effects.{open_file_at_position, read_effect, file_size_of_node}
-use Rattle.lfs_model.specs.Tree.{Node, FileNode, DirectoryNode}
+use Rattle.lfs_model.specs.session.TreeEdits.{file_bytes, is_file}
+use Rattle.lfs_model.specs.session.Operations as ops
+use Rattle.lfs_model.specs.session.Operations.{Operation, Reply}
+use Rattle.lfs_model.specs.session.Session.{OpenFilesByNumber, OpenFile, FileReader, Reading, Writing, file_numbered, files_with_file, file_reader, refuse_if}
+use Rattle.lfs_model.specs.session.Effects.{file_at_position, read_effect, node_file_size}
+use Rattle.lfs_model.specs.tree.Tree.{Node, FileNode, DirectoryNode}
 use Rattle.std.proofs.lemmas.List.{length-drop, length-take, take_all, take_at, take_min}
 use Rattle.std.proofs.lemmas.Option.{same_Some}
 use Rattle.lfs_file.specs.Known.{ReadsFewPointers, ReadsKnownList}
 use Rattle.lfs_file.specs.declared.known.KnownBlocks.{KnownBlocks}
-use Rattle.lfs_lookup.specs.FileContents.{IsInlineBytesOrSkipListOfFileAtPath, struct_of_file_contents}
-use Rattle.lfs_model.specs.History.{DeviceCallEvent, read_count_of_history}
-use Rattle.lfs_model.specs.Keeping.{struct_of_path}
-use Rattle.lfs_model.specs.SkipLists.{IsPlaceOfByteInList, list_block_count_for_size}
-use Rattle.lfs_model.specs.Slots.{Ctz, Inline, Struct}
-use Rattle.lfs_fs.specs.FileView.{RuntimeOpenFilesByNumber, open_file_at, open_files_view, reader_of_open_file_or_none, reader_view}
-use Rattle.lfs_fs.specs.ReaderReads.{TakesFewDeviceReads}
+use Rattle.lfs_lookup.specs.FileContents.{IsStorageAt, contents_struct}
+use Rattle.lfs_model.specs.session.History.{CallEvent, read_count}
+use Rattle.lfs_model.specs.layers.Keeping.{struct_at}
+use Rattle.lfs_model.specs.format.SkipLists.{IsBytePlace, block_count_for}
+use Rattle.lfs_model.specs.format.Slots.{Ctz, Inline, Struct}
+use Rattle.lfs_fs.specs.FileView.{RuntimeFiles, open_file_at, files_view, open_reader, reader_view}
+use Rattle.lfs_fs.specs.ReaderReads.{ReadsFew}
 use Rattle.lfs_fs.specs.declared.files.Reader.{Reader}
 use Rattle.lfs_fs.proofs.OpenFiles.{some_reader}
-use Rattle.lfs_tree.specs.TreeState.{TreeState, IsSoundTreeState, tree_view, WasTreeOnlyRead}
-use Rattle.lfs_fs.specs.SessionView.{SessionView, session_view_of_tree_and_files, session_view_of_tree_and_files_view, session_of_session_view, refusal_by_checks, IsSessionStepOrFailure}
+use Rattle.lfs_tree.specs.TreeState.{TreeState, IsSoundState, tree_view, OnlyReadsTree}
+use Rattle.lfs_fs.specs.SessionView.{SessionView, view_of_session, view_of_files, viewed_session, refusal_by_checks, StepsOrFails}
 use Rattle.lfs_device.specs.declared.error.Error.{Error}
-use Rattle.lfs_lookup.specs.Refusals.{refusal_of_error}
-use Rattle.lfs_tree.specs.TreeState.{IsTreeFailedByRead, IsIoWithFaultOrNoMemory}
-use Rattle.lfs_fs.specs.Replies.{reply_from_result}
+use Rattle.lfs_lookup.specs.RefusalErrors.{error_refusal}
+use Rattle.lfs_tree.specs.TreeState.{FailedByReading, HasErrorCause}
+use Rattle.lfs_fs.specs.Replies.{reply_from}
 use Rattle.lfs_fs.proofs.Failing.{asking_fails}
 use Rattle.lfs_fs.proofs.Answered.{error_answers, files_answers}
 use Rattle.lfs_fs.proofs.Questions.{works_by}
 
-reading_is : (f : Option OpenFile) (r : FileReader) → Some r ≡ reader_of_open_file f → f ≡ Some (Reading r)
+reading_is : (f : Option OpenFile) (r : FileReader) → Some r ≡ file_reader f → f ≡ Some (Reading r)
 reading_is None r e = absurd (cc)
 reading_is (Some (Reading q)) r e = ap or_else (sym e)
   where
@@ -39,25 +39,25 @@ reading_is (Some (Reading q)) r e = ap or_else (sym e)
     or_else (Some z) = Some (Reading z)
 reading_is (Some (Writing w)) r e = absurd (cc)
 
-pub no_reader : (h : SessionView) (fd count : ℕ) → false ≡ h.tree.failed → None ≡ reader_of_open_file (open_file_with_number h.files fd) → refusal_by_checks h (ops.Read fd count) ≡ Some ops.BadFile
+pub no_reader : (h : SessionView) (fd count : ℕ) → false ≡ h.tree.failed → None ≡ file_reader (file_numbered h.files fd) → refusal_by_checks h (ops.Read fd count) ≡ Some ops.BadFile
 no_reader h fd count works e = works_by h (ops.Read fd count) (Some ops.BadFile) works (ap (λ z. refuse_if (is_none z) ops.BadFile) (sym e))
 
-pub a_reader : (h : SessionView) (fd count : ℕ) (r : FileReader) → false ≡ h.tree.failed → Some r ≡ reader_of_open_file (open_file_with_number h.files fd) → refusal_by_checks h (ops.Read fd count) ≡ None
+pub a_reader : (h : SessionView) (fd count : ℕ) (r : FileReader) → false ≡ h.tree.failed → Some r ≡ file_reader (file_numbered h.files fd) → refusal_by_checks h (ops.Read fd count) ≡ None
 a_reader h fd count r works e = works_by h (ops.Read fd count) None works (ap (λ z. refuse_if (is_none z) ops.BadFile) (sym e))
 
-pub read_answers : (old now : SessionView) (fd count : ℕ) (r : FileReader) (tree : TreeState) (files : OpenFilesByNumber) (bytes : List ℕ) (position : ℕ) → old ≡ now → (old.tree.failed ≡ false → IsSoundTreeState old.tree) → false ≡ old.tree.failed → WasTreeOnlyRead old.tree tree →
-    Some r ≡ reader_of_open_file (open_file_with_number old.files fd) → bytes ≡ take count (drop r.position (file_bytes_of_node (tree_view old.tree r.path))) → position ≡ r.position + length bytes →
-    files ≡ open_files_with_file_at_number old.files fd (option_map (open_file_at_position position) (open_file_with_number old.files fd)) → IsSessionStepOrFailure now (ops.Read fd count) (Ok (ops.Bytes bytes)) (session_view_of_tree_and_files_view tree files)
+pub read_answers : (old now : SessionView) (fd count : ℕ) (r : FileReader) (tree : TreeState) (files : OpenFilesByNumber) (bytes : List ℕ) (position : ℕ) → old ≡ now → (old.tree.failed ≡ false → IsSoundState old.tree) → false ≡ old.tree.failed → OnlyReadsTree old.tree tree →
+    Some r ≡ file_reader (file_numbered old.files fd) → bytes ≡ take count (drop r.position (file_bytes (tree_view old.tree r.path))) → position ≡ r.position + length bytes →
+    files ≡ files_with_file old.files fd (option_map (file_at_position position) (file_numbered old.files fd)) → StepsOrFails now (ops.Read fd count) (Ok (ops.Bytes bytes)) (view_of_files tree files)
 read_answers old now fd count r tree files bytes position same ready works asked is bytes_are at files_are =
     files_answers old now (ops.Read fd count) tree files (ops.Bytes bytes) same ready asked (a_reader old fd count r works is) refl refl refl refl refl
-    (ap (read_effect (session_of_session_view old) fd count) (sym is) ∙ ap₂ (λ b f. (ops.Bytes b, record { tree = tree_view old.tree; files = f })) (sym bytes_are) moved)
+    (ap (read_effect (viewed_session old) fd count) (sym is) ∙ ap₂ (λ b f. (ops.Bytes b, record { tree = tree_view old.tree; files = f })) (sym bytes_are) moved)
   where
     given : List ℕ
-    given = take count (drop r.position (file_bytes_of_node (tree_view old.tree r.path)))
+    given = take count (drop r.position (file_bytes (tree_view old.tree r.path)))
 
-    moved : open_files_with_file_at_number old.files fd (Some (Reading (record r { position = r.position + length given }))) ≡ files
-    moved = ap (λ n. open_files_with_file_at_number old.files fd (Some (Reading (record r { position = n })))) (ap (λ b. r.position + length b) (sym bytes_are) ∙ sym at)
-        ∙ ap (λ f. open_files_with_file_at_number old.files fd (option_map (open_file_at_position position) f)) (sym (reading_is (open_file_with_number old.files fd) r is)) ∙ sym files_are
+    moved : files_with_file old.files fd (Some (Reading (record r { position = r.position + length given }))) ≡ files
+    moved = ap (λ n. files_with_file old.files fd (Some (Reading (record r { position = n })))) (ap (λ b. r.position + length b) (sym bytes_are) ∙ sym at)
+        ∙ ap (λ f. files_with_file old.files fd (option_map (file_at_position position) f)) (sym (reading_is (file_numbered old.files fd) r is)) ∙ sym files_are
 
 -- ---- into a buffer
 
@@ -74,7 +74,7 @@ whole_buffer buf more file n room count position len read fits long is same =
 
 -- ---- where it ends
 
-file_there : (n : Option Node) (size : ℕ) → file_size_of_node n ≡ Some size → (is_file n ≡ true) × (length (file_bytes_of_node n) ≡ size)
+file_there : (n : Option Node) (size : ℕ) → node_file_size n ≡ Some size → (is_file n ≡ true) × (length (file_bytes n) ≡ size)
 file_there None size e = absurd (cc)
 file_there (Some (FileNode attributes bytes)) size e = (refl, ap or_else e)
   where
@@ -83,41 +83,41 @@ file_there (Some (FileNode attributes bytes)) size e = (refl, ap or_else e)
     or_else (Some z) = z
 file_there (Some (DirectoryNode attributes names)) size e = absurd (cc)
 
-pub is_there : (n : Option Node) (size : ℕ) → file_size_of_node n ≡ Some size → is_file n ≡ true
+pub is_there : (n : Option Node) (size : ℕ) → node_file_size n ≡ Some size → is_file n ≡ true
 is_there n size e = (file_there n size e).0
 
 -- a call failed on the way
-pub read_fails : {B : Type 0} (old now : SessionView) (op : Operation) (reply : B → Reply) (e : Error) (tree : TreeState) (r : Result B Error) → old ≡ now → false ≡ old.tree.failed → IsTreeFailedByRead old.tree tree → IsIoWithFaultOrNoMemory old.tree tree e → r ≡ Err e →
-    IsSessionStepOrFailure now op (reply_from_result reply r) (session_view_of_tree_and_files_view tree old.files)
+pub read_fails : {B : Type 0} (old now : SessionView) (op : Operation) (reply : B → Reply) (e : Error) (tree : TreeState) (r : Result B Error) → old ≡ now → false ≡ old.tree.failed → FailedByReading old.tree tree → HasErrorCause old.tree tree e → r ≡ Err e →
+    StepsOrFails now op (reply_from reply r) (view_of_files tree old.files)
 read_fails old now op reply e tree r same works broken error is =
-    subst (λ z. IsSessionStepOrFailure z op (reply_from_result reply r) (session_view_of_tree_and_files_view tree old.files)) same
-    (subst (λ z. IsSessionStepOrFailure old op (reply_from_result reply z) (session_view_of_tree_and_files_view tree old.files)) (sym is)
-    (error_answers old op e (session_view_of_tree_and_files_view tree old.files) (ops.Refused (refusal_of_error e)) error.errors (asking_fails e old op tree old.files (sym works) broken error)))
+    subst (λ z. StepsOrFails z op (reply_from reply r) (view_of_files tree old.files)) same
+    (subst (λ z. StepsOrFails old op (reply_from reply z) (view_of_files tree old.files)) (sym is)
+    (error_answers old op e (view_of_files tree old.files) (ops.Refused (error_refusal e)) error.errors (asking_fails e old op tree old.files (sym works) broken error)))
 
 -- ---- how often it reads
 
 -- as many bytes are read as the list has of those that were asked for
-pub known_read : (block_size size position count room : ℕ) (known later : KnownBlocks) (old new : List DeviceCallEvent) → room ≡ min count (size - position) → ReadsKnownList block_size size position room known later old new → ReadsKnownList block_size size position count known later old new
+pub known_read : (block_size size position count room : ℕ) (known later : KnownBlocks) (old new : List CallEvent) → room ≡ min count (size - position) → ReadsKnownList block_size size position room known later old new → ReadsKnownList block_size size position count known later old new
 known_read block_size size position count room known later old new is h first last off end at there =
     let fits : min room (size - position) ≡ min count (size - position) = omega arith in
-    subst (λ k. ReadsFewPointers known (list_block_count_for_size block_size size) first last k later old new) fits
-    (h first last off end at (subst (λ k. IsPlaceOfByteInList block_size (position + k - 1) last end) (sym fits) there))
+    subst (λ k. ReadsFewPointers known (block_count_for block_size size) first last k later old new) fits
+    (h first last off end at (subst (λ k. IsBytePlace block_size (position + k - 1) last end) (sym fits) there))
 
 -- no oftener than its known blocks say
-pub few_reads : (t new : TreeState) (fs : RuntimeOpenFilesByNumber) (files : OpenFilesByNumber) (fd count : ℕ) (r : Reader) (known later : KnownBlocks) → Some r ≡ reader_of_open_file_or_none (open_file_at fs fd) → IsInlineBytesOrSkipListOfFileAtPath t.pairs r.path r.contents
-    → ((own : List ℕ) → struct_of_file_contents r.contents ≡ Inline own → new.history ≡ t.history)
-    → ((head size : ℕ) → struct_of_file_contents r.contents ≡ Ctz head size → ReadsKnownList t.disk.block_size size r.position count known later t.history new.history)
-    → TakesFewDeviceReads (session_view_of_tree_and_files t fs) fd count (session_view_of_tree_and_files_view new files)
+pub few_reads : (t new : TreeState) (fs : RuntimeFiles) (files : OpenFilesByNumber) (fd count : ℕ) (r : Reader) (known later : KnownBlocks) → Some r ≡ open_reader (open_file_at fs fd) → IsStorageAt t.pairs r.path r.contents
+    → ((own : List ℕ) → contents_struct r.contents ≡ Inline own → new.history ≡ t.history)
+    → ((head size : ℕ) → contents_struct r.contents ≡ Ctz head size → ReadsKnownList t.disk.block_size size r.position count known later t.history new.history)
+    → ReadsFew (view_of_session t fs) fd count (view_of_files new files)
 few_reads t new fs files fd count r known later there kept none few = record {
-  inline = λ q own at is. ap read_count_of_history (none own (stored q (Inline own) at is));
+  inline = λ q own at is. ap read_count (none own (stored q (Inline own) at is));
   list = λ q head size m first last off end at is le from to.
       let e = same q at in
-      (few head size (stored q (Ctz head size) at is) first last off end (subst (λ (z : FileReader). IsPlaceOfByteInList t.disk.block_size z.position first off) (sym e) from)
-      (subst (λ (z : FileReader). IsPlaceOfByteInList t.disk.block_size (z.position + min count (size - z.position) - 1) last end) (sym e) to)).few m le;
+      (few head size (stored q (Ctz head size) at is) first last off end (subst (λ (z : FileReader). IsBytePlace t.disk.block_size z.position first off) (sym e) from)
+      (subst (λ (z : FileReader). IsBytePlace t.disk.block_size (z.position + min count (size - z.position) - 1) last end) (sym e) to)).few m le;
 }
   where
-    same : (q : FileReader) → reader_of_open_file (open_file_with_number (open_files_view t fs) fd) ≡ Some q → reader_view r ≡ q
+    same : (q : FileReader) → file_reader (file_numbered (files_view t fs) fd) ≡ Some q → reader_view r ≡ q
     same q at = same_Some (reader_view r) q (some_reader t fs fd r there ∙ at)
 
-    stored : (q : FileReader) (s : Struct) → reader_of_open_file (open_file_with_number (open_files_view t fs) fd) ≡ Some q → struct_of_path t.pairs q.path ≡ Some s → struct_of_file_contents r.contents ≡ s
-    stored q s at is = same_Some (struct_of_file_contents r.contents) s (sym kept.struct ∙ ap (λ (z : FileReader). struct_of_path t.pairs z.path) (same q at) ∙ is)
+    stored : (q : FileReader) (s : Struct) → file_reader (file_numbered (files_view t fs) fd) ≡ Some q → struct_at t.pairs q.path ≡ Some s → contents_struct r.contents ≡ s
+    stored q s at is = same_Some (contents_struct r.contents) s (sym kept.struct ∙ ap (λ (z : FileReader). struct_at t.pairs z.path) (same q at) ∙ is)

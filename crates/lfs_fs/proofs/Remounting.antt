@@ -3,35 +3,35 @@ use Rattle.std.proofs.Common.{arith, ◌≡◌, inl, inr, true, false, cond, set
 use Rattle.std.specs.Prelude.{◌⊎◌, OnOk, OnErr, IfErr}
 use Rattle.lfs_device.specs.declared.error.Error.{Error}
 use Rattle.lfs_device.specs.declared.error.Error.TheVariants.{Io, NoMemory, Corrupt}
-use Rattle.lfs_model.specs.Disk.{Disk, SameGeometry, disk_in_order}
-use Rattle.lfs_model.specs.History.{DeviceCallEvent}
-use Rattle.lfs_model.specs.Operations as ops
-use Rattle.lfs_model.specs.Session.{OpenFilesByNumber}
-use Rattle.lfs_model.specs.State.{Healthy, session_after_mount}
-use Rattle.lfs_model.specs.Effects.{tree_after_commit_of_writer, node_with_bytes}
-use Rattle.lfs_model.specs.TreeEdits.{tree_after_change_of_node}
+use Rattle.lfs_model.specs.format.Disk.{Disk, SameGeometry, ordered_disk}
+use Rattle.lfs_model.specs.session.History.{CallEvent}
+use Rattle.lfs_model.specs.session.Operations as ops
+use Rattle.lfs_model.specs.session.Session.{OpenFilesByNumber}
+use Rattle.lfs_model.specs.session.State.{Healthy, mounted_session}
+use Rattle.lfs_model.specs.session.Effects.{tree_stored, file_with_bytes}
+use Rattle.lfs_model.specs.session.TreeEdits.{tree_with_change}
 use Rattle.std.specs.List.{IsDistinct}
 use Rattle.std.specs.Option.{option_map}
-use Rattle.lfs_model.specs.Tree.{Tree}
-use Rattle.lfs_model.specs.View.{IsAcceptedImage}
-use Rattle.lfs_model.specs.Shown.{tree_on_disk}
-use Rattle.lfs_model.specs.Run.{SystemState, IsSessionStep, IsTreeOfDiskOrNone, AreCallsWithoutWrites, is_dirty_writer}
+use Rattle.lfs_model.specs.tree.Tree.{Tree}
+use Rattle.lfs_model.specs.tree.View.{IsAccepted}
+use Rattle.lfs_model.specs.tree.Shown.{tree_on_disk}
+use Rattle.lfs_model.specs.session.Run.{SystemState, IsStep, ShowsTree, WriteNothing, is_dirty}
 use Rattle.lfs_model.proofs.StepsMade.{remounted_step}
-use Rattle.lfs_lookup.specs.Refusals.{is_refusal, refusal_of_error}
-use Rattle.lfs_tree.specs.TreeState.{TreeState, tree_view, disk_summary_of_tree, kept_thread_of_tree_state, IsTreeFailedByRead, IsMountErrorWithCause, IsMountedTree, IsRemountedTree, IsSoundTreeState}
-use Rattle.lfs_fs.specs.Replies.{reply_from_result}
-use Rattle.lfs_fs.specs.FileView.{RuntimeOpenFilesByNumber, unsaved_or_tree_bytes_of_writer, open_file_at, is_unsaved_writer, open_file_view, open_files_view}
+use Rattle.lfs_lookup.specs.RefusalErrors.{is_refusal, error_refusal}
+use Rattle.lfs_tree.specs.TreeState.{TreeState, tree_view, tree_summary, kept_thread, FailedByReading, IsCausedError, IsMountedTree, IsRemountedTree, IsSoundState}
+use Rattle.lfs_fs.specs.Replies.{reply_from}
+use Rattle.lfs_fs.specs.FileView.{RuntimeFiles, unsaved_or_tree, open_file_at, is_unsaved_one, file_view, files_view}
 use Rattle.lfs_fs.specs.declared.files.OpenFile as kept
 use Rattle.lfs_fs.specs.declared.files.OpenFile.TheVariants as file
 use Rattle.lfs_fs.specs.declared.files.UnsavedContents.{UnsavedContents}
-use Rattle.lfs_fs.specs.SessionView.{SessionView, IsSessionReadyForCalls, session_view_of_tree_and_files, session_view_of_tree_and_files_view, system_state_of_session_view, refusal_by_checks, SessionFailsByError, IsSessionStepOrFailure}
+use Rattle.lfs_fs.specs.SessionView.{SessionView, IsReady, view_of_session, view_of_files, system_state, refusal_by_checks, SessionFails, StepsOrFails}
 use Rattle.lfs_fs.proofs.OpenFiles.{file_is, is_saved, ready_closed, saved_is, set_is}
 use Rattle.lfs_fs.proofs.Failing.{reads_write_nothing, failed_system, healthy_system}
 use Rattle.lfs_fs.proofs.Answered.{is_over, kept_answer, sound_by}
 use Rattle.lfs_fs.proofs.Stopping.{works_at}
 use Rattle.lfs_fs.proofs.Calls.{has_called, has_erased}
-use Rattle.lfs_model.proofs.BlockSets.{in_flight_block_count-AreExactlyTheInFlightBlocks}
-use Rattle.lfs_tree.specs.Formats.{ErasesTwoBlocks, IsFreshlyFormatted}
+use Rattle.lfs_model.proofs.BlockSets.{in_flight_count-AreInFlight}
+use Rattle.lfs_tree.specs.Formats.{ErasesTwo, IsFormatted}
 
 -- ---- a file is closed of which nothing is to be saved
 
@@ -39,31 +39,31 @@ not_some : (u : Option UnsavedContents) → is_none u ≡ true → is_some u ≡
 not_some None e = refl
 not_some (Some u) e = absurd (cc)
 
-pub no_tree_change : (t : TreeState) (f : Option kept.OpenFile) (tree : Tree) → is_saved f ≡ true → tree_after_commit_of_writer (option_map (open_file_view t) f) tree ≡ tree
+pub no_tree_change : (t : TreeState) (f : Option kept.OpenFile) (tree : Tree) → is_saved f ≡ true → tree_stored (option_map (file_view t) f) tree ≡ tree
 no_tree_change t None tree e = refl
 no_tree_change t (Some (file.Reading r)) tree e = refl
-no_tree_change t (Some (file.Writing w)) tree e = ap (λ b. cond b (tree_after_change_of_node w.path (node_with_bytes (unsaved_or_tree_bytes_of_writer t w.path w.unsaved)) tree) tree) (not_some w.unsaved e)
+no_tree_change t (Some (file.Writing w)) tree e = ap (λ b. cond b (tree_with_change w.path (file_with_bytes (unsaved_or_tree t w.path w.unsaved)) tree) tree) (not_some w.unsaved e)
 
-pub not_dirty : (t : TreeState) (f : Option kept.OpenFile) → is_saved f ≡ true → is_dirty_writer (option_map (open_file_view t) f) ≡ false
+pub not_dirty : (t : TreeState) (f : Option kept.OpenFile) → is_saved f ≡ true → is_dirty (option_map (file_view t) f) ≡ false
 not_dirty t None e = refl
 not_dirty t (Some (file.Reading r)) e = refl
 not_dirty t (Some (file.Writing w)) e = not_some w.unsaved e
 
 -- no call is made
-pub closed : (t : TreeState) (fs : RuntimeOpenFilesByNumber) (now : SessionView) (fd : ℕ) → session_view_of_tree_and_files t fs ≡ now → (t.failed ≡ false → IsSessionReadyForCalls t fs) → refusal_by_checks (session_view_of_tree_and_files t fs) (ops.Close fd) ≡ None → is_some (open_file_at fs fd) ≡ true → is_saved (open_file_at fs fd) ≡ true →
-    IsSessionStepOrFailure now (ops.Close fd) (Ok ops.Done) (session_view_of_tree_and_files t (set fs fd None))
+pub closed : (t : TreeState) (fs : RuntimeFiles) (now : SessionView) (fd : ℕ) → view_of_session t fs ≡ now → (t.failed ≡ false → IsReady t fs) → refusal_by_checks (view_of_session t fs) (ops.Close fd) ≡ None → is_some (open_file_at fs fd) ≡ true → is_saved (open_file_at fs fd) ≡ true →
+    StepsOrFails now (ops.Close fd) (Ok ops.Done) (view_of_session t (set fs fd None))
 closed t fs now fd same ready e there nothing =
-    kept_answer (session_view_of_tree_and_files t fs) now (ops.Close fd) (open_files_view t (set fs fd None)) ops.Done same (sound_by t fs ready) e refl refl
-    (ap is_dirty_writer (file_is t fs fd) ∙ not_dirty t (open_file_at fs fd) nothing)
-    (ap₂ (λ t f. (ops.Done, record { tree = t; files = f })) (ap (λ f. tree_after_commit_of_writer f (tree_view t)) (file_is t fs fd) ∙ no_tree_change t (open_file_at fs fd) (tree_view t) nothing) (sym (set_is t fs fd None there)))
+    kept_answer (view_of_session t fs) now (ops.Close fd) (files_view t (set fs fd None)) ops.Done same (sound_by t fs ready) e refl refl
+    (ap is_dirty (file_is t fs fd) ∙ not_dirty t (open_file_at fs fd) nothing)
+    (ap₂ (λ t f. (ops.Done, record { tree = t; files = f })) (ap (λ f. tree_stored f (tree_view t)) (file_is t fs fd) ∙ no_tree_change t (open_file_at fs fd) (tree_view t) nothing) (sym (set_is t fs fd None there)))
 
-pub closed_answers : (t : TreeState) (fs gs : RuntimeOpenFilesByNumber) (now : SessionView) (fd : ℕ) → session_view_of_tree_and_files t fs ≡ now → (t.failed ≡ false → IsSessionReadyForCalls t fs) → refusal_by_checks (session_view_of_tree_and_files t fs) (ops.Close fd) ≡ None → is_some (open_file_at fs fd) ≡ true →
-    false ≡ is_unsaved_writer (open_file_at fs fd) → gs ≡ set fs fd None → IsSessionStepOrFailure now (ops.Close fd) (Ok ops.Done) (session_view_of_tree_and_files t gs)
+pub closed_answers : (t : TreeState) (fs gs : RuntimeFiles) (now : SessionView) (fd : ℕ) → view_of_session t fs ≡ now → (t.failed ≡ false → IsReady t fs) → refusal_by_checks (view_of_session t fs) (ops.Close fd) ≡ None → is_some (open_file_at fs fd) ≡ true →
+    false ≡ is_unsaved_one (open_file_at fs fd) → gs ≡ set fs fd None → StepsOrFails now (ops.Close fd) (Ok ops.Done) (view_of_session t gs)
 closed_answers t fs gs now fd same ready e there saved is =
-    subst (λ z. IsSessionStepOrFailure now (ops.Close fd) (Ok ops.Done) (session_view_of_tree_and_files t z)) (sym is) (closed t fs now fd same ready e there (saved_is (open_file_at fs fd) (sym saved)))
+    subst (λ z. StepsOrFails now (ops.Close fd) (Ok ops.Done) (view_of_session t z)) (sym is) (closed t fs now fd same ready e there (saved_is (open_file_at fs fd) (sym saved)))
 
-pub closed_ready : (t : TreeState) (fs gs : RuntimeOpenFilesByNumber) (fd : ℕ) → false ≡ is_unsaved_writer (open_file_at fs fd) → (t.failed ≡ false → IsSessionReadyForCalls t fs) → gs ≡ set fs fd None → t.failed ≡ false → IsSessionReadyForCalls t gs
-closed_ready t fs gs fd saved ready is works = subst (IsSessionReadyForCalls t) (sym is) (ready_closed t fs fd (saved_is (open_file_at fs fd) (sym saved)) (ready works))
+pub closed_ready : (t : TreeState) (fs gs : RuntimeFiles) (fd : ℕ) → false ≡ is_unsaved_one (open_file_at fs fd) → (t.failed ≡ false → IsReady t fs) → gs ≡ set fs fd None → t.failed ≡ false → IsReady t gs
+closed_ready t fs gs fd saved ready is works = subst (IsReady t) (sym is) (ready_closed t fs fd (saved_is (open_file_at fs fd) (sym saved)) (ready works))
 
 -- ---- a remount
 
@@ -72,10 +72,10 @@ no_refusal e (inl h) = ap is_refusal h
 no_refusal e (inr (inl h)) = ap is_refusal h
 no_refusal e (inr (inr h)) = ap is_refusal h.0
 
-remount_fails : (e : Error) (old : SessionView) (new : TreeState) (files : OpenFilesByNumber) → IsTreeFailedByRead old.tree new → IsMountErrorWithCause old.tree new e → SessionFailsByError e (system_state_of_session_view old) ops.Remount (system_state_of_session_view (session_view_of_tree_and_files_view new files))
+remount_fails : (e : Error) (old : SessionView) (new : TreeState) (files : OpenFilesByNumber) → FailedByReading old.tree new → IsCausedError old.tree new e → SessionFails e (system_state old) ops.Remount (system_state (view_of_files new files))
 remount_fails e old new files broken error = record {
   fails = record {
-    failed = ap (λ (m : SystemState). m.state) (failed_system (session_view_of_tree_and_files_view new files) broken.failed);
+    failed = ap (λ (m : SystemState). m.state) (failed_system (view_of_files new files) broken.failed);
     geometry = subst (λ d. SameGeometry old.tree.disk d) (sym broken.disk) (record { block_size = refl; page = refl; order = refl; profile = refl; count = refl });
     calls = broken.reads.events;
     called = broken.reads.extends;
@@ -90,39 +90,39 @@ remount_fails e old new files broken error = record {
   no_fault = error.no_fault;
 }
   where
-    writes : AreCallsWithoutWrites broken.reads.events
+    writes : WriteNothing broken.reads.events
     writes = reads_write_nothing old.tree.disk.blocks broken.reads.events broken.reads.each
 
-    widened : (e ≡ Io) ⊎ ((e ≡ NoMemory) ⊎ ((e ≡ Corrupt) × IsTreeOfDiskOrNone old.tree.disk None)) → (e ≡ Io) ⊎ ((e ≡ NoMemory) ⊎ ((e ≡ Corrupt) × (true ≡ true) × IsTreeOfDiskOrNone old.tree.disk None))
+    widened : (e ≡ Io) ⊎ ((e ≡ NoMemory) ⊎ ((e ≡ Corrupt) × ShowsTree old.tree.disk None)) → (e ≡ Io) ⊎ ((e ≡ NoMemory) ⊎ ((e ≡ Corrupt) × (true ≡ true) × ShowsTree old.tree.disk None))
     widened (inl h) = inl h
     widened (inr (inl h)) = inr (inl h)
     widened (inr (inr h)) = inr (inr (h.0, refl, h.1))
 
-remount_steps : (old : SessionView) (new : TreeState) → (old.tree.failed ≡ false → IsSoundTreeState old.tree) → IsRemountedTree old.tree new → IsSessionStep (system_state_of_session_view old) ops.Remount ops.Done (system_state_of_session_view (session_view_of_tree_and_files_view new []))
+remount_steps : (old : SessionView) (new : TreeState) → (old.tree.failed ≡ false → IsSoundState old.tree) → IsRemountedTree old.tree new → IsStep (system_state old) ops.Remount ops.Done (system_state (view_of_files new []))
 remount_steps old new sound r =
-    subst (λ z. IsSessionStep (system_state_of_session_view old) ops.Remount ops.Done z) (sym to)
-    (remounted_step old.tree.disk new.disk.order new.pairs (disk_summary_of_tree old.tree) (system_state_of_session_view old).state m.reads.events old.tree.history
+    subst (λ z. IsStep (system_state old) ops.Remount ops.Done z) (sym to)
+    (remounted_step old.tree.disk new.disk.order new.pairs (tree_summary old.tree) (system_state old).state m.reads.events old.tree.history
     (λ s at. let over = is_over old.tree old.files (sound (works_at old s at)) in (old.tree.pairs, (over.accepted, over.surrounds)))
-    (subst (λ d. IsAcceptedImage d new.pairs) m.disk_is m.sound.accepted) r.longer
+    (subst (λ d. IsAccepted d new.pairs) m.disk_is m.sound.accepted) r.longer
     (reads_write_nothing old.tree.disk.blocks m.reads.events m.reads.each))
   where
-    m : IsMountedTree (disk_in_order new.disk.order old.tree.disk) old.tree.history new
+    m : IsMountedTree (ordered_disk new.disk.order old.tree.disk) old.tree.history new
     m = r.mounted
 
-    to : system_state_of_session_view (session_view_of_tree_and_files_view new []) ≡ record { disk = disk_in_order new.disk.order old.tree.disk; calls = m.reads.events ++ old.tree.history; state = Healthy (session_after_mount (tree_on_disk old.tree.disk new.pairs)) }
-    to = healthy_system (session_view_of_tree_and_files_view new []) m.works
-        ∙ ap₂ (λ (d : Disk) (h : List DeviceCallEvent). record { disk = d; calls = h; state = Healthy (session_after_mount (tree_on_disk d new.pairs)) }) m.disk_is m.reads.extends
+    to : system_state (view_of_files new []) ≡ record { disk = ordered_disk new.disk.order old.tree.disk; calls = m.reads.events ++ old.tree.history; state = Healthy (mounted_session (tree_on_disk old.tree.disk new.pairs)) }
+    to = healthy_system (view_of_files new []) m.works
+        ∙ ap₂ (λ (d : Disk) (h : List CallEvent). record { disk = d; calls = h; state = Healthy (mounted_session (tree_on_disk d new.pairs)) }) m.disk_is m.reads.extends
 
-pub remount_answers : (old now : SessionView) (new : TreeState) (files : RuntimeOpenFilesByNumber) (r : Result (Unit {0}) Error) → old ≡ now → (old.tree.failed ≡ false → IsSoundTreeState old.tree) → files ≡ [] → OnOk r (IsRemountedTree old.tree new) → OnErr r (IsTreeFailedByRead old.tree new) →
-    IfErr r (IsMountErrorWithCause old.tree new) → IsSessionStepOrFailure now ops.Remount (reply_from_result (λ u. ops.Done) r) (session_view_of_tree_and_files new files)
+pub remount_answers : (old now : SessionView) (new : TreeState) (files : RuntimeFiles) (r : Result (Unit {0}) Error) → old ≡ now → (old.tree.failed ≡ false → IsSoundState old.tree) → files ≡ [] → OnOk r (IsRemountedTree old.tree new) → OnErr r (FailedByReading old.tree new) →
+    IfErr r (IsCausedError old.tree new) → StepsOrFails now ops.Remount (reply_from (λ u. ops.Done) r) (view_of_session new files)
 remount_answers old now new files (Ok u) same sound none ok broken errors =
-    subst (λ z. IsSessionStep (system_state_of_session_view z) ops.Remount ops.Done (system_state_of_session_view (session_view_of_tree_and_files new files))) same
-    (subst (λ f. IsSessionStep (system_state_of_session_view old) ops.Remount ops.Done (system_state_of_session_view (session_view_of_tree_and_files new f))) (sym none) (remount_steps old new sound ok))
+    subst (λ z. IsStep (system_state z) ops.Remount ops.Done (system_state (view_of_session new files))) same
+    (subst (λ f. IsStep (system_state old) ops.Remount ops.Done (system_state (view_of_session new f))) (sym none) (remount_steps old new sound ok))
 remount_answers old now new files (Err e) same sound none ok broken errors =
-    subst (λ z. IsSessionStepOrFailure z ops.Remount (cond (is_refusal e) (Ok (ops.Refused (refusal_of_error e))) (Err e)) (session_view_of_tree_and_files new files)) same
-    (subst (λ b. IsSessionStepOrFailure old ops.Remount (cond b (Ok (ops.Refused (refusal_of_error e))) (Err e)) (session_view_of_tree_and_files new files)) (sym (no_refusal e errors.errors)) (remount_fails e old new (open_files_view new files) broken errors))
+    subst (λ z. StepsOrFails z ops.Remount (cond (is_refusal e) (Ok (ops.Refused (error_refusal e))) (Err e)) (view_of_session new files)) same
+    (subst (λ b. StepsOrFails old ops.Remount (cond b (Ok (ops.Refused (error_refusal e))) (Err e)) (view_of_session new files)) (sym (no_refusal e errors.errors)) (remount_fails e old new (files_view new files) broken errors))
 
-pub mounted_ready : (disk : Disk) (history : List DeviceCallEvent) (new : TreeState) → IsMountedTree disk history new → IsSessionReadyForCalls new []
+pub mounted_ready : (disk : Disk) (history : List CallEvent) (new : TreeState) → IsMountedTree disk history new → IsReady new []
 mounted_ready disk history new m = record { sound = m.sound; called = has_called history new.history m.called; one = omega arith; idle = λ e. m.none_in_flight; written = tt; read = tt; known = tt }
 
 -- a session over a fresh disk, whose two blocks were erased
@@ -130,18 +130,18 @@ none_twice : IsDistinct nat_eq []
 unfolding IsDistinct
 none_twice = tt
 
-pub fresh_ready : (before : List DeviceCallEvent) (new : TreeState) (files : RuntimeOpenFilesByNumber) → files ≡ [] → IsSoundTreeState new → IsFreshlyFormatted (kept_thread_of_tree_state new) → ErasesTwoBlocks before new.history → IsSessionReadyForCalls new files
+pub fresh_ready : (before : List CallEvent) (new : TreeState) (files : RuntimeFiles) → files ≡ [] → IsSoundState new → IsFormatted (kept_thread new) → ErasesTwo before new.history → IsReady new files
 fresh_ready before new files none sound formatted calls =
-    subst (IsSessionReadyForCalls new) (sym none) (record {
+    subst (IsReady new) (sym none) (record {
       sound = sound;
       called = has_erased before new.history (let k = calls.erases in omega (arith, k));
       one = omega arith;
-      idle = λ e. in_flight_block_count-AreExactlyTheInFlightBlocks new.map [] none_twice formatted.in_flight;
+      idle = λ e. in_flight_count-AreInFlight new.map [] none_twice formatted.in_flight;
       written = tt;
       read = tt;
       known = tt;
     })
 
-pub remount_ready : (old new : TreeState) (files : RuntimeOpenFilesByNumber) (r : Result (Unit {0}) Error) → files ≡ [] → OnOk r (IsRemountedTree old new) → OnErr r (IsTreeFailedByRead old new) → new.failed ≡ false → IsSessionReadyForCalls new files
-remount_ready old new files (Ok u) none ok broken works = subst (IsSessionReadyForCalls new) (sym none) (mounted_ready (disk_in_order new.disk.order old.disk) old.history new ok.mounted)
+pub remount_ready : (old new : TreeState) (files : RuntimeFiles) (r : Result (Unit {0}) Error) → files ≡ [] → OnOk r (IsRemountedTree old new) → OnErr r (FailedByReading old new) → new.failed ≡ false → IsReady new files
+remount_ready old new files (Ok u) none ok broken works = subst (IsReady new) (sym none) (mounted_ready (ordered_disk new.disk.order old.disk) old.history new ok.mounted)
 remount_ready old new files (Err e) none ok broken works = absurd (let l = sym broken.failed ∙ works in cc)

@@ -2,26 +2,26 @@
 use Rattle.std.proofs.Common.{◌≤◌, ℕ, ◌≡◌, ◌&&◌, ◌||◌, Bool, true, false, not, List, [], ◌∷◌, length, nat_lt, Option, Some, None, Result, Err, unwrap_or, refl, sym, ap, ap₂, subst, ◌∙◌}
 use Rattle.std.specs.Prelude.{IfSome, IsSome}
 use Rattle.lfs_device.specs.declared.error.Error.{Error}
-use Rattle.lfs_model.specs.TreeEdits.{attributes_of_node, is_path_beneath, last_name_of_path, names_of_directory_node, same_path}
-use Rattle.lfs_model.specs.BlockSets.{in_flight_block_count}
-use Rattle.lfs_model.specs.Disk.{block_count, name_max_of}
-use Rattle.lfs_model.specs.Operations as ops
-use Rattle.lfs_model.specs.Operations.{Operation, Refusal, path_of_bytes}
-use Rattle.lfs_model.specs.Session.{first_refusal_in_list, reserved_block_count_of_writers, has_too_long_last_name, has_open_file_with_path_satisfying, is_entry_over_charge_limit, lacks_free_blocks, refuse_if}
-use Rattle.lfs_model.specs.Slots.{Attributes, attributes_size, zero_gstate}
-use Rattle.lfs_model.specs.Thread.{gstate_of_pairs}
-use Rattle.lfs_model.specs.Refusals.{path_of_bytes_or_root, is_root_path}
-use Rattle.lfs_model.specs.Tree.{Path}
+use Rattle.lfs_model.specs.session.TreeEdits.{node_attributes_of, is_path_beneath, last_name, directory_names, same_path}
+use Rattle.lfs_model.specs.layers.BlockSets.{in_flight_count}
+use Rattle.lfs_model.specs.format.Disk.{block_count, name_max_of}
+use Rattle.lfs_model.specs.session.Operations as ops
+use Rattle.lfs_model.specs.session.Operations.{Operation, Refusal, parse_path}
+use Rattle.lfs_model.specs.session.Session.{first_refusal, reserved_for_writers, has_long_name, has_file, is_over_charge, lacks_free, refuse_if}
+use Rattle.lfs_model.specs.format.Slots.{Attributes, attributes_size, zero_gstate}
+use Rattle.lfs_model.specs.format.Thread.{pairs_gstate}
+use Rattle.lfs_model.specs.session.Refusals.{path_or_root, is_root_path}
+use Rattle.lfs_model.specs.tree.Tree.{Path}
 use Rattle.lfs_tree.specs.Permissions.{CanRenamePath}
-use Rattle.lfs_lookup.specs.Finds.{IsFoundNodeAtPath, has_entry_beneath_path, is_absent_node, is_directory_node, is_file_node}
-use Rattle.lfs_tree.specs.RenamePaths.{AreLookupResultsAtBothRenamePaths, AreFindingsAtBothRenamePaths}
-use Rattle.lfs_tree.specs.TreeState.{TreeState, kept_thread_of_tree_state, disk_summary_of_tree, tree_view, WasTreeOnlyRead}
+use Rattle.lfs_lookup.specs.Finds.{IsFoundNode, has_entry_beneath, is_absent, is_directory_node, is_file_node}
+use Rattle.lfs_tree.specs.RenameFindings.{AreRenameResults, AreRenameFindings}
+use Rattle.lfs_tree.specs.TreeState.{TreeState, kept_thread, tree_summary, tree_view, OnlyReadsTree}
 use Rattle.lfs_lookup.specs.declared.found_entries.FoundNode.{FoundNode}
 use Rattle.lfs_tree.specs.declared.rename_paths.RenameFindings.{RenameFindings}
-use Rattle.lfs_fs.specs.FileView.{RuntimeOpenFilesByNumber, open_files_view}
-use Rattle.lfs_fs.specs.SessionView.{SessionView, session_view_of_tree_and_files, refusal_by_checks, IsResultOfOperationChecks, EndsChecksWithError, PassesChecksWithoutDeviceCalls}
-use Rattle.lfs_fs.specs.RenamePaths.{IsRefusedWhateverFilesAreOpen, IsPermittedRenameOfPathBytes, PassesRenameChecksWithoutLookUp, open_file_path_prevents_rename}
-use Rattle.lfs_fs.specs.Replies.{value_unless_refused}
+use Rattle.lfs_fs.specs.FileView.{RuntimeFiles, files_view}
+use Rattle.lfs_fs.specs.SessionView.{SessionView, view_of_session, refusal_by_checks, IsChecksResult, EndsChecks, PassesChecks}
+use Rattle.lfs_fs.specs.RenamePaths.{IsRefusedAnyway, IsPermitted, PassesRename, open_prevents_rename}
+use Rattle.lfs_fs.specs.Replies.{value_unless}
 use Rattle.lfs_fs.specs.declared.rename_checks.RenamePaths.{RenamePaths}
 use Rattle.lfs_fs.specs.declared.rename_checks.PermittedRename.{PermittedRename}
 use Rattle.lfs_fs.proofs.Answered.{not_failed, not_refused, nothing_asked}
@@ -36,35 +36,35 @@ use Rattle.lfs_fs.proofs.EntryPaths.{is_entry, root_false}
 
 abbrev checks_of : SessionView → Path → Path → FoundNode → FoundNode → List (Option Refusal)
 checks_of h p q entry target =
-    entry.fault ∷ target.fault ∷ refuse_if (has_too_long_last_name (disk_summary_of_tree h.tree) q) ops.NameTooLong ∷ refuse_if (is_absent_node entry.node) ops.NoEnt
+    entry.fault ∷ target.fault ∷ refuse_if (has_long_name (tree_summary h.tree) q) ops.NameTooLong ∷ refuse_if (is_absent entry.node) ops.NoEnt
     ∷ refuse_if (not (same_path p q) && is_directory_node entry.node && is_file_node target.node) ops.NotDir ∷ refuse_if (not (same_path p q) && is_file_node entry.node && is_directory_node target.node) ops.IsDir
-    ∷ refuse_if (not (same_path p q) && has_entry_beneath_path (tree_view h.tree) q) ops.NotEmpty ∷ refuse_if (has_open_file_with_path_satisfying (open_file_path_prevents_rename p q) h.files) ops.Busy
-    ∷ refuse_if (not (same_path p q) && is_entry_over_charge_limit (disk_summary_of_tree h.tree) (last_name_of_path q) (attributes_of_node (tree_view h.tree p))) ops.EntryFull ∷ refuse_if (lacks_free_blocks (disk_summary_of_tree h.tree) h.files 2) ops.NoSpace ∷ []
+    ∷ refuse_if (not (same_path p q) && has_entry_beneath (tree_view h.tree) q) ops.NotEmpty ∷ refuse_if (has_file (open_prevents_rename p q) h.files) ops.Busy
+    ∷ refuse_if (not (same_path p q) && is_over_charge (tree_summary h.tree) (last_name q) (node_attributes_of (tree_view h.tree p))) ops.EntryFull ∷ refuse_if (lacks_free (tree_summary h.tree) h.files 2) ops.NoSpace ∷ []
 
-rename_refused : (h : SessionView) (old new : List ℕ) (p q : Path) (entry target : FoundNode) → h.tree.failed ≡ false → h.tree.writable ≡ true → path_of_bytes old ≡ Some p → path_of_bytes new ≡ Some q → is_root_path p ≡ false → is_root_path q ≡ false → is_path_beneath p q ≡ false →
-    IsFoundNodeAtPath (tree_view h.tree) p entry → IsFoundNodeAtPath (tree_view h.tree) q target → refusal_by_checks h (ops.Rename old new) ≡ first_refusal_in_list (checks_of h p q entry target)
+rename_refused : (h : SessionView) (old new : List ℕ) (p q : Path) (entry target : FoundNode) → h.tree.failed ≡ false → h.tree.writable ≡ true → parse_path old ≡ Some p → parse_path new ≡ Some q → is_root_path p ≡ false → is_root_path q ≡ false → is_path_beneath p q ≡ false →
+    IsFoundNode (tree_view h.tree) p entry → IsFoundNode (tree_view h.tree) q target → refusal_by_checks h (ops.Rename old new) ≡ first_refusal (checks_of h p q entry target)
 rename_refused h old new p q entry target works writable is are one two apart f g =
     rw (works, writable, is, are, one, two, apart, f.parents, g.parents, f.nothing, f.directories, g.files, f.files, g.directories) refl
 
 -- by what is at the two paths, the checks behind the look-up are those
-pub found_refused : (t : TreeState) (files : RuntimeOpenFilesByNumber) (old new : List ℕ) (paths : RenamePaths) (found : RenameFindings) (len : ℕ) (long absent one two three over four lack busy : Bool)
-    (a b c d e f i j : Option Refusal) → PassesRenameChecksWithoutLookUp t old new paths → AreFindingsAtBothRenamePaths (tree_view t) paths.from paths.to found →
-    len ≡ length (last_name_of_path paths.to) → long ≡ nat_lt (name_max_of t.disk.profile) len → a ≡ refuse_if long ops.NameTooLong →
-    absent ≡ is_absent_node found.entry.node → b ≡ refuse_if absent ops.NoEnt →
+pub found_refused : (t : TreeState) (files : RuntimeFiles) (old new : List ℕ) (paths : RenamePaths) (found : RenameFindings) (len : ℕ) (long absent one two three over four lack busy : Bool)
+    (a b c d e f i j : Option Refusal) → PassesRename t old new paths → AreRenameFindings (tree_view t) paths.from paths.to found →
+    len ≡ length (last_name paths.to) → long ≡ nat_lt (name_max_of t.disk.profile) len → a ≡ refuse_if long ops.NameTooLong →
+    absent ≡ is_absent found.entry.node → b ≡ refuse_if absent ops.NoEnt →
     one ≡ (not paths.is_same && is_directory_node found.entry.node && is_file_node found.target.finding.node) → c ≡ refuse_if one ops.NotDir →
     two ≡ (not paths.is_same && is_file_node found.entry.node && is_directory_node found.target.finding.node) → d ≡ refuse_if two ops.IsDir →
     three ≡ (not paths.is_same && found.target.has_entries) → e ≡ refuse_if three ops.NotEmpty →
-    busy ≡ has_open_file_with_path_satisfying (open_file_path_prevents_rename (path_of_bytes_or_root old) (path_of_bytes_or_root new)) (open_files_view t files) → f ≡ refuse_if busy ops.Busy →
-    ((name : List ℕ) (attributes : Attributes) → length name ≡ len → attributes_size attributes ≡ found.attributes_size → over ≡ is_entry_over_charge_limit (disk_summary_of_tree t) name attributes) → four ≡ (not paths.is_same && over) → i ≡ refuse_if four ops.EntryFull →
-    lack ≡ lacks_free_blocks (disk_summary_of_tree t) (open_files_view t files) 2 → j ≡ refuse_if lack ops.NoSpace →
-    first_refusal_in_list (found.entry.fault ∷ found.target.finding.fault ∷ a ∷ b ∷ c ∷ d ∷ e ∷ f ∷ i ∷ j ∷ []) ≡ refusal_by_checks (session_view_of_tree_and_files t files) (ops.Rename old new)
+    busy ≡ has_file (open_prevents_rename (path_or_root old) (path_or_root new)) (files_view t files) → f ≡ refuse_if busy ops.Busy →
+    ((name : List ℕ) (attributes : Attributes) → length name ≡ len → attributes_size attributes ≡ found.attributes_size → over ≡ is_over_charge (tree_summary t) name attributes) → four ≡ (not paths.is_same && over) → i ≡ refuse_if four ops.EntryFull →
+    lack ≡ lacks_free (tree_summary t) (files_view t files) 2 → j ≡ refuse_if lack ops.NoSpace →
+    first_refusal (found.entry.fault ∷ found.target.finding.fault ∷ a ∷ b ∷ c ∷ d ∷ e ∷ f ∷ i ∷ j ∷ []) ≡ refusal_by_checks (view_of_session t files) (ops.Rename old new)
 found_refused t files old new paths found len long absent one two three over four lack busy a b c d e f i j
     passes there len_is long_is a_is absent_is b_is one_is c_is two_is d_is three_is e_is busy_is f_is over_is four_is i_is lack_is j_is =
-    ap first_refusal_in_list lists
+    ap first_refusal lists
     ∙ sym (rename_refused h old new p q found.entry found.target.finding passes.works passes.writable from to (root_false old p (sym passes.from)) (root_false new q (sym passes.to)) (ap₂ is_path_beneath (sym from_path) (sym to_path) ∙ passes.apart) there.entry there.target)
   where
     h : SessionView
-    h = session_view_of_tree_and_files t files
+    h = view_of_session t files
 
     p : Path
     p = paths.from
@@ -72,16 +72,16 @@ found_refused t files old new paths found len long absent one two three over fou
     q : Path
     q = paths.to
 
-    from : path_of_bytes old ≡ Some p
+    from : parse_path old ≡ Some p
     from = (is_entry old p (sym passes.from)).0
 
-    to : path_of_bytes new ≡ Some q
+    to : parse_path new ≡ Some q
     to = (is_entry new q (sym passes.to)).0
 
-    from_path : path_of_bytes_or_root old ≡ p
+    from_path : path_or_root old ≡ p
     from_path = ap (λ o. unwrap_or o []) from
 
-    to_path : path_of_bytes_or_root new ≡ q
+    to_path : path_or_root new ≡ q
     to_path = ap (λ o. unwrap_or o []) to
 
     other_is_not : not paths.is_same ≡ not (same_path p q)
@@ -92,42 +92,42 @@ found_refused t files old new paths found len long absent one two three over fou
         (both (when ops.NotDir c_is (one_is ∙ ap (λ z. z && is_directory_node found.entry.node && is_file_node found.target.finding.node) other_is_not))
         (both (when ops.IsDir d_is (two_is ∙ ap (λ z. z && is_file_node found.entry.node && is_directory_node found.target.finding.node) other_is_not))
         (both (when ops.NotEmpty e_is (three_is ∙ ap₂ (λ y z. y && z) other_is_not there.has))
-        (both (when ops.Busy f_is (busy_is ∙ ap₂ (λ y z. has_open_file_with_path_satisfying (open_file_path_prevents_rename y z) h.files) from_path to_path))
-        (both (when ops.EntryFull i_is (four_is ∙ ap₂ (λ y z. y && z) other_is_not (over_is (last_name_of_path q) (attributes_of_node (tree_view t p)) (sym len_is) (sym there.size.is))))
+        (both (when ops.Busy f_is (busy_is ∙ ap₂ (λ y z. has_file (open_prevents_rename y z) h.files) from_path to_path))
+        (both (when ops.EntryFull i_is (four_is ∙ ap₂ (λ y z. y && z) other_is_not (over_is (last_name q) (node_attributes_of (tree_view t p)) (sym len_is) (sym there.size.is))))
         (both (when ops.NoSpace j_is lack_is) refl)))))))))
 
 -- ---- from the first checks to the last
 
 -- they pass on the tree that was read
-pub passes_later : (t tree : TreeState) (old new : List ℕ) (paths : RenamePaths) → WasTreeOnlyRead t tree → PassesRenameChecksWithoutLookUp t old new paths → PassesRenameChecksWithoutLookUp tree old new paths
+pub passes_later : (t tree : TreeState) (old new : List ℕ) (paths : RenamePaths) → OnlyReadsTree t tree → PassesRename t old new paths → PassesRename tree old new paths
 passes_later t tree old new paths asked p =
-    subst (λ z. PassesRenameChecksWithoutLookUp z old new paths) (sym asked.same) (record { works = p.works; writable = p.writable; from = p.from; to = p.to; apart = p.apart; same = p.same })
+    subst (λ z. PassesRename z old new paths) (sym asked.same) (record { works = p.works; writable = p.writable; from = p.from; to = p.to; apart = p.apart; same = p.same })
 
-pub passes_late : (t : TreeState) (files : RuntimeOpenFilesByNumber) (old new : List ℕ) (paths : RenamePaths) → PassesRenameChecksWithoutLookUp t old new paths → PassesChecksWithoutDeviceCalls (session_view_of_tree_and_files t files) (ops.Rename old new)
-passes_late t files old new paths p = rename_late (session_view_of_tree_and_files t files) old new paths.from paths.to (sym p.works) (sym p.writable) (sym p.from) (sym p.to) p.apart
+pub passes_late : (t : TreeState) (files : RuntimeFiles) (old new : List ℕ) (paths : RenamePaths) → PassesRename t old new paths → PassesChecks (view_of_session t files) (ops.Rename old new)
+passes_late t files old new paths p = rename_late (view_of_session t files) old new paths.from paths.to (sym p.works) (sym p.writable) (sym p.from) (sym p.to) p.apart
 
-pub refused_at_once : (t : TreeState) (files : RuntimeOpenFilesByNumber) (op : Operation) (e : Error) (P : PermittedRename → Type 0) (r : Result PermittedRename Error) → IsRefusedWhateverFilesAreOpen t op e → r ≡ Err e → IsResultOfOperationChecks (session_view_of_tree_and_files t files) op P r t
+pub refused_at_once : (t : TreeState) (files : RuntimeFiles) (op : Operation) (e : Error) (P : PermittedRename → Type 0) (r : Result PermittedRename Error) → IsRefusedAnyway t op e → r ≡ Err e → IsChecksResult (view_of_session t files) op P r t
 refused_at_once t files op e P r refused is =
-    subst (λ z. IsResultOfOperationChecks (session_view_of_tree_and_files t files) op P z t) (sym is)
-    (subst (λ b. EndsChecksWithError b (session_view_of_tree_and_files t files) op e t) (sym (refused files).0) (nothing_asked t, (refused files).1, λ once. refl))
+    subst (λ z. IsChecksResult (view_of_session t files) op P z t) (sym is)
+    (subst (λ b. EndsChecks b (view_of_session t files) op e t) (sym (refused files).0) (nothing_asked t, (refused files).1, λ once. refl))
 
-alone : (o : Option Refusal) → first_refusal_in_list (o ∷ []) ≡ o
+alone : (o : Option Refusal) → first_refusal (o ∷ []) ≡ o
 alone None = refl
 alone (Some x) = refl
 
-pub rename_checked : (t : TreeState) (files : RuntimeOpenFilesByNumber) (old new : List ℕ) (paths : RenamePaths) (tree : TreeState) (refusal : Option Refusal) (x : PermittedRename) (r : Result PermittedRename Error) → PassesRenameChecksWithoutLookUp t old new paths → WasTreeOnlyRead t tree →
-    refusal ≡ refusal_by_checks (session_view_of_tree_and_files tree files) (ops.Rename old new) → IsPermittedRenameOfPathBytes tree old new x → r ≡ value_unless_refused (first_refusal_in_list (refusal ∷ [])) x → IsResultOfOperationChecks (session_view_of_tree_and_files t files) (ops.Rename old new) (IsPermittedRenameOfPathBytes tree old new) r tree
+pub rename_checked : (t : TreeState) (files : RuntimeFiles) (old new : List ℕ) (paths : RenamePaths) (tree : TreeState) (refusal : Option Refusal) (x : PermittedRename) (r : Result PermittedRename Error) → PassesRename t old new paths → OnlyReadsTree t tree →
+    refusal ≡ refusal_by_checks (view_of_session tree files) (ops.Rename old new) → IsPermitted tree old new x → r ≡ value_unless (first_refusal (refusal ∷ [])) x → IsChecksResult (view_of_session t files) (ops.Rename old new) (IsPermitted tree old new) r tree
 rename_checked t files old new paths tree refusal x r passes asked refusal_is x_is r_is =
-    decided (session_view_of_tree_and_files t files) (ops.Rename old new) (IsPermittedRenameOfPathBytes tree old new) x _ tree r asked (passes_late t files old new paths passes)
-    (sym (alone refusal ∙ refusal_is ∙ ap (λ z. refusal_by_checks (session_view_of_tree_and_files z files) (ops.Rename old new)) asked.same)) (λ none. x_is) r_is
+    decided (view_of_session t files) (ops.Rename old new) (IsPermitted tree old new) x _ tree r asked (passes_late t files old new paths passes)
+    (sym (alone refusal ∙ refusal_is ∙ ap (λ z. refusal_by_checks (view_of_session z files) (ops.Rename old new)) asked.same)) (λ none. x_is) r_is
 
 -- ---- what no check refuses
 
 record HasPassed (h : SessionView) (old new : List ℕ) : Type 0 where
-  can : in_flight_block_count h.tree.map ≤ reserved_block_count_of_writers h.tree.disk.profile h.tree.disk.block_size h.files → CanRenamePath h.tree (path_of_bytes_or_root old) (path_of_bytes_or_root new)
-  closed : has_open_file_with_path_satisfying (open_file_path_prevents_rename (path_of_bytes_or_root old) (path_of_bytes_or_root new)) h.files ≡ false
-  space : lacks_free_blocks (disk_summary_of_tree h.tree) h.files 2 ≡ false
-  bare : (not (same_path (path_of_bytes_or_root old) (path_of_bytes_or_root new)) && nat_lt 0 (length (names_of_directory_node (tree_view h.tree (path_of_bytes_or_root new))))) ≡ false
+  can : in_flight_count h.tree.map ≤ reserved_for_writers h.tree.disk.profile h.tree.disk.block_size h.files → CanRenamePath h.tree (path_or_root old) (path_or_root new)
+  closed : has_file (open_prevents_rename (path_or_root old) (path_or_root new)) h.files ≡ false
+  space : lacks_free (tree_summary h.tree) h.files 2 ≡ false
+  bare : (not (same_path (path_or_root old) (path_or_root new)) && nat_lt 0 (length (directory_names (tree_view h.tree (path_or_root new))))) ≡ false
 
 pub none_of_three : (a b c : Bool) → (a || b || c) ≡ false → (a ≡ false) × (b ≡ false) × (c ≡ false)
 none_of_three true b c e = absurd (cc)
@@ -162,8 +162,8 @@ passed h old new e =
       can = λ idle. record {
         works = not_failed h (ops.Rename old new) e;
         writable = writable;
-        entry = good_root (path_of_bytes old) three.0;
-        target = good_root (path_of_bytes new) three.1;
+        entry = good_root (parse_path old) three.0;
+        target = good_root (parse_path new) three.1;
         apart = three.2;
         parents = c.0;
         target_parents = d.0;
@@ -173,27 +173,27 @@ passed h old new e =
         file = file;
         empty = bare;
         fits = fits;
-        room = room_left (block_count h.tree.disk) (length (disk_summary_of_tree h.tree).used) (reserved_block_count_of_writers h.tree.disk.profile h.tree.disk.block_size h.files) (in_flight_block_count h.tree.map) 2 idle some;
+        room = room_left (block_count h.tree.disk) (length (tree_summary h.tree).used) (reserved_for_writers h.tree.disk.profile h.tree.disk.block_size h.files) (in_flight_count h.tree.map) 2 idle some;
       };
       closed = closed;
       space = some;
       bare = bare;
     }
 
-pub rename_space : (h : SessionView) (old new : List ℕ) → refusal_by_checks h (ops.Rename old new) ≡ None → lacks_free_blocks (disk_summary_of_tree h.tree) h.files 2 ≡ false
+pub rename_space : (h : SessionView) (old new : List ℕ) → refusal_by_checks h (ops.Rename old new) ≡ None → lacks_free (tree_summary h.tree) h.files 2 ≡ false
 rename_space h old new e = (passed h old new e).space
 
-pub rename_closed : (h : SessionView) (old new : List ℕ) → refusal_by_checks h (ops.Rename old new) ≡ None → has_open_file_with_path_satisfying (open_file_path_prevents_rename (path_of_bytes_or_root old) (path_of_bytes_or_root new)) h.files ≡ false
+pub rename_closed : (h : SessionView) (old new : List ℕ) → refusal_by_checks h (ops.Rename old new) ≡ None → has_file (open_prevents_rename (path_or_root old) (path_or_root new)) h.files ≡ false
 rename_closed h old new e = (passed h old new e).closed
 
-pub rename_bare : (h : SessionView) (old new : List ℕ) → refusal_by_checks h (ops.Rename old new) ≡ None → (not (same_path (path_of_bytes_or_root old) (path_of_bytes_or_root new)) && nat_lt 0 (length (names_of_directory_node (tree_view h.tree (path_of_bytes_or_root new))))) ≡ false
+pub rename_bare : (h : SessionView) (old new : List ℕ) → refusal_by_checks h (ops.Rename old new) ≡ None → (not (same_path (path_or_root old) (path_or_root new)) && nat_lt 0 (length (directory_names (tree_view h.tree (path_or_root new))))) ≡ false
 rename_bare h old new e = (passed h old new e).bare
 
-pub rename_can : (h : SessionView) (old new : List ℕ) (from to : Path) (tree : TreeState) → (h.tree.failed ≡ false → in_flight_block_count h.tree.map ≤ reserved_block_count_of_writers h.tree.disk.profile h.tree.disk.block_size h.files) → WasTreeOnlyRead h.tree tree → refusal_by_checks h (ops.Rename old new) ≡ None → from ≡ path_of_bytes_or_root old → to ≡ path_of_bytes_or_root new → CanRenamePath tree from to
+pub rename_can : (h : SessionView) (old new : List ℕ) (from to : Path) (tree : TreeState) → (h.tree.failed ≡ false → in_flight_count h.tree.map ≤ reserved_for_writers h.tree.disk.profile h.tree.disk.block_size h.files) → OnlyReadsTree h.tree tree → refusal_by_checks h (ops.Rename old new) ≡ None → from ≡ path_or_root old → to ≡ path_or_root new → CanRenamePath tree from to
 rename_can h old new from to tree idle asked e is are =
     let can = (passed h old new e).can (idle (not_failed h (ops.Rename old new) e)) in
-    subst (λ z. CanRenamePath tree z to) (sym is) (subst (λ z. CanRenamePath tree (path_of_bytes_or_root old) z) (sym are)
-    (subst (λ t. CanRenamePath t (path_of_bytes_or_root old) (path_of_bytes_or_root new)) (sym asked.same) (record {
+    subst (λ z. CanRenamePath tree z to) (sym is) (subst (λ z. CanRenamePath tree (path_or_root old) z) (sym are)
+    (subst (λ t. CanRenamePath t (path_or_root old) (path_or_root new)) (sym asked.same) (record {
       works = can.works;
       writable = can.writable;
       entry = can.entry;
@@ -210,7 +210,7 @@ rename_can h old new from to tree idle asked e is are =
       room = can.room;
     })))
 
-pub renaming_is : (t tree : TreeState) (old new : List ℕ) (paths : RenamePaths) (x : PermittedRename) → PassesRenameChecksWithoutLookUp t old new paths → x.from ≡ paths.from → x.to ≡ paths.to → x.is_same ≡ paths.is_same → IfSome x.targets (AreLookupResultsAtBothRenamePaths (kept_thread_of_tree_state tree) x.from x.to) → (gstate_of_pairs tree.pairs ≡ zero_gstate → IsSome x.targets) → IsPermittedRenameOfPathBytes tree old new x
+pub renaming_is : (t tree : TreeState) (old new : List ℕ) (paths : RenamePaths) (x : PermittedRename) → PassesRename t old new paths → x.from ≡ paths.from → x.to ≡ paths.to → x.is_same ≡ paths.is_same → IfSome x.targets (AreRenameResults (kept_thread tree) x.from x.to) → (pairs_gstate tree.pairs ≡ zero_gstate → IsSome x.targets) → IsPermitted tree old new x
 renaming_is t tree old new paths x passes from to same targets handed_on = record {
   from = from ∙ sym (ap (λ o. unwrap_or o []) (is_entry old paths.from (sym passes.from)).0);
   to = to ∙ sym (ap (λ o. unwrap_or o []) (is_entry new paths.to (sym passes.to)).0);

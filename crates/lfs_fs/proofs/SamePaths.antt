@@ -4,11 +4,11 @@ use Rattle.std.specs.List.{slice_split, list_all, join_with_byte, onto_first}
 use Rattle.std.proofs.lemmas.Option.{same_Some}
 use Rattle.std.proofs.lemmas.Bool.{eqb-true, lt-ltb}
 use Rattle.std.proofs.lemmas.List.Splits.{join_with_byte-slice_split}
-use Rattle.lfs_model.specs.Names.{is_path_component, same_name, slash_byte}
-use Rattle.lfs_model.specs.TreeEdits.{same_path}
-use Rattle.lfs_model.specs.Operations.{path_of_bytes}
-use Rattle.lfs_model.specs.Refusals.{path_of_bytes_or_root}
-use Rattle.lfs_model.specs.Tree.{Path}
+use Rattle.lfs_model.specs.format.Names.{is_component, same_name, slash_byte}
+use Rattle.lfs_model.specs.session.TreeEdits.{same_path}
+use Rattle.lfs_model.specs.session.Operations.{parse_path}
+use Rattle.lfs_model.specs.session.Refusals.{path_or_root}
+use Rattle.lfs_model.specs.tree.Tree.{Path}
 use Rattle.lfs_model.proofs.Paths.{Names, alike, unlike, names, path_itself, path_from_same}
 
 -- the bytes of a path
@@ -29,7 +29,7 @@ of_parts [] x xs e = go (x == slash_byte) (slice_split (λ c. c == slash_byte) x
     go false (q ∷ qs) k = absurd (cc)
 of_parts (n ∷ p) x xs e = behind (x ∷ xs) ∙ ap (λ z. slash_byte ∷ join_with_byte slash_byte z) e
 
-spelled : (xs : List ℕ) (p : Path) → path_of_bytes xs ≡ Some p → xs ≡ spelling p
+spelled : (xs : List ℕ) (p : Path) → parse_path xs ≡ Some p → xs ≡ spelling p
 unfolding spelling
 spelled [] p e = absurd (cc)
 spelled (b ∷ []) p e = go (b == slash_byte) refl e
@@ -37,13 +37,13 @@ spelled (b ∷ []) p e = go (b == slash_byte) refl e
     go : (s : Bool) → (b == slash_byte) ≡ s → cond (not s) None (Some []) ≡ Some p → b ∷ [] ≡ spelling p
     go false h k = absurd (cc)
     go true h k = ap (λ z. z ∷ []) (eqb-true b slash_byte h) ∙ ap spelling (same_Some [] p k)
-spelled (b ∷ x ∷ xs) p e = go (b == slash_byte) refl (list_all is_path_component parts) (sym path_is ∙ e)
+spelled (b ∷ x ∷ xs) p e = go (b == slash_byte) refl (list_all is_component parts) (sym path_is ∙ e)
   where
     parts : Path
     parts = slice_split (λ c. c == slash_byte) (x ∷ xs)
 
-    path_is : path_of_bytes (b ∷ x ∷ xs) ≡ cond (not (b == slash_byte)) None (cond (list_all is_path_component parts) (Some parts) None)
-    path_is = ap (λ z. cond (not (b == slash_byte)) None (cond z (cond (list_all is_path_component parts) (Some parts) None) (Some []))) (lt-ltb 0 (length (x ∷ xs)) (omega arith))
+    path_is : parse_path (b ∷ x ∷ xs) ≡ cond (not (b == slash_byte)) None (cond (list_all is_component parts) (Some parts) None)
+    path_is = ap (λ z. cond (not (b == slash_byte)) None (cond z (cond (list_all is_component parts) (Some parts) None) (Some []))) (lt-ltb 0 (length (x ∷ xs)) (omega arith))
 
     go : (s : Bool) → (b == slash_byte) ≡ s → (l : Bool) → cond (not s) None (cond l (Some parts) None) ≡ Some p → b ∷ x ∷ xs ≡ spelling p
     go false h l k = absurd (cc)
@@ -54,13 +54,13 @@ held_by_some : (o : Option Path) → is_some o ≡ true → o ≡ Some (unwrap_o
 held_by_some None e = absurd (cc)
 held_by_some (Some p) e = refl
 
-pub same_bytes : (xs ys : List ℕ) → is_some (path_of_bytes xs) ≡ true → is_some (path_of_bytes ys) ≡ true → same_name xs ys ≡ same_path (path_of_bytes_or_root ys) (path_of_bytes_or_root xs)
+pub same_bytes : (xs ys : List ℕ) → is_some (parse_path xs) ≡ true → is_some (parse_path ys) ≡ true → same_name xs ys ≡ same_path (path_or_root ys) (path_or_root xs)
 same_bytes xs ys h k = go (names xs ys)
   where
-    other : (xs ≡ ys → ⊥) → (b : Bool) → same_path (path_of_bytes_or_root ys) (path_of_bytes_or_root xs) ≡ b → b ≡ false
+    other : (xs ≡ ys → ⊥) → (b : Bool) → same_path (path_or_root ys) (path_or_root xs) ≡ b → b ≡ false
     other ne false e = refl
-    other ne true e = absurd (ne (spelled xs (path_of_bytes_or_root xs) (held_by_some (path_of_bytes xs) h) ∙ ap spelling (sym (path_from_same (path_of_bytes_or_root ys) (path_of_bytes_or_root xs) e)) ∙ sym (spelled ys (path_of_bytes_or_root ys) (held_by_some (path_of_bytes ys) k))))
+    other ne true e = absurd (ne (spelled xs (path_or_root xs) (held_by_some (parse_path xs) h) ∙ ap spelling (sym (path_from_same (path_or_root ys) (path_or_root xs) e)) ∙ sym (spelled ys (path_or_root ys) (held_by_some (parse_path ys) k))))
 
-    go : Names xs ys → same_name xs ys ≡ same_path (path_of_bytes_or_root ys) (path_of_bytes_or_root xs)
-    go (alike e s) = s ∙ sym (path_itself (path_of_bytes_or_root ys)) ∙ ap (λ z. same_path (path_of_bytes_or_root ys) (path_of_bytes_or_root z)) (sym e)
-    go (unlike n s) = s ∙ sym (other n (same_path (path_of_bytes_or_root ys) (path_of_bytes_or_root xs)) refl)
+    go : Names xs ys → same_name xs ys ≡ same_path (path_or_root ys) (path_or_root xs)
+    go (alike e s) = s ∙ sym (path_itself (path_or_root ys)) ∙ ap (λ z. same_path (path_or_root ys) (path_or_root z)) (sym e)
+    go (unlike n s) = s ∙ sym (other n (same_path (path_or_root ys) (path_or_root xs)) refl)

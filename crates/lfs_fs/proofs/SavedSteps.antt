@@ -4,28 +4,28 @@ use Rattle.std.specs.List.{AllByRecursion, list_any}
 use Rattle.std.specs.Option.{option_flatten, option_map}
 use Rattle.std.proofs.lemmas.List.{length-map, length-set, map-set, set-set}
 use Rattle.lfs_device.specs.declared.error.Error.{Error}
-use Rattle.lfs_model.specs.TreeEdits.{tree_after_change_of_node, same_path}
-use Rattle.lfs_model.specs.History.{DeviceCallEvent}
-use Rattle.lfs_model.specs.Layout.{IsSlotLayoutAfterRecoveryAndOperation}
-use Rattle.lfs_model.specs.Operations as ops
-use Rattle.lfs_model.specs.Operations.{Operation}
-use Rattle.lfs_model.specs.Run.{IsSessionStep, opens_existing_file, is_write_or_truncate, is_dirty_writer, is_recover_operation, needs_no_device_call, is_read_only_operation, renames_to_itself}
-use Rattle.lfs_model.specs.Session as session
-use Rattle.lfs_model.specs.Session.{OpenFilesByNumber, Session, DiskSummary, Reading, Writing, open_file_with_number, open_files_with_file_at_number, reader_of_open_file}
-use Rattle.lfs_model.specs.Writers.{writer_after_sync}
-use Rattle.lfs_model.specs.State.{Healthy, is_remount_operation}
-use Rattle.lfs_model.specs.Effects.{open_file_after_sync, tree_after_commit_of_writer, effect_of_operation, node_with_bytes}
-use Rattle.lfs_model.specs.Tree.{Path}
+use Rattle.lfs_model.specs.session.TreeEdits.{tree_with_change, same_path}
+use Rattle.lfs_model.specs.session.History.{CallEvent}
+use Rattle.lfs_model.specs.session.Layout.{IsLayoutRecovered}
+use Rattle.lfs_model.specs.session.Operations as ops
+use Rattle.lfs_model.specs.session.Operations.{Operation}
+use Rattle.lfs_model.specs.session.Run.{IsStep, opens_existing, writes_or_truncates, is_dirty, is_recover, needs_no_call, is_read_only, renames_itself}
+use Rattle.lfs_model.specs.session.Session as session
+use Rattle.lfs_model.specs.session.Session.{OpenFilesByNumber, Session, DiskSummary, Reading, Writing, file_numbered, files_with_file, file_reader}
+use Rattle.lfs_model.specs.session.Writers.{synced_writer}
+use Rattle.lfs_model.specs.session.State.{Healthy, is_remount}
+use Rattle.lfs_model.specs.session.Effects.{file_after_sync, tree_stored, operation_effect, file_with_bytes}
+use Rattle.lfs_model.specs.tree.Tree.{Path}
 use Rattle.lfs_model.proofs.BlockSets.{slice_get-set_same}
 use Rattle.lfs_model.proofs.StepsMade.{completed_step}
-use Rattle.lfs_tree.specs.OpenContents.{StoresBytesKeepingOtherFilesAtPath}
-use Rattle.lfs_lookup.specs.Refusals.{refusal_of_error}
-use Rattle.lfs_tree.specs.TreeState.{TreeState, IsFailedTree, IsIoWithFaultOrNoMemory, IsSoundTreeState, disk_summary_of_tree, tree_view}
-use Rattle.lfs_fs.specs.WriterChanges.{CanSaveWriter, IsSavedWriterSeenAs}
-use Rattle.lfs_fs.specs.FileView.{RuntimeOpenFilesByNumber, unsaved_or_tree_bytes_of_writer, open_file_at, open_file_view, open_files_view, is_unsaved_writer, readers_among, writer_view, writers_among}
-use Rattle.lfs_fs.specs.SessionView.{IsSessionStepOrFailure, AreReadersOfCurrentContentsWithoutWriter, HasKnownListBlocks, IsReaderOfCurrentContentsWithoutWriter, SessionView, IsSessionReadyForCalls, IsWriterOverWritableImage, session_view_of_tree_and_files, session_view_of_tree_and_files_view, system_state_of_session_view, refusal_by_checks, session_of_session_view}
-use Rattle.lfs_fs.specs.Replies.{reply_from_result}
-use Rattle.lfs_fs.specs.OpenFilesStay.{KeepsFilesOfWriters}
+use Rattle.lfs_tree.specs.OpenContents.{StoresBytesAt}
+use Rattle.lfs_lookup.specs.RefusalErrors.{error_refusal}
+use Rattle.lfs_tree.specs.TreeState.{TreeState, IsFailedTree, HasErrorCause, IsSoundState, tree_summary, tree_view}
+use Rattle.lfs_fs.specs.WriterChanges.{CanSaveWriter, IsSavedWriter}
+use Rattle.lfs_fs.specs.FileView.{RuntimeFiles, unsaved_or_tree, open_file_at, file_view, files_view, is_unsaved_one, readers_among, writer_view, writers_among}
+use Rattle.lfs_fs.specs.SessionView.{StepsOrFails, AreCurrentReaders, HasKnownBlocks, IsCurrentReader, SessionView, IsReady, IsWriterReady, view_of_session, view_of_files, system_state, refusal_by_checks, viewed_session}
+use Rattle.lfs_fs.specs.Replies.{reply_from}
+use Rattle.lfs_fs.specs.OpenFilesStay.{KeepsWriters}
 use Rattle.lfs_fs.specs.declared.files.OpenFile.{OpenFile}
 use Rattle.lfs_fs.specs.declared.files.OpenFile.TheVariants as file
 use Rattle.lfs_fs.specs.declared.files.Writer.{Writer}
@@ -40,13 +40,13 @@ use Rattle.lfs_fs.proofs.WriterPaths.{sync_path}
 
 -- ---- the writer that has changes
 
-pub unsaved_writer : (o : Option OpenFile) (w : Writer) → is_unsaved_writer o ≡ true → Some (file.Writing w) ≡ o → is_some w.unsaved ≡ true
-unsaved_writer o w e is = ap is_unsaved_writer is ∙ e
+pub unsaved_writer : (o : Option OpenFile) (w : Writer) → is_unsaved_one o ≡ true → Some (file.Writing w) ≡ o → is_some w.unsaved ≡ true
+unsaved_writer o w e is = ap is_unsaved_one is ∙ e
 
-pub entry_written : (t : TreeState) (fs : RuntimeOpenFilesByNumber) (fd : ℕ) (w : Writer) → Some (file.Writing w) ≡ open_file_at fs fd → IsSessionReadyForCalls t fs → IsWriterOverWritableImage t w
-entry_written t fs fd w is ready = (subst (AllByRecursion (IsWriterOverWritableImage t)) (only fs fd w (sym is) ready.one).writers ready.written).0
+pub entry_written : (t : TreeState) (fs : RuntimeFiles) (fd : ℕ) (w : Writer) → Some (file.Writing w) ≡ open_file_at fs fd → IsReady t fs → IsWriterReady t w
+entry_written t fs fd w is ready = (subst (AllByRecursion (IsWriterReady t)) (only fs fd w (sym is) ready.one).writers ready.written).0
 
-pub can_save : (t : TreeState) (fs : RuntimeOpenFilesByNumber) (fd : ℕ) (w : Writer) → t.failed ≡ false → IsSessionReadyForCalls t fs → is_unsaved_writer (open_file_at fs fd) ≡ true → Some (file.Writing w) ≡ open_file_at fs fd → CanSaveWriter t w
+pub can_save : (t : TreeState) (fs : RuntimeFiles) (fd : ℕ) (w : Writer) → t.failed ≡ false → IsReady t fs → is_unsaved_one (open_file_at fs fd) ≡ true → Some (file.Writing w) ≡ open_file_at fs fd → CanSaveWriter t w
 can_save t fs fd w works ready e is = record {
   works = works;
   written = entry_written t fs fd w is ready;
@@ -59,50 +59,50 @@ taken o p f w is writing from = sym (is ∙ ap (λ z. Some z) writing) ∙ from
 
 -- ---- the files after it
 
-pub left_inside : (fs mid : RuntimeOpenFilesByNumber) (fd : ℕ) → is_some (open_file_at fs fd) ≡ true → mid ≡ set fs fd None → fd < length mid
+pub left_inside : (fs mid : RuntimeFiles) (fd : ℕ) → is_some (open_file_at fs fd) ≡ true → mid ≡ set fs fd None → fd < length mid
 left_inside fs mid fd there left = subst (λ n. fd < n) (sym (ap (λ xs. length xs) left ∙ length-set fs fd None)) (inside_is fs fd there)
 
-pub left_free : (fs mid : RuntimeOpenFilesByNumber) (fd : ℕ) → is_some (open_file_at fs fd) ≡ true → mid ≡ set fs fd None → open_file_at mid fd ≡ None
+pub left_free : (fs mid : RuntimeFiles) (fd : ℕ) → is_some (open_file_at fs fd) ≡ true → mid ≡ set fs fd None → open_file_at mid fd ≡ None
 left_free fs mid fd there left = ap (λ xs. open_file_at xs fd) left ∙ ap option_flatten (slice_get-set_same fs fd None (inside_is fs fd there))
 
-pub left_none : (t : TreeState) (fs mid : RuntimeOpenFilesByNumber) (fd : ℕ) (w : Writer) → IsSessionReadyForCalls t fs → Some (file.Writing w) ≡ open_file_at fs fd → mid ≡ set fs fd None → writers_among mid ≡ []
+pub left_none : (t : TreeState) (fs mid : RuntimeFiles) (fd : ℕ) (w : Writer) → IsReady t fs → Some (file.Writing w) ≡ open_file_at fs fd → mid ≡ set fs fd None → writers_among mid ≡ []
 left_none t fs mid fd w ready is left = ap (λ xs. writers_among xs) left ∙ (only fs fd w (sym is) ready.one).without
 
-no_writers_same : (t s : TreeState) (fs : RuntimeOpenFilesByNumber) → writers_among fs ≡ [] → open_files_view t fs ≡ open_files_view s fs
-no_writers_same t s fs none = kept_files t s fs (ap (list_any (λ w. is_some w.unsaved)) none) (subst (KeepsFilesOfWriters t s) (sym none) tt)
+no_writers_same : (t s : TreeState) (fs : RuntimeFiles) → writers_among fs ≡ [] → files_view t fs ≡ files_view s fs
+no_writers_same t s fs none = kept_files t s fs (ap (list_any (λ w. is_some w.unsaved)) none) (subst (KeepsWriters t s) (sym none) tt)
 
-put_inside : (t : TreeState) (fs : RuntimeOpenFilesByNumber) (fd : ℕ) (x : Option session.OpenFile) → is_some (open_file_at fs fd) ≡ true → open_files_with_file_at_number (open_files_view t fs) fd x ≡ set (open_files_view t fs) fd x
-put_inside t fs fd x e = ap (λ b. cond b (set (open_files_view t fs) fd x) (open_files_view t fs ++ x ∷ [])) (ap (nat_lt fd) (length-map fs (option_map (open_file_view t))) ∙ inside fs fd e)
+put_inside : (t : TreeState) (fs : RuntimeFiles) (fd : ℕ) (x : Option session.OpenFile) → is_some (open_file_at fs fd) ≡ true → files_with_file (files_view t fs) fd x ≡ set (files_view t fs) fd x
+put_inside t fs fd x e = ap (λ b. cond b (set (files_view t fs) fd x) (files_view t fs ++ x ∷ [])) (ap (nat_lt fd) (length-map fs (option_map (file_view t))) ∙ inside fs fd e)
 
 -- without the writer
-pub left_is : (t s : TreeState) (fs : RuntimeOpenFilesByNumber) (fd : ℕ) (w : Writer) → Some (file.Writing w) ≡ open_file_at fs fd → IsOnly fs fd w → open_files_view s (set fs fd None) ≡ open_files_with_file_at_number (open_files_view t fs) fd None
+pub left_is : (t s : TreeState) (fs : RuntimeFiles) (fd : ℕ) (w : Writer) → Some (file.Writing w) ≡ open_file_at fs fd → IsOnly fs fd w → files_view s (set fs fd None) ≡ files_with_file (files_view t fs) fd None
 left_is t s fs fd w is o = no_writers_same s t (set fs fd None) o.without ∙ set_is t fs fd None (sym (ap is_some is))
 
 -- with another one in its place
-pub back_is : (t s : TreeState) (fs : RuntimeOpenFilesByNumber) (fd : ℕ) (w v : Writer) → Some (file.Writing w) ≡ open_file_at fs fd → IsOnly fs fd w →
-    open_files_view s (set (set fs fd None) fd (Some (file.Writing v))) ≡ open_files_with_file_at_number (open_files_view t fs) fd (Some (Writing (writer_view s v)))
+pub back_is : (t s : TreeState) (fs : RuntimeFiles) (fd : ℕ) (w v : Writer) → Some (file.Writing w) ≡ open_file_at fs fd → IsOnly fs fd w →
+    files_view s (set (set fs fd None) fd (Some (file.Writing v))) ≡ files_with_file (files_view t fs) fd (Some (Writing (writer_view s v)))
 back_is t s fs fd w v is o =
-    map-set (option_map (open_file_view s)) (set fs fd None) fd (Some (file.Writing v))
-    ∙ ap (λ (z : OpenFilesByNumber). set z fd (Some (Writing (writer_view s v)))) (no_writers_same s t (set fs fd None) o.without ∙ map-set (option_map (open_file_view t)) fs fd None)
-    ∙ set-set (open_files_view t fs) fd None (Some (Writing (writer_view s v)))
+    map-set (option_map (file_view s)) (set fs fd None) fd (Some (file.Writing v))
+    ∙ ap (λ (z : OpenFilesByNumber). set z fd (Some (Writing (writer_view s v)))) (no_writers_same s t (set fs fd None) o.without ∙ map-set (option_map (file_view t)) fs fd None)
+    ∙ set-set (files_view t fs) fd None (Some (Writing (writer_view s v)))
     ∙ sym (put_inside t fs fd (Some (Writing (writer_view s v))) (sym (ap is_some is)))
 
 -- ---- the turn
 
-stored_step : (t new : TreeState) (fs : RuntimeOpenFilesByNumber) (files : OpenFilesByNumber) (op : Operation) (path : Path) (bytes : List ℕ) → IsSoundTreeState t → t.failed ≡ false → refusal_by_checks (session_view_of_tree_and_files t fs) op ≡ None → StoresBytesKeepingOtherFilesAtPath t path bytes new →
-    is_remount_operation op ≡ false → is_read_only_operation (session_of_session_view (session_view_of_tree_and_files t fs)) op ≡ false → is_write_or_truncate op ≡ false → opens_existing_file (session_of_session_view (session_view_of_tree_and_files t fs)) op ≡ false → needs_no_device_call (session_of_session_view (session_view_of_tree_and_files t fs)) op ≡ false →
-    renames_to_itself op ≡ false → is_recover_operation op ≡ false →
-    ((around : DiskSummary) → tree_view new ≡ (effect_of_operation around (session_of_session_view (session_view_of_tree_and_files t fs)) op).1.tree) → IsSlotLayoutAfterRecoveryAndOperation t.disk t.pairs (session_of_session_view (session_view_of_tree_and_files t fs)) op new.disk new.pairs →
-    (effect_of_operation (disk_summary_of_tree t) (session_of_session_view (session_view_of_tree_and_files t fs)) op).1.files ≡ files →
-    IsSessionStep (system_state_of_session_view (session_view_of_tree_and_files t fs)) op (effect_of_operation (disk_summary_of_tree t) (session_of_session_view (session_view_of_tree_and_files t fs)) op).0 (system_state_of_session_view (session_view_of_tree_and_files_view new files))
+stored_step : (t new : TreeState) (fs : RuntimeFiles) (files : OpenFilesByNumber) (op : Operation) (path : Path) (bytes : List ℕ) → IsSoundState t → t.failed ≡ false → refusal_by_checks (view_of_session t fs) op ≡ None → StoresBytesAt t path bytes new →
+    is_remount op ≡ false → is_read_only (viewed_session (view_of_session t fs)) op ≡ false → writes_or_truncates op ≡ false → opens_existing (viewed_session (view_of_session t fs)) op ≡ false → needs_no_call (viewed_session (view_of_session t fs)) op ≡ false →
+    renames_itself op ≡ false → is_recover op ≡ false →
+    ((around : DiskSummary) → tree_view new ≡ (operation_effect around (viewed_session (view_of_session t fs)) op).1.tree) → IsLayoutRecovered t.disk t.pairs (viewed_session (view_of_session t fs)) op new.disk new.pairs →
+    (operation_effect (tree_summary t) (viewed_session (view_of_session t fs)) op).1.files ≡ files →
+    IsStep (system_state (view_of_session t fs)) op (operation_effect (tree_summary t) (viewed_session (view_of_session t fs)) op).0 (system_state (view_of_files new files))
 stored_step t new fs files op path bytes sound works e stored other asks fill creates silent itself left shows arranged opened =
-    let old = session_view_of_tree_and_files t fs in
-    let is : record { tree = tree_view new; files = files } ≡ (effect_of_operation (disk_summary_of_tree t) (session_of_session_view old) op).1 = ap₂ (λ t f. record { tree = t; files = f }) (shows (disk_summary_of_tree t)) (sym opened) in
-    let to = healthy_system (session_view_of_tree_and_files_view new files) stored.works
-    ∙ ap₂ (λ (calls : List DeviceCallEvent) (s : Session). record { disk = new.disk; calls = calls; state = Healthy s }) stored.called is in
-    subst (λ m. IsSessionStep m op (effect_of_operation (disk_summary_of_tree t) (session_of_session_view old) op).0 (system_state_of_session_view (session_view_of_tree_and_files_view new files))) (sym (healthy_system old works))
-    (subst (λ m. IsSessionStep (record { disk = t.disk; calls = t.history; state = Healthy (session_of_session_view old) }) op (effect_of_operation (disk_summary_of_tree t) (session_of_session_view old) op).0 m) (sym to)
-    (completed_step t.disk t.pairs (session_of_session_view old) (disk_summary_of_tree t) op new.disk new.pairs stored.calls t.history (is_over t (open_files_view t fs) sound) (not_refused old op e)
+    let old = view_of_session t fs in
+    let is : record { tree = tree_view new; files = files } ≡ (operation_effect (tree_summary t) (viewed_session old) op).1 = ap₂ (λ t f. record { tree = t; files = f }) (shows (tree_summary t)) (sym opened) in
+    let to = healthy_system (view_of_files new files) stored.works
+    ∙ ap₂ (λ (calls : List CallEvent) (s : Session). record { disk = new.disk; calls = calls; state = Healthy s }) stored.called is in
+    subst (λ m. IsStep m op (operation_effect (tree_summary t) (viewed_session old) op).0 (system_state (view_of_files new files))) (sym (healthy_system old works))
+    (subst (λ m. IsStep (record { disk = t.disk; calls = t.history; state = Healthy (viewed_session old) }) op (operation_effect (tree_summary t) (viewed_session old) op).0 m) (sym to)
+    (completed_step t.disk t.pairs (viewed_session old) (tree_summary t) op new.disk new.pairs stored.calls t.history (is_over t (files_view t fs) sound) (not_refused old op e)
     (record {
       geometry = stored.geometry;
       other = other;
@@ -115,142 +115,142 @@ stored_step t new fs files op path bytes sound works e stored other asks fill cr
     })
     (record { accepted = stored.sound.accepted; writable = stored.fits; recovered = stored.recovered; tree = shows; arranged = arranged })))
 
-file_at : (t : TreeState) (fs : RuntimeOpenFilesByNumber) (fd : ℕ) (w : Writer) → Some (file.Writing w) ≡ open_file_at fs fd → open_file_with_number (open_files_view t fs) fd ≡ Some (Writing (writer_view t w))
-file_at t fs fd w is = file_is t fs fd ∙ ap (option_map (open_file_view t)) (sym is)
+file_at : (t : TreeState) (fs : RuntimeFiles) (fd : ℕ) (w : Writer) → Some (file.Writing w) ≡ open_file_at fs fd → file_numbered (files_view t fs) fd ≡ Some (Writing (writer_view t w))
+file_at t fs fd w is = file_is t fs fd ∙ ap (option_map (file_view t)) (sym is)
 
-committed_is : (t new : TreeState) (fs : RuntimeOpenFilesByNumber) (fd : ℕ) (w : Writer) → Some (file.Writing w) ≡ open_file_at fs fd → is_some w.unsaved ≡ true → StoresBytesKeepingOtherFilesAtPath t w.path (unsaved_or_tree_bytes_of_writer t w.path w.unsaved) new →
-    tree_view new ≡ tree_after_commit_of_writer (open_file_with_number (open_files_view t fs) fd) (tree_view t)
+committed_is : (t new : TreeState) (fs : RuntimeFiles) (fd : ℕ) (w : Writer) → Some (file.Writing w) ≡ open_file_at fs fd → is_some w.unsaved ≡ true → StoresBytesAt t w.path (unsaved_or_tree t w.path w.unsaved) new →
+    tree_view new ≡ tree_stored (file_numbered (files_view t fs) fd) (tree_view t)
 committed_is t new fs fd w is dirty stored =
     stored.shows
-    ∙ sym (ap (λ f. tree_after_commit_of_writer f (tree_view t)) (file_at t fs fd w is)
-    ∙ ap (λ b. cond b (tree_after_change_of_node w.path (node_with_bytes (unsaved_or_tree_bytes_of_writer t w.path w.unsaved)) (tree_view t)) (tree_view t)) dirty)
+    ∙ sym (ap (λ f. tree_stored f (tree_view t)) (file_at t fs fd w is)
+    ∙ ap (λ b. cond b (tree_with_change w.path (file_with_bytes (unsaved_or_tree t w.path w.unsaved)) (tree_view t)) (tree_view t)) dirty)
 
-pub dirty_at : (t : TreeState) (fs : RuntimeOpenFilesByNumber) (fd : ℕ) (w : Writer) → Some (file.Writing w) ≡ open_file_at fs fd → is_some w.unsaved ≡ true → not (is_dirty_writer (open_file_with_number (open_files_view t fs) fd)) ≡ false
-dirty_at t fs fd w is dirty = ap (λ f. not (is_dirty_writer f)) (file_at t fs fd w is) ∙ ap not dirty
+pub dirty_at : (t : TreeState) (fs : RuntimeFiles) (fd : ℕ) (w : Writer) → Some (file.Writing w) ≡ open_file_at fs fd → is_some w.unsaved ≡ true → not (is_dirty (file_numbered (files_view t fs) fd)) ≡ false
+dirty_at t fs fd w is dirty = ap (λ f. not (is_dirty f)) (file_at t fs fd w is) ∙ ap not dirty
 
-writer_at : (t : TreeState) (fs : RuntimeOpenFilesByNumber) (fd : ℕ) (w : Writer) → Some (file.Writing w) ≡ open_file_at fs fd → is_some w.unsaved ≡ true →
-    (open_file_with_number (open_files_view t fs) fd ≡ Some (Writing (writer_view t w))) × ((is_some w.unsaved ≡ true) × ((w.path ≡ w.path) × (unsaved_or_tree_bytes_of_writer t w.path w.unsaved ≡ unsaved_or_tree_bytes_of_writer t w.path w.unsaved)))
+writer_at : (t : TreeState) (fs : RuntimeFiles) (fd : ℕ) (w : Writer) → Some (file.Writing w) ≡ open_file_at fs fd → is_some w.unsaved ≡ true →
+    (file_numbered (files_view t fs) fd ≡ Some (Writing (writer_view t w))) × ((is_some w.unsaved ≡ true) × ((w.path ≡ w.path) × (unsaved_or_tree t w.path w.unsaved ≡ unsaved_or_tree t w.path w.unsaved)))
 writer_at t fs fd w is dirty = (file_at t fs fd w is, (dirty, (refl, refl)))
 
 -- ---- a sync
 
-sync_step : (t new : TreeState) (fs : RuntimeOpenFilesByNumber) (fd : ℕ) (w v : Writer) → IsSessionReadyForCalls t fs → refusal_by_checks (session_view_of_tree_and_files t fs) (ops.Sync fd) ≡ None → Some (file.Writing w) ≡ open_file_at fs fd → is_some w.unsaved ≡ true →
-    StoresBytesKeepingOtherFilesAtPath t w.path (unsaved_or_tree_bytes_of_writer t w.path w.unsaved) new → IsSavedWriterSeenAs new (writer_after_sync (writer_view t w)) v →
-    IsSessionStep (system_state_of_session_view (session_view_of_tree_and_files t fs)) (ops.Sync fd) ops.Done (system_state_of_session_view (session_view_of_tree_and_files new (set (set fs fd None) fd (Some (file.Writing v)))))
+sync_step : (t new : TreeState) (fs : RuntimeFiles) (fd : ℕ) (w v : Writer) → IsReady t fs → refusal_by_checks (view_of_session t fs) (ops.Sync fd) ≡ None → Some (file.Writing w) ≡ open_file_at fs fd → is_some w.unsaved ≡ true →
+    StoresBytesAt t w.path (unsaved_or_tree t w.path w.unsaved) new → IsSavedWriter new (synced_writer (writer_view t w)) v →
+    IsStep (system_state (view_of_session t fs)) (ops.Sync fd) ops.Done (system_state (view_of_session new (set (set fs fd None) fd (Some (file.Writing v)))))
 sync_step t new fs fd w v ready e is dirty stored saved =
-    stored_step t new fs (open_files_view new (set (set fs fd None) fd (Some (file.Writing v)))) (ops.Sync fd) w.path (unsaved_or_tree_bytes_of_writer t w.path w.unsaved) ready.sound (not_failed (session_view_of_tree_and_files t fs) (ops.Sync fd) e) e stored
-    refl refl refl refl (dirty_at t fs fd w is dirty) refl refl (λ around. committed_is t new fs fd w is dirty stored) (stored.synced (open_files_view t fs) fd (writer_view t w) (writer_at t fs fd w is dirty))
-    (ap (λ f. open_files_with_file_at_number (open_files_view t fs) fd (open_file_after_sync f)) (file_at t fs fd w is)
-    ∙ ap (λ x. open_files_with_file_at_number (open_files_view t fs) fd (Some (Writing x))) (sym saved.seen)
+    stored_step t new fs (files_view new (set (set fs fd None) fd (Some (file.Writing v)))) (ops.Sync fd) w.path (unsaved_or_tree t w.path w.unsaved) ready.sound (not_failed (view_of_session t fs) (ops.Sync fd) e) e stored
+    refl refl refl refl (dirty_at t fs fd w is dirty) refl refl (λ around. committed_is t new fs fd w is dirty stored) (stored.synced (files_view t fs) fd (writer_view t w) (writer_at t fs fd w is dirty))
+    (ap (λ f. files_with_file (files_view t fs) fd (file_after_sync f)) (file_at t fs fd w is)
+    ∙ ap (λ x. files_with_file (files_view t fs) fd (Some (Writing x))) (sym saved.seen)
     ∙ sym (back_is t new fs fd w v is (only fs fd w (sym is) ready.one)))
 
-pub sync_answers : (t new : TreeState) (fs mid gs : RuntimeOpenFilesByNumber) (now : SessionView) (fd : ℕ) (w v : Writer) → session_view_of_tree_and_files t fs ≡ now → (t.failed ≡ false → IsSessionReadyForCalls t fs) → refusal_by_checks (session_view_of_tree_and_files t fs) (ops.Sync fd) ≡ None →
-    is_unsaved_writer (open_file_at fs fd) ≡ true → Some (file.Writing w) ≡ open_file_at fs fd → StoresBytesKeepingOtherFilesAtPath t w.path (unsaved_or_tree_bytes_of_writer t w.path w.unsaved) new → IsSavedWriterSeenAs new (writer_after_sync (writer_view t w)) v →
-    mid ≡ set fs fd None → gs ≡ set mid fd (Some (file.Writing v)) → IsSessionStepOrFailure now (ops.Sync fd) (Ok ops.Done) (session_view_of_tree_and_files new gs)
+pub sync_answers : (t new : TreeState) (fs mid gs : RuntimeFiles) (now : SessionView) (fd : ℕ) (w v : Writer) → view_of_session t fs ≡ now → (t.failed ≡ false → IsReady t fs) → refusal_by_checks (view_of_session t fs) (ops.Sync fd) ≡ None →
+    is_unsaved_one (open_file_at fs fd) ≡ true → Some (file.Writing w) ≡ open_file_at fs fd → StoresBytesAt t w.path (unsaved_or_tree t w.path w.unsaved) new → IsSavedWriter new (synced_writer (writer_view t w)) v →
+    mid ≡ set fs fd None → gs ≡ set mid fd (Some (file.Writing v)) → StepsOrFails now (ops.Sync fd) (Ok ops.Done) (view_of_session new gs)
 sync_answers t new fs mid gs now fd w v same ready e unsaved is stored saved left back =
-    subst (λ z. IsSessionStep (system_state_of_session_view z) (ops.Sync fd) ops.Done (system_state_of_session_view (session_view_of_tree_and_files new gs))) same
-    (subst (λ z. IsSessionStep (system_state_of_session_view (session_view_of_tree_and_files t fs)) (ops.Sync fd) ops.Done (system_state_of_session_view (session_view_of_tree_and_files new z))) (sym (back ∙ ap (λ z. set z fd (Some (file.Writing v))) left))
-    (sync_step t new fs fd w v (ready (not_failed (session_view_of_tree_and_files t fs) (ops.Sync fd) e)) e is (unsaved_writer (open_file_at fs fd) w unsaved is) stored saved))
+    subst (λ z. IsStep (system_state z) (ops.Sync fd) ops.Done (system_state (view_of_session new gs))) same
+    (subst (λ z. IsStep (system_state (view_of_session t fs)) (ops.Sync fd) ops.Done (system_state (view_of_session new z))) (sym (back ∙ ap (λ z. set z fd (Some (file.Writing v))) left))
+    (sync_step t new fs fd w v (ready (not_failed (view_of_session t fs) (ops.Sync fd) e)) e is (unsaved_writer (open_file_at fs fd) w unsaved is) stored saved))
 
-sync_writers : (t : TreeState) (fs mid gs : RuntimeOpenFilesByNumber) (fd : ℕ) (w v : Writer) → IsSessionReadyForCalls t fs → Some (file.Writing w) ≡ open_file_at fs fd → mid ≡ set fs fd None → gs ≡ set mid fd (Some (file.Writing v)) → writers_among gs ≡ v ∷ []
+sync_writers : (t : TreeState) (fs mid gs : RuntimeFiles) (fd : ℕ) (w v : Writer) → IsReady t fs → Some (file.Writing w) ≡ open_file_at fs fd → mid ≡ set fs fd None → gs ≡ set mid fd (Some (file.Writing v)) → writers_among gs ≡ v ∷ []
 sync_writers t fs mid gs fd w v ready is left back =
     ap (λ xs. writers_among xs) (back ∙ ap (λ z. set z fd (Some (file.Writing v))) left ∙ set-set fs fd None (Some (file.Writing v))) ∙ (only fs fd w (sym is) ready.one).with_other v
 
-pub sync_ready : (t new : TreeState) (fs mid gs : RuntimeOpenFilesByNumber) (fd : ℕ) (w v : Writer) (bytes : List ℕ) → (t.failed ≡ false → IsSessionReadyForCalls t fs) → refusal_by_checks (session_view_of_tree_and_files t fs) (ops.Sync fd) ≡ None →
-    Some (file.Writing w) ≡ open_file_at fs fd → StoresBytesKeepingOtherFilesAtPath t w.path bytes new → IsSavedWriterSeenAs new (writer_after_sync (writer_view t w)) v → mid ≡ set fs fd None → gs ≡ set mid fd (Some (file.Writing v)) → IsSessionReadyForCalls new gs
+pub sync_ready : (t new : TreeState) (fs mid gs : RuntimeFiles) (fd : ℕ) (w v : Writer) (bytes : List ℕ) → (t.failed ≡ false → IsReady t fs) → refusal_by_checks (view_of_session t fs) (ops.Sync fd) ≡ None →
+    Some (file.Writing w) ≡ open_file_at fs fd → StoresBytesAt t w.path bytes new → IsSavedWriter new (synced_writer (writer_view t w)) v → mid ≡ set fs fd None → gs ≡ set mid fd (Some (file.Writing v)) → IsReady new gs
 sync_ready t new fs mid gs fd w v bytes ready e is stored saved left back =
-    let was = ready (not_failed (session_view_of_tree_and_files t fs) (ops.Sync fd) e) in
+    let was = ready (not_failed (view_of_session t fs) (ops.Sync fd) e) in
     let are = sync_writers t fs mid gs fd w v was is left back in
     let o = only fs fd w (sym is) was.one in
     let path : v.path ≡ w.path = ap (λ (z : session.FileWriter). z.path) saved.seen ∙ sync_path (writer_view t w) in
     let put : gs ≡ set fs fd (Some (file.Writing v)) = back ∙ ap (λ z. set z fd (Some (file.Writing v))) left ∙ set-set fs fd None (Some (file.Writing v)) in
     record {
       sound = stored.sound;
-      called = still_called t.history new.history stored.calls stored.called (ready (not_failed (session_view_of_tree_and_files t fs) (ops.Sync fd) e)).called;
+      called = still_called t.history new.history stored.calls stored.called (ready (not_failed (view_of_session t fs) (ops.Sync fd) e)).called;
       one = subst (λ ws. length ws ≤ 1) (sym are) (omega arith);
       idle = λ h. stored.none_in_flight;
-      written = subst (AllByRecursion (IsWriterOverWritableImage new)) (sym are) (saved.written, tt);
-      read = subst (AreReadersOfCurrentContentsWithoutWriter new.pairs) (sym put)
+      written = subst (AllByRecursion (IsWriterReady new)) (sym are) (saved.written, tt);
+      read = subst (AreCurrentReaders new.pairs) (sym put)
           (read_saved t.disk t.pairs new.pairs fs fd (Some (file.Writing v)) w.path (v.path ∷ []) refl (ap (map (λ x. x.path)) o.writers) (ap (map (λ x. x.path)) (o.with_other v)) stored.others
           (λ p off. ap (λ b. b || false) (ap (same_path p) path ∙ off)) was.read);
-      known = subst (λ xs. AllByRecursion (HasKnownListBlocks new.disk) (readers_among xs)) (sym put) (known_written new.disk fs fd v
-          (known_stored t new w.path (readers_among fs) stored.others stored.lists (subst (λ written. AllByRecursion (IsReaderOfCurrentContentsWithoutWriter t.pairs written) (readers_among fs)) (ap (map (λ x. x.path)) o.writers) was.read) was.known));
+      known = subst (λ xs. AllByRecursion (HasKnownBlocks new.disk) (readers_among xs)) (sym put) (known_written new.disk fs fd v
+          (known_stored t new w.path (readers_among fs) stored.others stored.lists (subst (λ written. AllByRecursion (IsCurrentReader t.pairs written) (readers_among fs)) (ap (map (λ x. x.path)) o.writers) was.read) was.known));
     }
 
 -- put where it is
-put_same : (gs : RuntimeOpenFilesByNumber) (n : ℕ) → is_some (open_file_at gs n) ≡ true → set gs n (open_file_at gs n) ≡ gs
+put_same : (gs : RuntimeFiles) (n : ℕ) → is_some (open_file_at gs n) ≡ true → set gs n (open_file_at gs n) ≡ gs
 put_same [] n h = refl
 put_same (None ∷ gs) zero h = refl
 put_same (Some x ∷ gs) zero h = refl
 put_same (g ∷ gs) (suc n) h = ap (λ z. g ∷ z) (put_same gs n h)
 
 -- nothing is to be saved
-pub sync_idle : (t : TreeState) (fs : RuntimeOpenFilesByNumber) (now : SessionView) (fd : ℕ) → session_view_of_tree_and_files t fs ≡ now → (t.failed ≡ false → IsSessionReadyForCalls t fs) → refusal_by_checks (session_view_of_tree_and_files t fs) (ops.Sync fd) ≡ None → is_some (open_file_at fs fd) ≡ true →
-    is_unsaved_writer (open_file_at fs fd) ≡ false → IsSessionStepOrFailure now (ops.Sync fd) (Ok ops.Done) now
+pub sync_idle : (t : TreeState) (fs : RuntimeFiles) (now : SessionView) (fd : ℕ) → view_of_session t fs ≡ now → (t.failed ≡ false → IsReady t fs) → refusal_by_checks (view_of_session t fs) (ops.Sync fd) ≡ None → is_some (open_file_at fs fd) ≡ true →
+    is_unsaved_one (open_file_at fs fd) ≡ false → StepsOrFails now (ops.Sync fd) (Ok ops.Done) now
 sync_idle t fs now fd same ready e there saved =
-    subst (λ z. IsSessionStepOrFailure now (ops.Sync fd) (Ok ops.Done) z) same
-    (kept_answer (session_view_of_tree_and_files t fs) now (ops.Sync fd) (open_files_view t fs) ops.Done same (sound_by t fs ready) e refl refl
-    (ap is_dirty_writer (file_is t fs fd) ∙ not_dirty t (open_file_at fs fd) nothing)
-    (ap₂ (λ t f. (ops.Done, record { tree = t; files = f })) (ap (λ f. tree_after_commit_of_writer f (tree_view t)) (file_is t fs fd) ∙ no_tree_change t (open_file_at fs fd) (tree_view t) nothing) files))
+    subst (λ z. StepsOrFails now (ops.Sync fd) (Ok ops.Done) z) same
+    (kept_answer (view_of_session t fs) now (ops.Sync fd) (files_view t fs) ops.Done same (sound_by t fs ready) e refl refl
+    (ap is_dirty (file_is t fs fd) ∙ not_dirty t (open_file_at fs fd) nothing)
+    (ap₂ (λ t f. (ops.Done, record { tree = t; files = f })) (ap (λ f. tree_stored f (tree_view t)) (file_is t fs fd) ∙ no_tree_change t (open_file_at fs fd) (tree_view t) nothing) files))
   where
     nothing : is_saved (open_file_at fs fd) ≡ true
     nothing = saved_is (open_file_at fs fd) saved
 
-    clean : (o : Option OpenFile) → is_unsaved_writer o ≡ false → open_file_after_sync (option_map (open_file_view t) o) ≡ option_map (open_file_view t) o
+    clean : (o : Option OpenFile) → is_unsaved_one o ≡ false → file_after_sync (option_map (file_view t) o) ≡ option_map (file_view t) o
     clean None h = refl
     clean (Some (file.Reading r)) h = refl
     clean (Some (file.Writing w)) h = ap (λ b. Some (Writing (cond b (record (writer_view t w) { dirty = false; turned = false; last_end = None }) (writer_view t w)))) h
 
-    files : open_files_with_file_at_number (open_files_view t fs) fd (open_file_after_sync (open_file_with_number (open_files_view t fs) fd)) ≡ open_files_view t fs
-    files = ap (λ f. open_files_with_file_at_number (open_files_view t fs) fd (open_file_after_sync f)) (file_is t fs fd)
-        ∙ ap (open_files_with_file_at_number (open_files_view t fs) fd) (clean (open_file_at fs fd) saved)
+    files : files_with_file (files_view t fs) fd (file_after_sync (file_numbered (files_view t fs) fd)) ≡ files_view t fs
+    files = ap (λ f. files_with_file (files_view t fs) fd (file_after_sync f)) (file_is t fs fd)
+        ∙ ap (files_with_file (files_view t fs) fd) (clean (open_file_at fs fd) saved)
         ∙ sym (set_is t fs fd (open_file_at fs fd) there)
-        ∙ ap (open_files_view t) (put_same fs fd there)
+        ∙ ap (files_view t) (put_same fs fd there)
 
 -- ---- a close
 
-close_step : (t new : TreeState) (fs : RuntimeOpenFilesByNumber) (fd : ℕ) (w : Writer) → IsSessionReadyForCalls t fs → refusal_by_checks (session_view_of_tree_and_files t fs) (ops.Close fd) ≡ None → Some (file.Writing w) ≡ open_file_at fs fd → is_some w.unsaved ≡ true →
-    StoresBytesKeepingOtherFilesAtPath t w.path (unsaved_or_tree_bytes_of_writer t w.path w.unsaved) new → IsSessionStep (system_state_of_session_view (session_view_of_tree_and_files t fs)) (ops.Close fd) ops.Done (system_state_of_session_view (session_view_of_tree_and_files new (set fs fd None)))
+close_step : (t new : TreeState) (fs : RuntimeFiles) (fd : ℕ) (w : Writer) → IsReady t fs → refusal_by_checks (view_of_session t fs) (ops.Close fd) ≡ None → Some (file.Writing w) ≡ open_file_at fs fd → is_some w.unsaved ≡ true →
+    StoresBytesAt t w.path (unsaved_or_tree t w.path w.unsaved) new → IsStep (system_state (view_of_session t fs)) (ops.Close fd) ops.Done (system_state (view_of_session new (set fs fd None)))
 close_step t new fs fd w ready e is dirty stored =
-    stored_step t new fs (open_files_view new (set fs fd None)) (ops.Close fd) w.path (unsaved_or_tree_bytes_of_writer t w.path w.unsaved) ready.sound (not_failed (session_view_of_tree_and_files t fs) (ops.Close fd) e) e stored
-    refl (ap (λ f. is_some (reader_of_open_file f)) (file_at t fs fd w is)) refl refl (dirty_at t fs fd w is dirty) refl refl (λ around. committed_is t new fs fd w is dirty stored)
-    (stored.closed (open_files_view t fs) fd (writer_view t w) (writer_at t fs fd w is dirty))
+    stored_step t new fs (files_view new (set fs fd None)) (ops.Close fd) w.path (unsaved_or_tree t w.path w.unsaved) ready.sound (not_failed (view_of_session t fs) (ops.Close fd) e) e stored
+    refl (ap (λ f. is_some (file_reader f)) (file_at t fs fd w is)) refl refl (dirty_at t fs fd w is dirty) refl refl (λ around. committed_is t new fs fd w is dirty stored)
+    (stored.closed (files_view t fs) fd (writer_view t w) (writer_at t fs fd w is dirty))
     (sym (left_is t new fs fd w is (only fs fd w (sym is) ready.one)))
 
-pub close_answers : (t new : TreeState) (fs gs : RuntimeOpenFilesByNumber) (now : SessionView) (fd : ℕ) (w : Writer) → session_view_of_tree_and_files t fs ≡ now → (t.failed ≡ false → IsSessionReadyForCalls t fs) → refusal_by_checks (session_view_of_tree_and_files t fs) (ops.Close fd) ≡ None →
-    is_unsaved_writer (open_file_at fs fd) ≡ true → Some (file.Writing w) ≡ open_file_at fs fd → StoresBytesKeepingOtherFilesAtPath t w.path (unsaved_or_tree_bytes_of_writer t w.path w.unsaved) new → gs ≡ set fs fd None → IsSessionStepOrFailure now (ops.Close fd) (Ok ops.Done) (session_view_of_tree_and_files new gs)
+pub close_answers : (t new : TreeState) (fs gs : RuntimeFiles) (now : SessionView) (fd : ℕ) (w : Writer) → view_of_session t fs ≡ now → (t.failed ≡ false → IsReady t fs) → refusal_by_checks (view_of_session t fs) (ops.Close fd) ≡ None →
+    is_unsaved_one (open_file_at fs fd) ≡ true → Some (file.Writing w) ≡ open_file_at fs fd → StoresBytesAt t w.path (unsaved_or_tree t w.path w.unsaved) new → gs ≡ set fs fd None → StepsOrFails now (ops.Close fd) (Ok ops.Done) (view_of_session new gs)
 close_answers t new fs gs now fd w same ready e unsaved is stored left =
-    subst (λ z. IsSessionStep (system_state_of_session_view z) (ops.Close fd) ops.Done (system_state_of_session_view (session_view_of_tree_and_files new gs))) same
-    (subst (λ z. IsSessionStep (system_state_of_session_view (session_view_of_tree_and_files t fs)) (ops.Close fd) ops.Done (system_state_of_session_view (session_view_of_tree_and_files new z))) (sym left)
-    (close_step t new fs fd w (ready (not_failed (session_view_of_tree_and_files t fs) (ops.Close fd) e)) e is (unsaved_writer (open_file_at fs fd) w unsaved is) stored))
+    subst (λ z. IsStep (system_state z) (ops.Close fd) ops.Done (system_state (view_of_session new gs))) same
+    (subst (λ z. IsStep (system_state (view_of_session t fs)) (ops.Close fd) ops.Done (system_state (view_of_session new z))) (sym left)
+    (close_step t new fs fd w (ready (not_failed (view_of_session t fs) (ops.Close fd) e)) e is (unsaved_writer (open_file_at fs fd) w unsaved is) stored))
 
-pub close_ready : (t new : TreeState) (fs gs : RuntimeOpenFilesByNumber) (fd : ℕ) (w : Writer) (bytes : List ℕ) → (t.failed ≡ false → IsSessionReadyForCalls t fs) → refusal_by_checks (session_view_of_tree_and_files t fs) (ops.Close fd) ≡ None →
-    Some (file.Writing w) ≡ open_file_at fs fd → StoresBytesKeepingOtherFilesAtPath t w.path bytes new → gs ≡ set fs fd None → IsSessionReadyForCalls new gs
+pub close_ready : (t new : TreeState) (fs gs : RuntimeFiles) (fd : ℕ) (w : Writer) (bytes : List ℕ) → (t.failed ≡ false → IsReady t fs) → refusal_by_checks (view_of_session t fs) (ops.Close fd) ≡ None →
+    Some (file.Writing w) ≡ open_file_at fs fd → StoresBytesAt t w.path bytes new → gs ≡ set fs fd None → IsReady new gs
 close_ready t new fs gs fd w bytes ready e is stored left =
-    let was = ready (not_failed (session_view_of_tree_and_files t fs) (ops.Close fd) e) in
+    let was = ready (not_failed (view_of_session t fs) (ops.Close fd) e) in
     let o = only fs fd w (sym is) was.one in
     let are : writers_among gs ≡ [] = ap (λ xs. writers_among xs) left ∙ o.without in
     record {
       sound = stored.sound;
-      called = still_called t.history new.history stored.calls stored.called (ready (not_failed (session_view_of_tree_and_files t fs) (ops.Close fd) e)).called;
+      called = still_called t.history new.history stored.calls stored.called (ready (not_failed (view_of_session t fs) (ops.Close fd) e)).called;
       one = subst (λ ws. length ws ≤ 1) (sym are) (omega arith);
       idle = λ h. stored.none_in_flight;
-      written = subst (AllByRecursion (IsWriterOverWritableImage new)) (sym are) tt;
-      read = subst (AreReadersOfCurrentContentsWithoutWriter new.pairs) (sym left)
+      written = subst (AllByRecursion (IsWriterReady new)) (sym are) tt;
+      read = subst (AreCurrentReaders new.pairs) (sym left)
           (read_saved t.disk t.pairs new.pairs fs fd None w.path [] refl (ap (map (λ x. x.path)) o.writers) (ap (map (λ x. x.path)) o.without) stored.others (λ p off. refl) was.read);
-      known = subst (λ xs. AllByRecursion (HasKnownListBlocks new.disk) (readers_among xs)) (sym left) (known_closed new.disk fs fd
-          (known_stored t new w.path (readers_among fs) stored.others stored.lists (subst (λ written. AllByRecursion (IsReaderOfCurrentContentsWithoutWriter t.pairs written) (readers_among fs)) (ap (map (λ x. x.path)) o.writers) was.read) was.known));
+      known = subst (λ xs. AllByRecursion (HasKnownBlocks new.disk) (readers_among xs)) (sym left) (known_closed new.disk fs fd
+          (known_stored t new w.path (readers_among fs) stored.others stored.lists (subst (λ written. AllByRecursion (IsCurrentReader t.pairs written) (readers_among fs)) (ap (map (λ x. x.path)) o.writers) was.read) was.known));
     }
 
 -- ---- a call fails
 
-pub saving_fails : {B : Type 0} (t new : TreeState) (fs : RuntimeOpenFilesByNumber) (files : OpenFilesByNumber) (now : SessionView) (op : Operation) (reply : B → ops.Reply) (e : Error) (r : Result B Error) → session_view_of_tree_and_files t fs ≡ now → refusal_by_checks (session_view_of_tree_and_files t fs) op ≡ None →
-    is_remount_operation op ≡ false → is_read_only_operation (session_of_session_view (session_view_of_tree_and_files t fs)) op ≡ false → renames_to_itself op ≡ false → IsSoundTreeState t → t.writable ≡ true → IsFailedTree t new → IsIoWithFaultOrNoMemory t new e → r ≡ Err e → IsSessionStepOrFailure now op (reply_from_result reply r) (session_view_of_tree_and_files_view new files)
+pub saving_fails : {B : Type 0} (t new : TreeState) (fs : RuntimeFiles) (files : OpenFilesByNumber) (now : SessionView) (op : Operation) (reply : B → ops.Reply) (e : Error) (r : Result B Error) → view_of_session t fs ≡ now → refusal_by_checks (view_of_session t fs) op ≡ None →
+    is_remount op ≡ false → is_read_only (viewed_session (view_of_session t fs)) op ≡ false → renames_itself op ≡ false → IsSoundState t → t.writable ≡ true → IsFailedTree t new → HasErrorCause t new e → r ≡ Err e → StepsOrFails now op (reply_from reply r) (view_of_files new files)
 saving_fails t new fs files now op reply e r same accepted other asks itself sound writable broken error is =
-    subst (λ z. IsSessionStepOrFailure z op (reply_from_result reply r) (session_view_of_tree_and_files_view new files)) same
-    (subst (λ z. IsSessionStepOrFailure (session_view_of_tree_and_files t fs) op (reply_from_result reply z) (session_view_of_tree_and_files_view new files)) (sym is)
-    (error_answers (session_view_of_tree_and_files t fs) op e (session_view_of_tree_and_files_view new files) (ops.Refused (refusal_of_error e)) error.errors
-    (broken_fails e (session_view_of_tree_and_files t fs) op t new files (not_failed (session_view_of_tree_and_files t fs) op accepted) other asks itself sound writable (nothing_asked t) broken error)))
+    subst (λ z. StepsOrFails z op (reply_from reply r) (view_of_files new files)) same
+    (subst (λ z. StepsOrFails (view_of_session t fs) op (reply_from reply z) (view_of_files new files)) (sym is)
+    (error_answers (view_of_session t fs) op e (view_of_files new files) (ops.Refused (error_refusal e)) error.errors
+    (broken_fails e (view_of_session t fs) op t new files (not_failed (view_of_session t fs) op accepted) other asks itself sound writable (nothing_asked t) broken error)))
 
-pub close_asks : (t : TreeState) (fs : RuntimeOpenFilesByNumber) (fd : ℕ) (w : Writer) → Some (file.Writing w) ≡ open_file_at fs fd → is_read_only_operation (session_of_session_view (session_view_of_tree_and_files t fs)) (ops.Close fd) ≡ false
-close_asks t fs fd w is = ap (λ f. is_some (reader_of_open_file f)) (file_at t fs fd w is)
+pub close_asks : (t : TreeState) (fs : RuntimeFiles) (fd : ℕ) (w : Writer) → Some (file.Writing w) ≡ open_file_at fs fd → is_read_only (viewed_session (view_of_session t fs)) (ops.Close fd) ≡ false
+close_asks t fs fd w is = ap (λ f. is_some (file_reader f)) (file_at t fs fd w is)

@@ -1,31 +1,31 @@
 -- What steps of a session keep of the disk: its shape, and without a remount the order of its names.
 use Rattle.std.proofs.Common.{◌≡◌, Bool, true, false, cond, List, [], ◌∷◌, refl, sym, ap, subst, ◌∙◌}
-use Rattle.lfs_model.specs.Disk.{Disk, SameGeometry, disk_in_order}
-use Rattle.lfs_model.specs.Operations.{Operation, Reply}
-use Rattle.lfs_model.specs.Run.{AreSessionSteps, SystemState}
-use Rattle.lfs_model.specs.State.{is_remount_operation}
+use Rattle.lfs_model.specs.format.Disk.{Disk, SameGeometry, ordered_disk}
+use Rattle.lfs_model.specs.session.Operations.{Operation, Reply}
+use Rattle.lfs_model.specs.session.Run.{AreSteps, SystemState}
+use Rattle.lfs_model.specs.session.State.{is_remount}
 use Rattle.lfs_model.proofs.Counts.{Each}
 
-shape_by : (b : Bool) (disk new : Disk) → SameGeometry (cond b (disk_in_order new.order disk) disk) new → SameGeometry (disk_in_order new.order disk) new
+shape_by : (b : Bool) (disk new : Disk) → SameGeometry (cond b (ordered_disk new.order disk) disk) new → SameGeometry (ordered_disk new.order disk) new
 shape_by true disk new g = g
 shape_by false disk new g = record { block_size = g.block_size; page = g.page; order = refl; profile = g.profile; count = g.count }
 
-order_by : (b : Bool) (disk new : Disk) → SameGeometry (cond b (disk_in_order new.order disk) disk) new → b ≡ false → new.order ≡ disk.order
+order_by : (b : Bool) (disk new : Disk) → SameGeometry (cond b (ordered_disk new.order disk) disk) new → b ≡ false → new.order ≡ disk.order
 order_by true disk new g e = absurd (cc)
 order_by false disk new g e = g.order
 
-pub steps_keep_shape : (operations : List Operation) (replies : List Reply) (a b : SystemState) → AreSessionSteps a operations replies b → SameGeometry (disk_in_order b.disk.order a.disk) b.disk
-steps_keep_shape [] [] a b e = subst (λ (m : SystemState). SameGeometry (disk_in_order m.disk.order a.disk) m.disk) e (record { block_size = refl; page = refl; order = refl; profile = refl; count = refl })
+pub steps_keep_shape : (operations : List Operation) (replies : List Reply) (a b : SystemState) → AreSteps a operations replies b → SameGeometry (ordered_disk b.disk.order a.disk) b.disk
+steps_keep_shape [] [] a b e = subst (λ (m : SystemState). SameGeometry (ordered_disk m.disk.order a.disk) m.disk) e (record { block_size = refl; page = refl; order = refl; profile = refl; count = refl })
 steps_keep_shape [] (reply ∷ replies) a b e = absurd e
 steps_keep_shape (op ∷ operations) [] a b e = absurd e
 steps_keep_shape (op ∷ operations) (reply ∷ replies) a b (next, (turn, rest)) =
     let s = steps_keep_shape operations replies next b rest in
-    let t = shape_by (is_remount_operation op) a.disk next.disk turn.geometry in
+    let t = shape_by (is_remount op) a.disk next.disk turn.geometry in
     record { block_size = s.block_size ∙ t.block_size; page = s.page ∙ t.page; order = refl; profile = s.profile ∙ t.profile; count = s.count ∙ t.count }
 
-pub steps_keep_order : (operations : List Operation) (replies : List Reply) (a b : SystemState) → Each (λ op. is_remount_operation op ≡ false) operations → AreSessionSteps a operations replies b → b.disk.order ≡ a.disk.order
+pub steps_keep_order : (operations : List Operation) (replies : List Reply) (a b : SystemState) → Each (λ op. is_remount op ≡ false) operations → AreSteps a operations replies b → b.disk.order ≡ a.disk.order
 steps_keep_order [] [] a b none e = sym (ap (λ (m : SystemState). m.disk.order) e)
 steps_keep_order [] (reply ∷ replies) a b none e = absurd e
 steps_keep_order (op ∷ operations) [] a b none e = absurd e
 steps_keep_order (op ∷ operations) (reply ∷ replies) a b none (next, (turn, rest)) =
-    steps_keep_order operations replies next b none.1 rest ∙ order_by (is_remount_operation op) a.disk next.disk turn.geometry none.0
+    steps_keep_order operations replies next b none.1 rest ∙ order_by (is_remount op) a.disk next.disk turn.geometry none.0

@@ -2,39 +2,39 @@
 use Rattle.std.proofs.Common.{◌≡◌, inl, inr, Bool, true, false, List, [], ◌∷◌, ◌++◌, None, Result, Ok, Err, refl, sym, ap, subst, ◌∙◌, append_assoc}
 use Rattle.std.specs.Prelude.{◌⊎◌, OnOk, OnErr}
 use Rattle.lfs_device.specs.declared.error.Error.{Error}
-use Rattle.lfs_model.specs.Blocks.{Blocks}
-use Rattle.lfs_model.specs.Content.{content_of_pair_at}
-use Rattle.lfs_model.specs.Disk.{Disk, SameGeometry, block_count}
-use Rattle.lfs_model.specs.History.{DeviceCallEvent, IsTrueOfEachCall, IsTrueOfEachCallSince, AreCallsSinceOnlyReads}
-use Rattle.lfs_model.specs.Operations.{Operation}
-use Rattle.lfs_model.specs.PowerLoss.{HasTreeBeforeOrAfterOperation, SurvivesPowerLossInCallsSince, IsOperationSurvivingPowerLossInCalls, disk_with_blocks}
-use Rattle.lfs_model.specs.Run.{SystemState}
-use Rattle.lfs_model.specs.Session.{Session}
-use Rattle.lfs_model.specs.State.{HasFailed, Healthy, SessionHealth}
-use Rattle.lfs_model.specs.Effects.{refusal_or_effect_of_operation, effect_of_operation, result_after_refusal_check}
-use Rattle.lfs_model.specs.Tree.{Tree}
-use Rattle.lfs_model.specs.Profile.{IsWritableImage}
-use Rattle.lfs_model.specs.Shown.{tree_on_disk}
+use Rattle.lfs_model.specs.format.Blocks.{Blocks}
+use Rattle.lfs_model.specs.format.Content.{content_at}
+use Rattle.lfs_model.specs.format.Disk.{Disk, SameGeometry, block_count}
+use Rattle.lfs_model.specs.session.History.{CallEvent, AllCalls, AllCallsSince, OnlyReadsSince}
+use Rattle.lfs_model.specs.session.Operations.{Operation}
+use Rattle.lfs_model.specs.crash.PowerLoss.{HasEither, SurvivesLossSince, SurvivesInCalls, with_blocks}
+use Rattle.lfs_model.specs.session.Run.{SystemState}
+use Rattle.lfs_model.specs.session.Session.{Session}
+use Rattle.lfs_model.specs.session.State.{HasFailed, Healthy, SessionHealth}
+use Rattle.lfs_model.specs.session.Effects.{operation_result, operation_effect, unless_refused}
+use Rattle.lfs_model.specs.tree.Tree.{Tree}
+use Rattle.lfs_model.specs.tree.Profile.{IsWritable}
+use Rattle.lfs_model.specs.tree.Shown.{tree_on_disk}
 use Rattle.lfs_model.proofs.AfterStops.{survives_then, survives_weaker}
-use Rattle.lfs_model.proofs.Histories.{IsTrueAfterAnyPowerLossSince-read_count_of_history, IsTrueAfterAnyPowerLossSince-weaker, AreBlocksLeftByPowerLossInCall-read, began}
+use Rattle.lfs_model.proofs.Histories.{HoldsAtLosses-read_count, HoldsAtLosses-weaker, LeftByLoss-read, began}
 use Rattle.lfs_model.proofs.Uniqueness.{one_thread}
 use Rattle.lfs_model.proofs.Surviving.{same_surroundings}
-use Rattle.lfs_lookup.specs.Refusals.{is_refusal}
-use Rattle.lfs_tree.specs.TreeState.{WasTreeOnlyRead, IsFailedTree, IsOperationAppliedToTree, IsSoundTreeState, TreeState, SurvivesStopsInTreeCall, disk_summary_of_tree, tree_view}
-use Rattle.lfs_fs.specs.SessionView.{IsResultOfOperationChecks, EndsChecksWithError, SessionView, session_view_of_tree_and_files_view, system_state_of_session_view, refusal_by_checks, session_of_session_view}
+use Rattle.lfs_lookup.specs.RefusalErrors.{is_refusal}
+use Rattle.lfs_tree.specs.TreeState.{OnlyReadsTree, IsFailedTree, IsApplied, IsSoundState, TreeState, SurvivesStops, tree_summary, tree_view}
+use Rattle.lfs_fs.specs.SessionView.{IsChecksResult, EndsChecks, SessionView, view_of_files, system_state, refusal_by_checks, viewed_session}
 use Rattle.lfs_fs.proofs.Answered.{is_over, not_refused, sound_later}
 use Rattle.lfs_fs.proofs.Failing.{failed_system, healthy_system}
 
 -- ---- a session at work
 
-pub works_at : (h : SessionView) (s : Session) → (system_state_of_session_view h).state ≡ Healthy s → h.tree.failed ≡ false
+pub works_at : (h : SessionView) (s : Session) → (system_state h).state ≡ Healthy s → h.tree.failed ≡ false
 works_at h s e = go h.tree.failed refl
   where
     go : (b : Bool) → h.tree.failed ≡ b → h.tree.failed ≡ false
     go false f = f
     go true f = absurd (let k : HasFailed ≡ Healthy s = sym (ap (λ (m : SystemState). m.state) (failed_system h f)) ∙ e in cc)
 
-pub session_at : (h : SessionView) (s : Session) → (system_state_of_session_view h).state ≡ Healthy s → session_of_session_view h ≡ s
+pub session_at : (h : SessionView) (s : Session) → (system_state h).state ≡ Healthy s → viewed_session h ≡ s
 session_at h s e = ap or_else (sym (ap (λ (m : SystemState). m.state) (healthy_system h (works_at h s e))) ∙ e)
   where
     or_else : SessionHealth → Session
@@ -42,42 +42,42 @@ session_at h s e = ap or_else (sym (ap (λ (m : SystemState). m.state) (healthy_
     or_else (Healthy z) = z
 
 -- The disk and the calls at its end are what matters of the later moment.
-survives_at_work : (old : SessionView) (op : Operation) (new : TreeState) → (old.tree.failed ≡ false → IsSoundTreeState old.tree) →
-    (old.tree.failed ≡ false → old.tree.writable ≡ true → SurvivesPowerLossInCallsSince old.tree.disk old.tree.history new.history (tree_view old.tree) (refusal_or_effect_of_operation (disk_summary_of_tree old.tree) (session_of_session_view old) op).1.tree) →
-    IsOperationSurvivingPowerLossInCalls (system_state_of_session_view old) op (system_state_of_session_view (session_view_of_tree_and_files_view new []))
+survives_at_work : (old : SessionView) (op : Operation) (new : TreeState) → (old.tree.failed ≡ false → IsSoundState old.tree) →
+    (old.tree.failed ≡ false → old.tree.writable ≡ true → SurvivesLossSince old.tree.disk old.tree.history new.history (tree_view old.tree) (operation_result (tree_summary old.tree) (viewed_session old) op).1.tree) →
+    SurvivesInCalls (system_state old) op (system_state (view_of_files new []))
 survives_at_work old op new sound leaves s ps around work =
     let works = works_at old s work.healthy in
     let ok = sound works in
-    let same = one_thread (content_of_pair_at old.tree.disk) (block_count old.tree.disk) ps old.tree.pairs work.accepted.thread ok.accepted.thread in
-    let fits = ok.is_kept (subst (IsWritableImage old.tree.disk) same work.writable) in
-    subst (λ (z : Session). SurvivesPowerLossInCallsSince old.tree.disk old.tree.history new.history z.tree (refusal_or_effect_of_operation around z op).1.tree) (session_at old s work.healthy)
-    (subst (λ z. SurvivesPowerLossInCallsSince old.tree.disk old.tree.history new.history (tree_view old.tree) (refusal_or_effect_of_operation z (session_of_session_view old) op).1.tree)
-    (same_surroundings old.tree.disk old.tree.pairs ps (disk_summary_of_tree old.tree) around ok.accepted work.accepted (is_over old.tree old.files ok).surrounds work.surrounds) (leaves works fits))
+    let same = one_thread (content_at old.tree.disk) (block_count old.tree.disk) ps old.tree.pairs work.accepted.thread ok.accepted.thread in
+    let fits = ok.is_kept (subst (IsWritable old.tree.disk) same work.writable) in
+    subst (λ (z : Session). SurvivesLossSince old.tree.disk old.tree.history new.history z.tree (operation_result around z op).1.tree) (session_at old s work.healthy)
+    (subst (λ z. SurvivesLossSince old.tree.disk old.tree.history new.history (tree_view old.tree) (operation_result z (viewed_session old) op).1.tree)
+    (same_surroundings old.tree.disk old.tree.pairs ps (tree_summary old.tree) around ok.accepted work.accepted (is_over old.tree old.files ok).surrounds work.surrounds) (leaves works fits))
 
 -- ---- where the tree stayed so far
 
 -- a moment of a call: the tree is the one from its beginning, and a stop until then leaves it
 pub record KeepsTree (t m : TreeState) : Type 0 where
-  pub sound : IsSoundTreeState m
+  pub sound : IsSoundState m
   pub writable : m.writable ≡ true
   pub geometry : SameGeometry t.disk m.disk
   pub tree : tree_view m ≡ tree_view t
-  pub calls : List DeviceCallEvent
+  pub calls : List CallEvent
   pub called : m.history ≡ calls ++ t.history
-  pub survives : SurvivesStopsInTreeCall t m (tree_view t)
+  pub survives : SurvivesStops t m (tree_view t)
 
-some_since : (events old new : List DeviceCallEvent) → new ≡ events ++ old → IsTrueOfEachCallSince (λ e. Unit {0}) old new
+some_since : (events old new : List CallEvent) → new ≡ events ++ old → AllCallsSince (λ e. Unit {0}) old new
 some_since events old new e = record { events = events; extends = e; each = all_some events }
   where
-    all_some : (events : List DeviceCallEvent) → IsTrueOfEachCall (λ e. Unit {0}) events
+    all_some : (events : List CallEvent) → AllCalls (λ e. Unit {0}) events
     all_some [] = tt
     all_some (e ∷ older) = (tt, all_some older)
 
-pub same_blocks : (disk new : Disk) (blocks : Blocks) → SameGeometry disk new → disk_with_blocks blocks new ≡ disk_with_blocks blocks disk
+pub same_blocks : (disk new : Disk) (blocks : Blocks) → SameGeometry disk new → with_blocks blocks new ≡ with_blocks blocks disk
 same_blocks disk new blocks g = λ j. record { block_size = g.block_size j; page = g.page j; order = g.order j; profile = g.profile j; blocks = blocks }
 
 -- the tree from before is left, so it is also one of two
-left_still : (before after : Tree) (left : Disk) → HasTreeBeforeOrAfterOperation left before before → HasTreeBeforeOrAfterOperation left before after
+left_still : (before after : Tree) (left : Disk) → HasEither left before before → HasEither left before after
 left_still before after left h = record { pairs = h.pairs; accepted = h.accepted; writable = h.writable; tree = inl (one h.tree) }
   where
     one : (tree_on_disk left h.pairs ≡ before) ⊎ (tree_on_disk left h.pairs ≡ before) → tree_on_disk left h.pairs ≡ before
@@ -85,20 +85,20 @@ left_still before after left h = record { pairs = h.pairs; accepted = h.accepted
     one (inr e) = e
 
 -- then a call
-pub then_changes : (t m : TreeState) (calls history : List DeviceCallEvent) (after : Tree) → KeepsTree t m → history ≡ calls ++ m.history → SurvivesPowerLossInCallsSince m.disk m.history history (tree_view m) after →
-    SurvivesPowerLossInCallsSince t.disk t.history history (tree_view t) after
+pub then_changes : (t m : TreeState) (calls history : List CallEvent) (after : Tree) → KeepsTree t m → history ≡ calls ++ m.history → SurvivesLossSince m.disk m.history history (tree_view m) after →
+    SurvivesLossSince t.disk t.history history (tree_view t) after
 then_changes t m calls history after k called survives =
     survives_then t.disk t.history m.history history (tree_view t) after (some_since k.calls t.history m.history k.called) (some_since calls m.history history called)
     (survives_weaker t.disk t.history m.history (tree_view t) (tree_view t) (tree_view t) after (left_still (tree_view t) after) k.survives)
-    (λ clean. IsTrueAfterAnyPowerLossSince-weaker (λ blocks left. subst (λ d. HasTreeBeforeOrAfterOperation d (tree_view t) after) (same_blocks t.disk m.disk blocks k.geometry) (subst (λ z. HasTreeBeforeOrAfterOperation (disk_with_blocks blocks m.disk) z after) k.tree left)) (survives clean))
+    (λ clean. HoldsAtLosses-weaker (λ blocks left. subst (λ d. HasEither d (tree_view t) after) (same_blocks t.disk m.disk blocks k.geometry) (subst (λ z. HasEither (with_blocks blocks m.disk) z after) k.tree left)) (survives clean))
 
 -- then reads
-pub then_reads : (t m : TreeState) (history : List DeviceCallEvent) (after : Tree) → KeepsTree t m → AreCallsSinceOnlyReads m.disk.blocks m.history history → SurvivesPowerLossInCallsSince t.disk t.history history (tree_view t) after
+pub then_reads : (t m : TreeState) (history : List CallEvent) (after : Tree) → KeepsTree t m → OnlyReadsSince m.disk.blocks m.history history → SurvivesLossSince t.disk t.history history (tree_view t) after
 then_reads t m history after k reads =
     then_changes t m reads.events history after k reads.extends
-    (λ clean. IsTrueAfterAnyPowerLossSince-read_count_of_history AreBlocksLeftByPowerLossInCall-read reads (record { pairs = m.pairs; accepted = k.sound.accepted; writable = k.sound.fits k.writable; tree = inl refl }))
+    (λ clean. HoldsAtLosses-read_count LeftByLoss-read reads (record { pairs = m.pairs; accepted = k.sound.accepted; writable = k.sound.fits k.writable; tree = inl refl }))
 
-pub nothing_yet : (t : TreeState) → IsSoundTreeState t → t.writable ≡ true → KeepsTree t t
+pub nothing_yet : (t : TreeState) → IsSoundState t → t.writable ≡ true → KeepsTree t t
 nothing_yet t sound writable = record {
   sound = sound;
   writable = writable;
@@ -109,7 +109,7 @@ nothing_yet t sound writable = record {
   survives = λ clean. began;
 }
 
-pub still_asked : (t m new : TreeState) → KeepsTree t m → WasTreeOnlyRead m new → KeepsTree t new
+pub still_asked : (t m new : TreeState) → KeepsTree t m → OnlyReadsTree m new → KeepsTree t new
 still_asked t m new k asked = record {
   sound = sound_later m new k.sound asked;
   writable = ap (λ (z : TreeState). z.writable) asked.same ∙ k.writable;
@@ -120,72 +120,72 @@ still_asked t m new k asked = record {
   survives = then_reads t m new.history (tree_view t) k asked.reads;
 }
 
-pub kept_by_reads : (t m : TreeState) → IsSoundTreeState t → t.writable ≡ true → WasTreeOnlyRead t m → KeepsTree t m
+pub kept_by_reads : (t m : TreeState) → IsSoundState t → t.writable ≡ true → OnlyReadsTree t m → KeepsTree t m
 kept_by_reads t m sound writable asked = still_asked t t m (nothing_yet t sound writable) asked
 
 -- ---- how a session's call ends
 
 -- it only read
-pub only_read : (old now : SessionView) (op : Operation) (new : TreeState) → old ≡ now → (old.tree.failed ≡ false → IsSoundTreeState old.tree) → AreCallsSinceOnlyReads old.tree.disk.blocks old.tree.history new.history → IsOperationSurvivingPowerLossInCalls (system_state_of_session_view now) op (system_state_of_session_view (session_view_of_tree_and_files_view new []))
+pub only_read : (old now : SessionView) (op : Operation) (new : TreeState) → old ≡ now → (old.tree.failed ≡ false → IsSoundState old.tree) → OnlyReadsSince old.tree.disk.blocks old.tree.history new.history → SurvivesInCalls (system_state now) op (system_state (view_of_files new []))
 only_read old now op new same sound reads =
-    subst (λ z. IsOperationSurvivingPowerLossInCalls (system_state_of_session_view z) op (system_state_of_session_view (session_view_of_tree_and_files_view new []))) same
-    (survives_at_work old op new sound (λ works writable. then_reads old.tree old.tree new.history (refusal_or_effect_of_operation (disk_summary_of_tree old.tree) (session_of_session_view old) op).1.tree (nothing_yet old.tree (sound works) writable) reads))
+    subst (λ z. SurvivesInCalls (system_state z) op (system_state (view_of_files new []))) same
+    (survives_at_work old op new sound (λ works writable. then_reads old.tree old.tree new.history (operation_result (tree_summary old.tree) (viewed_session old) op).1.tree (nothing_yet old.tree (sound works) writable) reads))
 
 -- no call was made
-pub no_call : (old now : SessionView) (op : Operation) (new : TreeState) → old ≡ now → (old.tree.failed ≡ false → IsSoundTreeState old.tree) → new.history ≡ old.tree.history → IsOperationSurvivingPowerLossInCalls (system_state_of_session_view now) op (system_state_of_session_view (session_view_of_tree_and_files_view new []))
+pub no_call : (old now : SessionView) (op : Operation) (new : TreeState) → old ≡ now → (old.tree.failed ≡ false → IsSoundState old.tree) → new.history ≡ old.tree.history → SurvivesInCalls (system_state now) op (system_state (view_of_files new []))
 no_call old now op new same sound e = only_read old now op new same sound (record { events = []; extends = e; each = tt })
 
 -- the session is as it was
-pub kept_call : (old now : SessionView) (op : Operation) → old ≡ now → (old.tree.failed ≡ false → IsSoundTreeState old.tree) → IsOperationSurvivingPowerLossInCalls (system_state_of_session_view now) op (system_state_of_session_view now)
-kept_call old now op same sound = subst (λ z. IsOperationSurvivingPowerLossInCalls (system_state_of_session_view z) op (system_state_of_session_view z)) same (no_call old old op old.tree refl sound refl)
+pub kept_call : (old now : SessionView) (op : Operation) → old ≡ now → (old.tree.failed ≡ false → IsSoundState old.tree) → SurvivesInCalls (system_state now) op (system_state now)
+kept_call old now op same sound = subst (λ z. SurvivesInCalls (system_state z) op (system_state z)) same (no_call old old op old.tree refl sound refl)
 
 -- the session failed without a call, whatever it had
-pub failing_survives : (old new : SessionView) (op : Operation) → new ≡ record old { tree = record old.tree { failed = true } } → IsOperationSurvivingPowerLossInCalls (system_state_of_session_view old) op (system_state_of_session_view new)
+pub failing_survives : (old new : SessionView) (op : Operation) → new ≡ record old { tree = record old.tree { failed = true } } → SurvivesInCalls (system_state old) op (system_state new)
 failing_survives old new op is s ps around work clean = record { events = []; extends = ap (λ (h : SessionView). h.tree.history) is; each = tt }
 
 -- the tree was changed by a call of its own
-pub tree_changed : (old now : SessionView) (op : Operation) (new : TreeState) (after : Tree) → old ≡ now → (old.tree.failed ≡ false → IsSoundTreeState old.tree) → refusal_by_checks old op ≡ None → SurvivesStopsInTreeCall old.tree new after →
-    after ≡ (effect_of_operation (disk_summary_of_tree old.tree) (session_of_session_view old) op).1.tree → IsOperationSurvivingPowerLossInCalls (system_state_of_session_view now) op (system_state_of_session_view (session_view_of_tree_and_files_view new []))
+pub tree_changed : (old now : SessionView) (op : Operation) (new : TreeState) (after : Tree) → old ≡ now → (old.tree.failed ≡ false → IsSoundState old.tree) → refusal_by_checks old op ≡ None → SurvivesStops old.tree new after →
+    after ≡ (operation_effect (tree_summary old.tree) (viewed_session old) op).1.tree → SurvivesInCalls (system_state now) op (system_state (view_of_files new []))
 tree_changed old now op new after same sound e survives is =
-    subst (λ z. IsOperationSurvivingPowerLossInCalls (system_state_of_session_view z) op (system_state_of_session_view (session_view_of_tree_and_files_view new []))) same
+    subst (λ z. SurvivesInCalls (system_state z) op (system_state (view_of_files new []))) same
     (survives_at_work old op new sound (λ works writable.
-    subst (SurvivesStopsInTreeCall old.tree new) (is ∙ sym (ap (λ r. (result_after_refusal_check r (session_of_session_view old) (effect_of_operation (disk_summary_of_tree old.tree) (session_of_session_view old) op)).1.tree) (not_refused old op e))) survives))
+    subst (SurvivesStops old.tree new) (is ∙ sym (ap (λ r. (unless_refused r (viewed_session old) (operation_effect (tree_summary old.tree) (viewed_session old) op)).1.tree) (not_refused old op e))) survives))
 
 -- a call of the tree came last, behind what kept the tree
-pub one_changed : (old now : SessionView) (op : Operation) (mid : TreeState) (new : TreeState) (after : Tree) → old ≡ now → (old.tree.failed ≡ false → IsSoundTreeState old.tree) → refusal_by_checks old op ≡ None →
-    (old.tree.failed ≡ false → old.tree.writable ≡ true → KeepsTree old.tree mid) → (calls : List DeviceCallEvent) × (new.history ≡ calls ++ mid.history) → SurvivesStopsInTreeCall mid new after →
-    after ≡ (effect_of_operation (disk_summary_of_tree old.tree) (session_of_session_view old) op).1.tree → IsOperationSurvivingPowerLossInCalls (system_state_of_session_view now) op (system_state_of_session_view (session_view_of_tree_and_files_view new []))
+pub one_changed : (old now : SessionView) (op : Operation) (mid : TreeState) (new : TreeState) (after : Tree) → old ≡ now → (old.tree.failed ≡ false → IsSoundState old.tree) → refusal_by_checks old op ≡ None →
+    (old.tree.failed ≡ false → old.tree.writable ≡ true → KeepsTree old.tree mid) → (calls : List CallEvent) × (new.history ≡ calls ++ mid.history) → SurvivesStops mid new after →
+    after ≡ (operation_effect (tree_summary old.tree) (viewed_session old) op).1.tree → SurvivesInCalls (system_state now) op (system_state (view_of_files new []))
 one_changed old now op mid new after same sound e keeps called survives is =
-    subst (λ z. IsOperationSurvivingPowerLossInCalls (system_state_of_session_view z) op (system_state_of_session_view (session_view_of_tree_and_files_view new []))) same
+    subst (λ z. SurvivesInCalls (system_state z) op (system_state (view_of_files new []))) same
     (survives_at_work old op new sound (λ works writable.
-    subst (λ z. SurvivesPowerLossInCallsSince old.tree.disk old.tree.history new.history (tree_view old.tree) z) (is ∙ sym (ap (λ r. (result_after_refusal_check r (session_of_session_view old) (effect_of_operation (disk_summary_of_tree old.tree) (session_of_session_view old) op)).1.tree) (not_refused old op e)))
+    subst (λ z. SurvivesLossSince old.tree.disk old.tree.history new.history (tree_view old.tree) z) (is ∙ sym (ap (λ r. (unless_refused r (viewed_session old) (operation_effect (tree_summary old.tree) (viewed_session old) op)).1.tree) (not_refused old op e)))
     (then_changes old.tree mid called.0 new.history after (keeps works writable) called.1 survives)))
 
 -- the same behind reads
-pub asked_changed : (old now : SessionView) (op : Operation) (mid : TreeState) (new : TreeState) (after : Tree) → old ≡ now → (old.tree.failed ≡ false → IsSoundTreeState old.tree) → refusal_by_checks old op ≡ None →
-    WasTreeOnlyRead old.tree mid → (calls : List DeviceCallEvent) × (new.history ≡ calls ++ mid.history) → SurvivesStopsInTreeCall mid new after →
-    after ≡ (effect_of_operation (disk_summary_of_tree old.tree) (session_of_session_view old) op).1.tree → IsOperationSurvivingPowerLossInCalls (system_state_of_session_view now) op (system_state_of_session_view (session_view_of_tree_and_files_view new []))
+pub asked_changed : (old now : SessionView) (op : Operation) (mid : TreeState) (new : TreeState) (after : Tree) → old ≡ now → (old.tree.failed ≡ false → IsSoundState old.tree) → refusal_by_checks old op ≡ None →
+    OnlyReadsTree old.tree mid → (calls : List CallEvent) × (new.history ≡ calls ++ mid.history) → SurvivesStops mid new after →
+    after ≡ (operation_effect (tree_summary old.tree) (viewed_session old) op).1.tree → SurvivesInCalls (system_state now) op (system_state (view_of_files new []))
 asked_changed old now op mid new after same sound e asked called survives is =
     one_changed old now op mid new after same sound e (λ works writable. kept_by_reads old.tree mid (sound works) writable asked) called survives is
 
 -- the calls of an operation, whether or not it failed
-pub called_by : {A K : Type 0} (op : Operation) (mid new : TreeState) (r : Result A Error) → OnOk r K → (K → IsOperationAppliedToTree mid op new) → OnErr r (IsFailedTree mid new) → (calls : List DeviceCallEvent) × (new.history ≡ calls ++ mid.history)
+pub called_by : {A K : Type 0} (op : Operation) (mid new : TreeState) (r : Result A Error) → OnOk r K → (K → IsApplied mid op new) → OnErr r (IsFailedTree mid new) → (calls : List CallEvent) × (new.history ≡ calls ++ mid.history)
 called_by op mid new (Ok x) k carried broken = ((carried k).calls, (carried k).called)
 called_by op mid new (Err e) k carried broken = (broken.calls, broken.called)
 
 -- ---- what the checks did
 
-pub reads_of_ended : (h : SessionView) (op : Operation) (e : Error) (tree : TreeState) → EndsChecksWithError (is_refusal e) h op e tree → AreCallsSinceOnlyReads h.tree.disk.blocks h.tree.history tree.history
+pub reads_of_ended : (h : SessionView) (op : Operation) (e : Error) (tree : TreeState) → EndsChecks (is_refusal e) h op e tree → OnlyReadsSince h.tree.disk.blocks h.tree.history tree.history
 reads_of_ended h op e tree k = go (is_refusal e) k
   where
-    go : (b : Bool) → EndsChecksWithError b h op e tree → AreCallsSinceOnlyReads h.tree.disk.blocks h.tree.history tree.history
+    go : (b : Bool) → EndsChecks b h op e tree → OnlyReadsSince h.tree.disk.blocks h.tree.history tree.history
     go true k = k.0.reads
     go false k = k.0.reads
 
-pub reads_of_checks : {A : Type 0} (h : SessionView) (op : Operation) (P : A → Type 0) (r : Result A Error) (tree : TreeState) → IsResultOfOperationChecks h op P r tree → AreCallsSinceOnlyReads h.tree.disk.blocks h.tree.history tree.history
+pub reads_of_checks : {A : Type 0} (h : SessionView) (op : Operation) (P : A → Type 0) (r : Result A Error) (tree : TreeState) → IsChecksResult h op P r tree → OnlyReadsSince h.tree.disk.blocks h.tree.history tree.history
 reads_of_checks h op P (Ok x) tree k = k.0.reads
 reads_of_checks h op P (Err e) tree k = reads_of_ended h op e tree k
 
 -- the session failed behind reads
-pub reads_failing : (t mid new : TreeState) → new ≡ record mid { failed = true } → AreCallsSinceOnlyReads t.disk.blocks t.history mid.history → AreCallsSinceOnlyReads t.disk.blocks t.history new.history
-reads_failing t mid new is reads = subst (λ (z : TreeState). AreCallsSinceOnlyReads t.disk.blocks t.history z.history) (sym is) reads
+pub reads_failing : (t mid new : TreeState) → new ≡ record mid { failed = true } → OnlyReadsSince t.disk.blocks t.history mid.history → OnlyReadsSince t.disk.blocks t.history new.history
+reads_failing t mid new is reads = subst (λ (z : TreeState). OnlyReadsSince t.disk.blocks t.history z.history) (sym is) reads

@@ -1,18 +1,18 @@
 -- A writer keeps its path.
 use Rattle.std.proofs.Common.{ℕ, ◌≡◌, Bool, true, false, cond, List, [], ◌∷◌, refl}
-use Rattle.lfs_model.specs.Session.{FileWriter}
-use Rattle.lfs_model.specs.Writers.{writer_after_sync, writer_after_truncate, writer_after_write}
+use Rattle.lfs_model.specs.session.Session.{FileWriter}
+use Rattle.lfs_model.specs.session.Writers.{synced_writer, truncated_writer, written_writer}
 
 either_path : (b : Bool) (w v u : FileWriter) → w.path ≡ u.path → v.path ≡ u.path → (cond b w v).path ≡ u.path
 either_path true w v u e f = e
 either_path false w v u e f = f
 
-pub write_path : (w : FileWriter) (bytes : List ℕ) → (writer_after_write w bytes).path ≡ w.path
+pub write_path : (w : FileWriter) (bytes : List ℕ) → (written_writer w bytes).path ≡ w.path
 write_path w [] = refl
 write_path w (b ∷ bytes) = refl
 
-pub truncate_path : (w : FileWriter) (size : ℕ) → (writer_after_truncate w size).path ≡ w.path
+pub truncate_path : (w : FileWriter) (size : ℕ) → (truncated_writer w size).path ≡ w.path
 truncate_path w size = either_path _ _ _ w refl refl
 
-pub sync_path : (w : FileWriter) → (writer_after_sync w).path ≡ w.path
+pub sync_path : (w : FileWriter) → (synced_writer w).path ≡ w.path
 sync_path w = either_path _ _ _ w refl refl

@@ -1,17 +1,17 @@
 -- Where slots stand once a file is opened for writing that is there.
 use Rattle.std.proofs.Common.{ℕ, ◌≡◌, List, Some}
-use Rattle.lfs_model.specs.Disk.{Disk}
-use Rattle.lfs_model.specs.Layout.{IsSlotLayoutAfterRecoveryAndOperation}
-use Rattle.lfs_model.specs.Operations as ops
-use Rattle.lfs_model.specs.Operations.{FlagsOfOpen}
-use Rattle.lfs_model.specs.Session.{Session}
-use Rattle.lfs_model.specs.Refusals.{path_of_bytes_or_root}
-use Rattle.lfs_model.specs.Thread.{Pair}
-use Rattle.lfs_model.specs.Tree.{Node}
+use Rattle.lfs_model.specs.format.Disk.{Disk}
+use Rattle.lfs_model.specs.session.Layout.{IsLayoutRecovered}
+use Rattle.lfs_model.specs.session.Operations as ops
+use Rattle.lfs_model.specs.session.Operations.{FlagsOfOpen}
+use Rattle.lfs_model.specs.session.Session.{Session}
+use Rattle.lfs_model.specs.session.Refusals.{path_or_root}
+use Rattle.lfs_model.specs.format.Thread.{Pair}
+use Rattle.lfs_model.specs.tree.Tree.{Node}
 
 -- they stand where a recovery leaves them
-pub there_arranged : (disk new : Disk) (ps qs : List Pair) (s : Session) (bytes : List ℕ) (flags : FlagsOfOpen) (n : Node) → s.tree (path_of_bytes_or_root bytes) ≡ Some n → IsSlotLayoutAfterRecoveryAndOperation disk ps s ops.Recover new qs →
-    IsSlotLayoutAfterRecoveryAndOperation disk ps s (ops.Open bytes flags) new qs
+pub there_arranged : (disk new : Disk) (ps qs : List Pair) (s : Session) (bytes : List ℕ) (flags : FlagsOfOpen) (n : Node) → s.tree (path_or_root bytes) ≡ Some n → IsLayoutRecovered disk ps s ops.Recover new qs →
+    IsLayoutRecovered disk ps s (ops.Open bytes flags) new qs
 there_arranged disk new ps qs s bytes flags n there a = record {
   middle = a.middle;
   between = a.between;

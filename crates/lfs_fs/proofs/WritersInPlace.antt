@@ -2,8 +2,8 @@
 use Rattle.std.proofs.Common.{ℕ, zero, suc, ◌≡◌, ◌≤◌, List, [], ◌∷◌, length, Option, Some, sym, ap, subst, ◌∙◌, arith, slice_index_or}
 use Rattle.std.specs.Prelude.{slice_set}
 use Rattle.std.proofs.lemmas.Option.{same_Some}
-use Rattle.lfs_fs.specs.FileView.{RuntimeOpenFilesByNumber, unsaved_or_tree_bytes_of_writer, open_file_at, writer_of_open_file_or_none}
-use Rattle.lfs_fs.specs.WriterChanges.{CanChangeWriter, HasFileUnderUnsavedContents, ChangesOnlyWriterAtNumber, IsStorageFormOfOptionalUnsavedContents}
+use Rattle.lfs_fs.specs.FileView.{RuntimeFiles, unsaved_or_tree, open_file_at, open_writer}
+use Rattle.lfs_fs.specs.WriterChanges.{CanChangeWriter, HasFileUnder, ChangesOnlyWriter, IsUnsavedForm}
 use Rattle.lfs_fs.specs.declared.files.OpenFile.{OpenFile}
 use Rattle.lfs_fs.specs.declared.files.OpenFile.TheVariants as file
 use Rattle.lfs_fs.specs.declared.files.UnsavedContents.{UnsavedContents}
@@ -11,29 +11,29 @@ use Rattle.lfs_fs.specs.declared.files.Writer.{Writer}
 use Rattle.lfs_fs.proofs.OpenFiles.{one_of}
 use Rattle.lfs_fs.proofs.Writing.{changed_in}
 use Rattle.lfs_tree.specs.TreeState.{TreeState}
-use Rattle.lfs_file.specs.Contents.{storage_form_of_contents}
+use Rattle.lfs_file.specs.Contents.{contents_form}
 use Rattle.lfs_file.specs.declared.contents.WriterContents.{WriterContents}
 
-entry_at : (fs : RuntimeOpenFilesByNumber) (fd : ℕ) (x : OpenFile) (other : Option OpenFile) → open_file_at fs fd ≡ Some x → slice_index_or fs fd other ≡ Some x
+entry_at : (fs : RuntimeFiles) (fd : ℕ) (x : OpenFile) (other : Option OpenFile) → open_file_at fs fd ≡ Some x → slice_index_or fs fd other ≡ Some x
 entry_at [] fd x other e = absurd (cc)
 entry_at (f ∷ fs) zero x other e = e
 entry_at (f ∷ fs) (suc fd) x other e = entry_at fs fd x other e
 
 -- the entry of that number is the writer's
-pub same_writer : (fs : RuntimeOpenFilesByNumber) (fd : ℕ) (v w : Writer) (entry : Option OpenFile) (x : OpenFile) → entry ≡ slice_index_or fs fd entry → entry ≡ Some x → x ≡ file.Writing v → open_file_at fs fd ≡ Some (file.Writing w) → v ≡ w
+pub same_writer : (fs : RuntimeFiles) (fd : ℕ) (v w : Writer) (entry : Option OpenFile) (x : OpenFile) → entry ≡ slice_index_or fs fd entry → entry ≡ Some x → x ≡ file.Writing v → open_file_at fs fd ≡ Some (file.Writing w) → v ≡ w
 same_writer fs fd v w entry x at is written e =
-    same_Some v w (ap writer_of_open_file_or_none (sym (ap Some written) ∙ sym is ∙ at ∙ entry_at fs fd (file.Writing w) entry e))
+    same_Some v w (ap open_writer (sym (ap Some written) ∙ sym is ∙ at ∙ entry_at fs fd (file.Writing w) entry e))
 
-pub same_files_before : {P : Writer → Type 0} (fs gs : RuntimeOpenFilesByNumber) (fd : ℕ) (later : RuntimeOpenFilesByNumber) → fs ≡ gs → ChangesOnlyWriterAtNumber fs fd P later → ChangesOnlyWriterAtNumber gs fd P later
+pub same_files_before : {P : Writer → Type 0} (fs gs : RuntimeFiles) (fd : ℕ) (later : RuntimeFiles) → fs ≡ gs → ChangesOnlyWriter fs fd P later → ChangesOnlyWriter gs fd P later
 same_files_before fs gs fd later e h = record { writer = h.writer; only = h.only ∙ ap (λ xs. slice_set xs fd (Some (file.Writing h.writer))) e; holds = h.holds }
 
 -- one writer takes the place of another
-pub as_many : (fs : RuntimeOpenFilesByNumber) (fd : ℕ) (v w : Writer) → open_file_at fs fd ≡ Some (file.Writing w) → one_of (writer_of_open_file_or_none (Some (file.Writing v))) ≤ one_of (writer_of_open_file_or_none (open_file_at fs fd))
-as_many fs fd v w e = subst (λ o. one_of (writer_of_open_file_or_none (Some (file.Writing v))) ≤ one_of (writer_of_open_file_or_none o)) (sym e) (omega arith)
+pub as_many : (fs : RuntimeFiles) (fd : ℕ) (v w : Writer) → open_file_at fs fd ≡ Some (file.Writing w) → one_of (open_writer (Some (file.Writing v))) ≤ one_of (open_writer (open_file_at fs fd))
+as_many fs fd v w e = subst (λ o. one_of (open_writer (Some (file.Writing v))) ≤ one_of (open_writer o)) (sym e) (omega arith)
 
 -- the contents of a writer whose changes were taken out
-pub has_contents : (t : TreeState) (w : Writer) (unsaved : Option UnsavedContents) → CanChangeWriter t w → unsaved ≡ w.unsaved → HasFileUnderUnsavedContents t w.path unsaved
-has_contents t w unsaved can is = subst (λ u. HasFileUnderUnsavedContents t w.path u) (sym is) (record {
+pub has_contents : (t : TreeState) (w : Writer) (unsaved : Option UnsavedContents) → CanChangeWriter t w → unsaved ≡ w.unsaved → HasFileUnder t w.path unsaved
+has_contents t w unsaved can is = subst (λ u. HasFileUnder t w.path u) (sym is) (record {
   works = can.works;
   writable = can.written.writable;
   file = can.written.there;
@@ -41,12 +41,12 @@ has_contents t w unsaved can is = subst (λ u. HasFileUnderUnsavedContents t w.p
   over = λ u e. (changed_in t w u can.written.changed e).over;
 })
 
-pub has_size : (t : TreeState) (w : Writer) (unsaved : Option UnsavedContents) → CanChangeWriter t w → unsaved ≡ w.unsaved → length (unsaved_or_tree_bytes_of_writer t w.path unsaved) ≡ w.size
-has_size t w unsaved can is = ap (λ u. length (unsaved_or_tree_bytes_of_writer t w.path u)) is ∙ can.written.size
+pub has_size : (t : TreeState) (w : Writer) (unsaved : Option UnsavedContents) → CanChangeWriter t w → unsaved ≡ w.unsaved → length (unsaved_or_tree t w.path unsaved) ≡ w.size
+has_size t w unsaved can is = ap (λ u. length (unsaved_or_tree t w.path u)) is ∙ can.written.size
 
-pub same_form : (t : TreeState) (w : Writer) (unsaved : Option UnsavedContents) (c : WriterContents) → unsaved ≡ w.unsaved → IsStorageFormOfOptionalUnsavedContents t.disk.profile t.disk.block_size unsaved (length (unsaved_or_tree_bytes_of_writer t w.path unsaved)) (storage_form_of_contents c) →
-    IsStorageFormOfOptionalUnsavedContents t.disk.profile t.disk.block_size w.unsaved (length (unsaved_or_tree_bytes_of_writer t w.path w.unsaved)) (storage_form_of_contents c)
-same_form t w unsaved c is h = subst (λ u. IsStorageFormOfOptionalUnsavedContents t.disk.profile t.disk.block_size u (length (unsaved_or_tree_bytes_of_writer t w.path u)) (storage_form_of_contents c)) is h
+pub same_form : (t : TreeState) (w : Writer) (unsaved : Option UnsavedContents) (c : WriterContents) → unsaved ≡ w.unsaved → IsUnsavedForm t.disk.profile t.disk.block_size unsaved (length (unsaved_or_tree t w.path unsaved)) (contents_form c) →
+    IsUnsavedForm t.disk.profile t.disk.block_size w.unsaved (length (unsaved_or_tree t w.path w.unsaved)) (contents_form c)
+same_form t w unsaved c is h = subst (λ u. IsUnsavedForm t.disk.profile t.disk.block_size u (length (unsaved_or_tree t w.path u)) (contents_form c)) is h
 
-pub same_bytes : (t : TreeState) (w : Writer) (unsaved : Option UnsavedContents) (bytes : List ℕ) → unsaved ≡ w.unsaved → bytes ≡ unsaved_or_tree_bytes_of_writer t w.path unsaved → bytes ≡ unsaved_or_tree_bytes_of_writer t w.path w.unsaved
-same_bytes t w unsaved bytes is e = subst (λ u. bytes ≡ unsaved_or_tree_bytes_of_writer t w.path u) is e
+pub same_bytes : (t : TreeState) (w : Writer) (unsaved : Option UnsavedContents) (bytes : List ℕ) → unsaved ≡ w.unsaved → bytes ≡ unsaved_or_tree t w.path unsaved → bytes ≡ unsaved_or_tree t w.path w.unsaved
+same_bytes t w unsaved bytes is e = subst (λ u. bytes ≡ unsaved_or_tree t w.path u) is e

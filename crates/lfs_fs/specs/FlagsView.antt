@@ -1,7 +1,7 @@
 -- What contracts see of the flags of an open.
 use Rattle.std.specs.Prelude.{◌==◌, not}
 use Rattle.std.specs.Int.RustNames.{bit_and}
-use Rattle.lfs_model.specs.Operations.{FlagsOfOpen}
+use Rattle.lfs_model.specs.session.Operations.{FlagsOfOpen}
 use Rattle.lfs_fs.specs.declared.flags.OpenFlags.{OpenFlags}
 
 abbrev pub flags_view : OpenFlags → FlagsOfOpen

@@ -1,11 +1,11 @@
 -- What contracts see of operations and replies.
 use Rattle.std.specs.Prelude.{◌≡◌, true, map, Result, Ok, Err}
 use Rattle.lfs_device.specs.declared.error.Error.{Error}
-use Rattle.lfs_model.specs.Operations as ops
-use Rattle.lfs_model.specs.Operations.{Operation}
-use Rattle.lfs_lookup.specs.Refusals.{is_refusal, refusal_of_error}
-use Rattle.lfs_lookup.specs.Finds.{list_item_view, stat_view}
-use Rattle.lfs_fs.specs.GstateView.{reply_of_returned_gstate}
+use Rattle.lfs_model.specs.session.Operations as ops
+use Rattle.lfs_model.specs.session.Operations.{Operation}
+use Rattle.lfs_lookup.specs.RefusalErrors.{is_refusal, error_refusal}
+use Rattle.lfs_lookup.specs.Finds.{listed_item_view, stat_view}
+use Rattle.lfs_fs.specs.GstateView.{returned_gstate_reply}
 use Rattle.lfs_fs.specs.FlagsView.{flags_view}
 use Rattle.lfs_fs.specs.declared.run.Op.{Op}
 use Rattle.lfs_fs.specs.declared.run.Op.TheVariants as op
@@ -39,18 +39,18 @@ reply_view reply.Done = ops.Done
 reply_view (reply.Fd fd) = ops.Opened fd
 reply_view (reply.Bytes bytes) = ops.Bytes bytes.items
 reply_view (reply.Count count) = ops.Count count
-reply_view (reply.Items items) = ops.Items (map list_item_view items.items)
+reply_view (reply.Items items) = ops.Items (map listed_item_view items.items)
 reply_view (reply.Stat stat) = ops.StatIs (stat_view stat)
-reply_view (reply.Gstate gstate) = reply_of_returned_gstate gstate
+reply_view (reply.Gstate gstate) = returned_gstate_reply gstate
 reply_view (reply.Yes is) = ops.Yes is
-reply_view (reply.Refused error) = ops.Refused (refusal_of_error error)
+reply_view (reply.Refused error) = ops.Refused (error_refusal error)
 
 -- a reply that refuses names an error that is a refusal
-abbrev pub RefusesOnlyWithRefusalError : Reply → Type 0
-RefusesOnlyWithRefusalError (reply.Refused error) = is_refusal error ≡ true
-RefusesOnlyWithRefusalError _ = Unit {0}
+abbrev pub RefusesOnly : Reply → Type 0
+RefusesOnly (reply.Refused error) = is_refusal error ≡ true
+RefusesOnly _ = Unit {0}
 
 -- the reply, or the error in its place
-abbrev pub reply_result_view : Result Reply Error → Result ops.Reply Error
-reply_result_view (Ok r) = Ok (reply_view r)
-reply_result_view (Err e) = Err e
+abbrev pub result_view : Result Reply Error → Result ops.Reply Error
+result_view (Ok r) = Ok (reply_view r)
+result_view (Err e) = Err e

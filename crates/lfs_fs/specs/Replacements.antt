@@ -4,11 +4,11 @@ use Rattle.std.specs.Option.{option_map_or}
 use Rattle.std.specs.declared.alloc.Global.{Global}
 
 -- how many bytes of its pair an attribute takes
-abbrev pub replaced_attribute_size : Option (Vec ℕ Global) → ℕ
-replaced_attribute_size replaced = option_map_or (λ v. 4 + length v.items) replaced 0
+abbrev pub replaced_size : Option (Vec ℕ Global) → ℕ
+replaced_size replaced = option_map_or (λ v. 4 + length v.items) replaced 0
 
 -- the attribute is one of those that take so many bytes
-pub record AttributesSizeIncludesReplacedAttribute (size : ℕ) (replaced : Option (Vec ℕ Global)) (len : ℕ) : Type 0 where
+pub record IncludesReplaced (size : ℕ) (replaced : Option (Vec ℕ Global)) (len : ℕ) : Type 0 where
   pub small : size < 2 ^ 32
   pub short : len < 2 ^ 63
-  pub among : replaced_attribute_size replaced ≤ size + (4 + len)
+  pub among : replaced_size replaced ≤ size + (4 + len)

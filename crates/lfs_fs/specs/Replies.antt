@@ -1,16 +1,16 @@
 -- From the results of calls to replies.
 use Rattle.std.specs.Prelude.{if◌then◌else◌, Option, Some, None, Result, Ok, Err}
 use Rattle.lfs_device.specs.declared.error.Error.{Error}
-use Rattle.lfs_model.specs.Operations as ops
-use Rattle.lfs_model.specs.Operations.{Refusal, Reply}
-use Rattle.lfs_lookup.specs.Refusals.{error_of_refusal, is_refusal, refusal_of_error}
+use Rattle.lfs_model.specs.session.Operations as ops
+use Rattle.lfs_model.specs.session.Operations.{Refusal, Reply}
+use Rattle.lfs_lookup.specs.RefusalErrors.{refusal_error, is_refusal, error_refusal}
 
 -- the reply to a call with that result, or the error that takes its place
-abbrev pub reply_from_result : {A : Type 0} → (A → Reply) → Result A Error → Result Reply Error
-reply_from_result reply (Ok x) = Ok (reply x)
-reply_from_result reply (Err e) = if is_refusal e then Ok (ops.Refused (refusal_of_error e)) else Err e
+abbrev pub reply_from : {A : Type 0} → (A → Reply) → Result A Error → Result Reply Error
+reply_from reply (Ok x) = Ok (reply x)
+reply_from reply (Err e) = if is_refusal e then Ok (ops.Refused (error_refusal e)) else Err e
 
 -- the refusal, or else the value
-abbrev pub value_unless_refused : {A : Type 0} → Option Refusal → A → Result A Error
-value_unless_refused (Some refusal) x = Err (error_of_refusal refusal)
-value_unless_refused None x = Ok x
+abbrev pub value_unless : {A : Type 0} → Option Refusal → A → Result A Error
+value_unless (Some refusal) x = Err (refusal_error refusal)
+value_unless None x = Ok x

@@ -1,15 +1,15 @@
 // Checks in order: the first that fails decides.
 
 ghost use Rattle.std.specs.Prelude.{◌≡◌, ◌&&◌};
-ghost use Rattle.lfs_model.specs.Session.{first_refusal_in_list};
-ghost use Rattle.lfs_fs.specs.Replies.{value_unless_refused};
+ghost use Rattle.lfs_model.specs.session.Session.{first_refusal};
+ghost use Rattle.lfs_fs.specs.Replies.{value_unless};
 
 use lfs_device::Error;
 use lfs_lookup::Refusal;
 
 // Returns the refusal of the first check that fails.
 pub(crate) fn find_first_refusal(checks: &[Option<Refusal>]) -> Option<Refusal>
-    ensures { result ≡ first_refusal_in_list checks.now }
+    ensures { result ≡ first_refusal checks.now }
 {
     for check in checks {
         if check.is_some() {
@@ -20,11 +20,11 @@ pub(crate) fn find_first_refusal(checks: &[Option<Refusal>]) -> Option<Refusal>
 }
 
 // Returns the value, unless a check fails.
-pub(crate) fn value_unless_checks_refuse<T: Drop>(
+pub(crate) fn value_or_refusal<T: Drop>(
     checks: &[Option<Refusal>],
     value: T,
 ) -> Result<T, Error>
-    ensures { result ≡ value_unless_refused (first_refusal_in_list checks.now) value }
+    ensures { result ≡ value_unless (first_refusal checks.now) value }
 {
     match find_first_refusal(checks) {
         Some(refusal) => Err(refusal.error()),

@@ -1,25 +1,25 @@
 // The checks of each operation, in order.
 
 ghost use Rattle.std.specs.Prelude.{if◌then◌else◌, nat_lt, ◌+◌, ◌≡◌, ◌<◌, ◌^◌, ℕ, List, [], length, map, true, false, is_some, unwrap_or};
-ghost use Rattle.lfs_model.specs.Operations as ops;
-ghost use Rattle.lfs_model.specs.Session.{is_entry_over_charge_limit};
-ghost use Rattle.lfs_model.specs.Disk.{block_count, attr_max_of, file_max_of, name_max_of};
-ghost use Rattle.lfs_fs.specs.FileView.{open_file_at, open_files_view, blocks_reserved_by_writers, blocks_reserved_for_size, writer_of_open_file_or_none};
-ghost use Rattle.lfs_model.specs.Refusals.{path_of_bytes_or_root};
-ghost use Rattle.lfs_model.specs.Effects.{directory_items_at_path, file_size_of_node};
+ghost use Rattle.lfs_model.specs.session.Operations as ops;
+ghost use Rattle.lfs_model.specs.session.Session.{is_over_charge};
+ghost use Rattle.lfs_model.specs.format.Disk.{block_count, attr_max_of, file_max_of, name_max_of};
+ghost use Rattle.lfs_fs.specs.FileView.{open_file_at, files_view, reserved_by_writers, reserved_for, open_writer};
+ghost use Rattle.lfs_model.specs.session.Refusals.{path_or_root};
+ghost use Rattle.lfs_model.specs.session.Effects.{items_at, node_file_size};
 ghost use Rattle.lfs_fs.specs.FlagsView.{flags_view};
-ghost use Rattle.lfs_model.specs.TreeEdits.{attributes_of_node};
-ghost use Rattle.lfs_model.specs.Content.{attribute_bytes_of_type};
-ghost use Rattle.lfs_fs.specs.EntryPaths.{path_of_bytes_unless_root};
-ghost use Rattle.lfs_fs.specs.SessionView.{IsResultOfOperationChecks, IsResultOfChecksWithoutReads, IsWritableFileAtPathInTree, IsReadablePathWithContents, IsSessionReadyForCalls, session_view_of_tree_and_files};
-ghost use Rattle.lfs_fs.specs.LookUps.{ReadsAtMostSearchedPairs, AddsNoReadsWhereSearchedDirectoriesCached, CachesSmallSearchedDirectories};
-ghost use Rattle.lfs_lookup.specs.Finds.{list_item_view, stat_view};
-ghost use Rattle.lfs_tree.specs.TreeState.{disk_summary_of_tree, tree_view};
-ghost use Rattle.lfs_model.specs.Slots.{Attributes, attributes_size};
-ghost use Rattle.lfs_fs.specs.Replacements.{AttributesSizeIncludesReplacedAttribute, replaced_attribute_size};
+ghost use Rattle.lfs_model.specs.session.TreeEdits.{node_attributes_of};
+ghost use Rattle.lfs_model.specs.format.Content.{attribute_bytes};
+ghost use Rattle.lfs_fs.specs.EntryPaths.{entry_path};
+ghost use Rattle.lfs_fs.specs.SessionView.{IsChecksResult, IsUnreadResult, IsWritableFile, IsReadableWith, IsReady, view_of_session};
+ghost use Rattle.lfs_fs.specs.LookUps.{ReadsSearched, AddsNoReads, CachesSearched};
+ghost use Rattle.lfs_lookup.specs.Finds.{listed_item_view, stat_view};
+ghost use Rattle.lfs_tree.specs.TreeState.{tree_summary, tree_view};
+ghost use Rattle.lfs_model.specs.format.Slots.{Attributes, attributes_size};
+ghost use Rattle.lfs_fs.specs.Replacements.{IncludesReplaced, replaced_size};
 
-use crate::check_order::{are_both_true, value_unless_checks_refuse};
-use crate::files::{Files, reserved_block_count_for_size};
+use crate::check_order::{are_both_true, value_or_refusal};
+use crate::files::{Files, reserved_for_bytes};
 use crate::flags::OpenFlags;
 use bitflags::Flags;
 use lfs_device::{BlockDevice, Error};
@@ -28,22 +28,22 @@ use lfs_tree::Tree;
 use std::alloc::Global;
 
 // Returns whether a new entry with a name of that length takes too much of its pair.
-fn is_new_entry_too_large<D: BlockDevice>(tree: &Tree<D>, name_len: usize) -> bool
+fn new_entry_overflows<D: BlockDevice>(tree: &Tree<D>, name_len: usize) -> bool
     requires { name_len < 2 ^ 63 }
-    ensures { (name : List ℕ) → length name ≡ name_len → result ≡ is_entry_over_charge_limit (disk_summary_of_tree tree.now) name [] }
+    ensures { (name : List ℕ) → length name ≡ name_len → result ≡ is_over_charge (tree_summary tree.now) name [] }
 {
-    is_entry_with_attributes_too_large(tree, name_len, 0)
+    entry_overflows(tree, name_len, 0)
 }
 
 // Returns whether an entry takes too much of its pair, by the length of its name and the size of
 // its attributes.
-pub(crate) fn is_entry_with_attributes_too_large<D: BlockDevice>(
+pub(crate) fn entry_overflows<D: BlockDevice>(
     tree: &Tree<D>,
     name_len: usize,
     attributes_len: usize,
 ) -> bool
     requires { name_len < 2 ^ 63 }
-    ensures { (name : List ℕ) (attributes : Attributes) → length name ≡ name_len → attributes_size attributes ≡ attributes_len → result ≡ is_entry_over_charge_limit (disk_summary_of_tree tree.now) name attributes }
+    ensures { (name : List ℕ) (attributes : Attributes) → length name ≡ name_len → attributes_size attributes ≡ attributes_len → result ≡ is_over_charge (tree_summary tree.now) name attributes }
 {
     let geometry = tree.geometry();
     let entry = 4 + name_len as u64 + (4 + u64::from(geometry.struct_limit()));
@@ -51,14 +51,14 @@ pub(crate) fn is_entry_with_attributes_too_large<D: BlockDevice>(
 }
 
 // Returns whether a name of that length is longer than the profile lets be written.
-pub(crate) fn is_name_too_long<D: BlockDevice>(tree: &Tree<D>, name_len: usize) -> bool
+pub(crate) fn name_is_long<D: BlockDevice>(tree: &Tree<D>, name_len: usize) -> bool
     ensures { result ≡ nat_lt (name_max_of tree.now.disk.profile) name_len }
 {
     name_len > tree.geometry().name_max() as usize
 }
 
 // Returns whether a file of that size is longer than the profile lets be written.
-fn is_file_too_long<D: BlockDevice>(tree: &Tree<D>, size: u64) -> bool
+fn file_is_long<D: BlockDevice>(tree: &Tree<D>, size: u64) -> bool
     ensures longer { result ≡ nat_lt (file_max_of tree.now.disk.profile) size }
     ensures small { result ≡ false → size < 2 ^ 31 }
 {
@@ -66,21 +66,21 @@ fn is_file_too_long<D: BlockDevice>(tree: &Tree<D>, size: u64) -> bool
 }
 
 // Returns whether an attribute of that length is longer than the profile lets be written.
-fn is_attribute_too_long<D: BlockDevice>(tree: &Tree<D>, len: usize) -> bool
+fn attribute_is_long<D: BlockDevice>(tree: &Tree<D>, len: usize) -> bool
     ensures { result ≡ nat_lt (attr_max_of tree.now.disk.profile) len }
 {
     len > tree.geometry().attr_max() as usize
 }
 
 // Returns whether fewer blocks than that are free.
-pub(crate) fn has_too_few_free_blocks<D: BlockDevice>(
+pub(crate) fn lacks_blocks<D: BlockDevice>(
     tree: &Tree<D>,
     files: &Files,
     need: u32,
 ) -> bool
     requires works { tree.now.failed ≡ false }
     requires small { need < 16 }
-    ensures { result ≡ nat_lt (block_count tree.now.disk) (length (disk_summary_of_tree tree.now).used + blocks_reserved_by_writers tree.now.disk.profile tree.now.disk.block_size files.now + need) }
+    ensures { result ≡ nat_lt (block_count tree.now.disk) (length (tree_summary tree.now).used + reserved_by_writers tree.now.disk.profile tree.now.disk.block_size files.now + need) }
 {
     let geometry = tree.geometry();
     let held = files.reserved_block_count(geometry);
@@ -94,10 +94,10 @@ pub fn check_and_stat<D: BlockDevice>(
     files: &Files,
     bytes: &[u8],
 ) -> Result<Stat, Error>
-    ensures checks { IsResultOfOperationChecks (session_view_of_tree_and_files tree.old files.now) (ops.Stat bytes.now) (λ stat. file_size_of_node (tree_view tree.old (path_of_bytes_or_root bytes.now)) ≡ stat_view stat) result tree.new }
-    ensures few { ReadsAtMostSearchedPairs tree.old (ops.Stat bytes.now) tree.new }
-    ensures kept { AddsNoReadsWhereSearchedDirectoriesCached tree.old (ops.Stat bytes.now) tree.new }
-    ensures hand { CachesSmallSearchedDirectories tree.old (ops.Stat bytes.now) result tree.new }
+    ensures checks { IsChecksResult (view_of_session tree.old files.now) (ops.Stat bytes.now) (λ stat. node_file_size (tree_view tree.old (path_or_root bytes.now)) ≡ stat_view stat) result tree.new }
+    ensures few { ReadsSearched tree.old (ops.Stat bytes.now) tree.new }
+    ensures kept { AddsNoReads tree.old (ops.Stat bytes.now) tree.new }
+    ensures hand { CachesSearched tree.old (ops.Stat bytes.now) result tree.new }
 {
     if tree.has_failed() {
         return Err(Error::Failed);
@@ -110,7 +110,7 @@ pub fn check_and_stat<D: BlockDevice>(
         found.fault,
         refuse_if(found.node.is_nothing(), Error::NoEnt),
     ];
-    value_unless_checks_refuse(&checks, Stat::from_size(found.node.size()))
+    value_or_refusal(&checks, Stat::from_size(found.node.size()))
 }
 
 /// Returns the path at which a directory may be made, where no check refuses it.
@@ -120,8 +120,8 @@ pub fn check_mkdir<'a, D: BlockDevice>(
     files: &Files,
     bytes: &'a [u8],
 ) -> Result<Path<'a>, Error>
-    requires { tree.old.failed ≡ false → IsSessionReadyForCalls tree.old files.now }
-    ensures { IsResultOfOperationChecks (session_view_of_tree_and_files tree.old files.now) (ops.Mkdir bytes.now) (λ path. path ≡ path_of_bytes_or_root bytes.now) result tree.new }
+    requires { tree.old.failed ≡ false → IsReady tree.old files.now }
+    ensures { IsChecksResult (view_of_session tree.old files.now) (ops.Mkdir bytes.now) (λ path. path ≡ path_or_root bytes.now) result tree.new }
 {
     if tree.has_failed() {
         return Err(Error::Failed);
@@ -135,15 +135,15 @@ pub fn check_mkdir<'a, D: BlockDevice>(
     let found = tree.look_up(alloc, &path)?;
     let checks = [
         found.fault,
-        refuse_if(is_name_too_long(tree, path.name_len()), Error::NameTooLong),
+        refuse_if(name_is_long(tree, path.name_len()), Error::NameTooLong),
         refuse_if(!found.node.is_nothing(), Error::Exist),
         refuse_if(
-            is_new_entry_too_large(tree, path.name_len()),
+            new_entry_overflows(tree, path.name_len()),
             Error::EntryFull,
         ),
-        refuse_if(has_too_few_free_blocks(tree, files, 4), Error::NoSpace),
+        refuse_if(lacks_blocks(tree, files, 4), Error::NoSpace),
     ];
-    value_unless_checks_refuse(&checks, path)
+    value_or_refusal(&checks, path)
 }
 
 /// Checks whether the open file of that number may have the position.
@@ -153,7 +153,7 @@ pub fn check_seek<D: BlockDevice>(
     fd: u32,
     position: u32,
 ) -> Result<(), Error>
-    ensures { IsResultOfChecksWithoutReads (session_view_of_tree_and_files tree.now files.now) (ops.Seek fd position) (λ _. is_some (open_file_at files.now fd) ≡ true) result }
+    ensures { IsUnreadResult (view_of_session tree.now files.now) (ops.Seek fd position) (λ _. is_some (open_file_at files.now fd) ≡ true) result }
 {
     if tree.has_failed() {
         return Err(Error::Failed);
@@ -161,14 +161,14 @@ pub fn check_seek<D: BlockDevice>(
     if !files.is_open(fd) {
         return Err(Error::BadFile);
     }
-    if is_file_too_long(tree, position as u64) {
+    if file_is_long(tree, position as u64) {
         return Err(Error::Invalid);
     }
     Ok(())
 }
 
 /// Returns the contents of a file that may be opened for reading, where no check refuses it.
-pub fn check_and_find_contents_for_reader<D: BlockDevice>(
+pub fn check_open_reader<D: BlockDevice>(
     alloc: Global,
     tree: &mut Tree<D>,
     files: &Files,
@@ -176,7 +176,7 @@ pub fn check_and_find_contents_for_reader<D: BlockDevice>(
     flags: OpenFlags,
 ) -> Result<FileContents, Error>
     requires { (flags_view flags).write ≡ false }
-    ensures { IsResultOfOperationChecks (session_view_of_tree_and_files tree.old files.now) (ops.Open bytes.now (flags_view flags)) (IsReadablePathWithContents tree.old (open_files_view tree.old files.now) bytes.now) result tree.new }
+    ensures { IsChecksResult (view_of_session tree.old files.now) (ops.Open bytes.now (flags_view flags)) (IsReadableWith tree.old (files_view tree.old files.now) bytes.now) result tree.new }
 {
     if tree.has_failed() {
         return Err(Error::Failed);
@@ -193,10 +193,10 @@ pub fn check_and_find_contents_for_reader<D: BlockDevice>(
         finding.fault,
         refuse_if(finding.node.is_nothing(), Error::NoEnt),
         refuse_if(finding.node.is_directory(), Error::IsDir),
-        refuse_if(files.prevents_new_reader_at_path(bytes), Error::Busy),
+        refuse_if(files.prevents_reader_at(bytes), Error::Busy),
     ];
     let none = FileContents::Inline(Vec::new(alloc));
-    value_unless_checks_refuse(&checks, contents.unwrap_or(none))
+    value_or_refusal(&checks, contents.unwrap_or(none))
 }
 
 /// A file that may be opened for writing.
@@ -210,9 +210,9 @@ pub struct WritableFile<'a> {
 }
 
 // Returns whether there is no room to write a file of that size anew.
-fn lacks_room_to_truncate_file_on_open<D: BlockDevice>(tree: &Tree<D>, size: Option<u32>) -> bool
+fn lacks_truncate_room<D: BlockDevice>(tree: &Tree<D>, size: Option<u32>) -> bool
     requires { tree.now.failed ≡ false }
-    ensures { result ≡ nat_lt (block_count tree.now.disk) (length (disk_summary_of_tree tree.now).used + (if nat_lt 0 (unwrap_or size 0) then 2 else 0)) }
+    ensures { result ≡ nat_lt (block_count tree.now.disk) (length (tree_summary tree.now).used + (if nat_lt 0 (unwrap_or size 0) then 2 else 0)) }
 {
     let need = if size.unwrap_or(0) > 0 { 2 } else { 0 };
     (tree.geometry().block_count as u64) < tree.used_count() as u64 + need
@@ -227,8 +227,8 @@ pub fn check_open_writer<'a, D: BlockDevice>(
     flags: OpenFlags,
 ) -> Result<WritableFile<'a>, Error>
     requires write { (flags_view flags).write ≡ true }
-    requires ready { tree.old.failed ≡ false → IsSessionReadyForCalls tree.old files.now }
-    ensures { IsResultOfOperationChecks (session_view_of_tree_and_files tree.old files.now) (ops.Open bytes.now (flags_view flags)) (IsWritableFileAtPathInTree (tree_view tree.old) tree.new bytes.now) result tree.new }
+    requires ready { tree.old.failed ≡ false → IsReady tree.old files.now }
+    ensures { IsChecksResult (view_of_session tree.old files.now) (ops.Open bytes.now (flags_view flags)) (IsWritableFile (tree_view tree.old) tree.new bytes.now) result tree.new }
 {
     if tree.has_failed() {
         return Err(Error::Failed);
@@ -253,24 +253,24 @@ pub fn check_open_writer<'a, D: BlockDevice>(
         refuse_if(
             are_both_true(
                 are_both_true(is_absent, creates),
-                is_name_too_long(tree, path.name_len()),
+                name_is_long(tree, path.name_len()),
             ),
             Error::NameTooLong,
         ),
         refuse_if(are_both_true(is_absent, !creates), Error::NoEnt),
         refuse_if(are_both_true(!is_absent, is_exclusive), Error::Exist),
         refuse_if(found.entry.node.is_directory(), Error::IsDir),
-        refuse_if(files.prevents_new_writer_at_path(bytes), Error::Busy),
+        refuse_if(files.prevents_writer_at(bytes), Error::Busy),
         refuse_if(
-            are_both_true(is_absent, is_new_entry_too_large(tree, path.name_len())),
+            are_both_true(is_absent, new_entry_overflows(tree, path.name_len())),
             Error::EntryFull,
         ),
         refuse_if(
-            are_both_true(is_absent, has_too_few_free_blocks(tree, files, 2)),
+            are_both_true(is_absent, lacks_blocks(tree, files, 2)),
             Error::NoSpace,
         ),
         refuse_if(
-            are_both_true(truncates, lacks_room_to_truncate_file_on_open(tree, size)),
+            are_both_true(truncates, lacks_truncate_room(tree, size)),
             Error::NoSpace,
         ),
     ];
@@ -279,12 +279,12 @@ pub fn check_open_writer<'a, D: BlockDevice>(
         size,
         target: found.target,
     };
-    value_unless_checks_refuse(&checks, file)
+    value_or_refusal(&checks, file)
 }
 
 // Returns the path of these bytes, if it is well formed and isn't the root's.
-pub(crate) fn parse_path_unless_root<'a>(bytes: &'a [u8]) -> Option<Path<'a>>
-    ensures { result ≡ path_of_bytes_unless_root bytes.now }
+pub(crate) fn parse_entry_path<'a>(bytes: &'a [u8]) -> Option<Path<'a>>
+    ensures { result ≡ entry_path bytes.now }
 {
     if bytes.len() == 1 {
         None
@@ -300,9 +300,9 @@ pub fn check_and_list<D: BlockDevice>(
     files: &Files,
     bytes: &[u8],
 ) -> Result<Vec<ListItem>, Error>
-    ensures checks { IsResultOfOperationChecks (session_view_of_tree_and_files tree.old files.now) (ops.ListAll bytes.now) (λ items. directory_items_at_path (tree_view tree.old) (path_of_bytes_or_root bytes.now) ≡ map list_item_view items.items) result tree.new }
-    ensures few { ReadsAtMostSearchedPairs tree.old (ops.ListAll bytes.now) tree.new }
-    ensures kept { AddsNoReadsWhereSearchedDirectoriesCached tree.old (ops.ListAll bytes.now) tree.new }
+    ensures checks { IsChecksResult (view_of_session tree.old files.now) (ops.ListAll bytes.now) (λ items. items_at (tree_view tree.old) (path_or_root bytes.now) ≡ map listed_item_view items.items) result tree.new }
+    ensures few { ReadsSearched tree.old (ops.ListAll bytes.now) tree.new }
+    ensures kept { AddsNoReads tree.old (ops.ListAll bytes.now) tree.new }
 {
     if tree.has_failed() {
         return Err(Error::Failed);
@@ -317,25 +317,25 @@ pub fn check_and_list<D: BlockDevice>(
         refuse_if(node.is_nothing(), Error::NoEnt),
         refuse_if(node.is_file(), Error::NotDir),
     ];
-    value_unless_checks_refuse(&checks, listing.items)
+    value_or_refusal(&checks, listing.items)
 }
 
 /// Returns an attribute's bytes, where no check refuses the path.
-pub fn check_and_get_attr<D: BlockDevice>(
+pub fn check_get_attr<D: BlockDevice>(
     alloc: Global,
     tree: &mut Tree<D>,
     files: &Files,
     bytes: &[u8],
     kind: u8,
 ) -> Result<Vec<u8>, Error>
-    ensures checks { IsResultOfOperationChecks (session_view_of_tree_and_files tree.old files.now) (ops.GetAttr bytes.now kind) (λ v. unwrap_or (attribute_bytes_of_type kind (attributes_of_node (tree_view tree.old (path_of_bytes_or_root bytes.now)))) [] ≡ v.items) result tree.new }
-    ensures few { ReadsAtMostSearchedPairs tree.old (ops.GetAttr bytes.now kind) tree.new }
-    ensures kept { AddsNoReadsWhereSearchedDirectoriesCached tree.old (ops.GetAttr bytes.now kind) tree.new }
+    ensures checks { IsChecksResult (view_of_session tree.old files.now) (ops.GetAttr bytes.now kind) (λ v. unwrap_or (attribute_bytes kind (node_attributes_of (tree_view tree.old (path_or_root bytes.now)))) [] ≡ v.items) result tree.new }
+    ensures few { ReadsSearched tree.old (ops.GetAttr bytes.now kind) tree.new }
+    ensures kept { AddsNoReads tree.old (ops.GetAttr bytes.now kind) tree.new }
 {
     if tree.has_failed() {
         return Err(Error::Failed);
     }
-    let Some(path) = parse_path_unless_root(bytes) else {
+    let Some(path) = parse_entry_path(bytes) else {
         return Err(Error::Invalid);
     };
     let found = tree.get_attr(alloc, &path, kind)?;
@@ -344,7 +344,7 @@ pub fn check_and_get_attr<D: BlockDevice>(
         refuse_if(found.finding.node.is_nothing(), Error::NoEnt),
         refuse_if(found.bytes.is_none(), Error::NoAttr),
     ];
-    value_unless_checks_refuse(&checks, found.bytes.unwrap_or(Vec::new(alloc)))
+    value_or_refusal(&checks, found.bytes.unwrap_or(Vec::new(alloc)))
 }
 
 /// Returns the path of an entry that has the attribute, where no check refuses it.
@@ -355,7 +355,7 @@ pub fn check_remove_attr<'a, D: BlockDevice>(
     bytes: &'a [u8],
     kind: u8,
 ) -> Result<Path<'a>, Error>
-    ensures { IsResultOfOperationChecks (session_view_of_tree_and_files tree.old files.now) (ops.RemoveAttr bytes.now kind) (λ path. path ≡ path_of_bytes_or_root bytes.now) result tree.new }
+    ensures { IsChecksResult (view_of_session tree.old files.now) (ops.RemoveAttr bytes.now kind) (λ path. path ≡ path_or_root bytes.now) result tree.new }
 {
     if tree.has_failed() {
         return Err(Error::Failed);
@@ -363,7 +363,7 @@ pub fn check_remove_attr<'a, D: BlockDevice>(
     if !tree.is_writable() {
         return Err(Error::ReadOnly);
     }
-    let Some(path) = parse_path_unless_root(bytes) else {
+    let Some(path) = parse_entry_path(bytes) else {
         return Err(Error::Invalid);
     };
     let found = tree.get_attr(alloc, &path, kind)?;
@@ -372,7 +372,7 @@ pub fn check_remove_attr<'a, D: BlockDevice>(
         refuse_if(found.finding.node.is_nothing(), Error::NoEnt),
         refuse_if(found.bytes.is_none(), Error::NoAttr),
     ];
-    value_unless_checks_refuse(&checks, path)
+    value_or_refusal(&checks, path)
 }
 
 /// Returns the path of a file, or of a directory without entries, that isn't open, where no check
@@ -383,7 +383,7 @@ pub fn check_remove<'a, D: BlockDevice>(
     files: &Files,
     bytes: &'a [u8],
 ) -> Result<Path<'a>, Error>
-    ensures { IsResultOfOperationChecks (session_view_of_tree_and_files tree.old files.now) (ops.Remove bytes.now) (λ path. path ≡ path_of_bytes_or_root bytes.now) result tree.new }
+    ensures { IsChecksResult (view_of_session tree.old files.now) (ops.Remove bytes.now) (λ path. path ≡ path_or_root bytes.now) result tree.new }
 {
     if tree.has_failed() {
         return Err(Error::Failed);
@@ -391,23 +391,23 @@ pub fn check_remove<'a, D: BlockDevice>(
     if !tree.is_writable() {
         return Err(Error::ReadOnly);
     }
-    let Some(path) = parse_path_unless_root(bytes) else {
+    let Some(path) = parse_entry_path(bytes) else {
         return Err(Error::Invalid);
     };
-    let inside = tree.look_up_node_and_emptiness(alloc, &path)?;
+    let inside = tree.look_up_node(alloc, &path)?;
     let checks = [
         inside.finding.fault,
         refuse_if(inside.finding.node.is_nothing(), Error::NoEnt),
         refuse_if(inside.has_entries, Error::NotEmpty),
         refuse_if(files.is_open_at(bytes), Error::Busy),
     ];
-    value_unless_checks_refuse(&checks, path)
+    value_or_refusal(&checks, path)
 }
 
 // Returns how many bytes attributes take after one of them was replaced by another of that length.
-fn attributes_size_after_replacement(taken: usize, replaced: &Option<Vec<u8>>, len: usize) -> usize
-    requires { AttributesSizeIncludesReplacedAttribute taken replaced.now len }
-    ensures { result + replaced_attribute_size replaced.now ≡ taken + (4 + len) }
+fn replaced_attributes_size(taken: usize, replaced: &Option<Vec<u8>>, len: usize) -> usize
+    requires { IncludesReplaced taken replaced.now len }
+    ensures { result + replaced_size replaced.now ≡ taken + (4 + len) }
 {
     let gone = match replaced {
         Some(bytes) => 4 + bytes.len(),
@@ -425,8 +425,8 @@ pub fn check_set_attr<'a, D: BlockDevice>(
     kind: u8,
     value: &[u8],
 ) -> Result<Path<'a>, Error>
-    requires { tree.old.failed ≡ false → IsSessionReadyForCalls tree.old files.now }
-    ensures { IsResultOfOperationChecks (session_view_of_tree_and_files tree.old files.now) (ops.SetAttr bytes.now kind value.now) (λ path. path ≡ path_of_bytes_or_root bytes.now) result tree.new }
+    requires { tree.old.failed ≡ false → IsReady tree.old files.now }
+    ensures { IsChecksResult (view_of_session tree.old files.now) (ops.SetAttr bytes.now kind value.now) (λ path. path ≡ path_or_root bytes.now) result tree.new }
 {
     if tree.has_failed() {
         return Err(Error::Failed);
@@ -434,32 +434,32 @@ pub fn check_set_attr<'a, D: BlockDevice>(
     if !tree.is_writable() {
         return Err(Error::ReadOnly);
     }
-    let Some(path) = parse_path_unless_root(bytes) else {
+    let Some(path) = parse_entry_path(bytes) else {
         return Err(Error::Invalid);
     };
     let found = tree.get_attr(alloc, &path, kind)?;
     let taken = tree.attributes_size(alloc, &path)?;
-    let size = attributes_size_after_replacement(taken, &found.bytes, value.len());
+    let size = replaced_attributes_size(taken, &found.bytes, value.len());
     let checks = [
         found.finding.fault,
         refuse_if(found.finding.node.is_nothing(), Error::NoEnt),
-        refuse_if(is_attribute_too_long(tree, value.len()), Error::TooBig),
+        refuse_if(attribute_is_long(tree, value.len()), Error::TooBig),
         refuse_if(
-            is_entry_with_attributes_too_large(tree, path.name_len(), size),
+            entry_overflows(tree, path.name_len(), size),
             Error::EntryFull,
         ),
-        refuse_if(has_too_few_free_blocks(tree, files, 2), Error::NoSpace),
+        refuse_if(lacks_blocks(tree, files, 2), Error::NoSpace),
     ];
-    value_unless_checks_refuse(&checks, path)
+    value_or_refusal(&checks, path)
 }
 
 // Returns whether there is no room for the blocks that a writer would hold.
-fn lacks_room_for_writer_blocks<D: BlockDevice>(tree: &Tree<D>, has_turned: bool, size: u32) -> bool
+fn lacks_writer_room<D: BlockDevice>(tree: &Tree<D>, has_turned: bool, size: u32) -> bool
     requires { tree.now.failed ≡ false }
-    ensures { result ≡ nat_lt (block_count tree.now.disk) (length (disk_summary_of_tree tree.now).used + blocks_reserved_for_size tree.now.disk.profile tree.now.disk.block_size has_turned size) }
+    ensures { result ≡ nat_lt (block_count tree.now.disk) (length (tree_summary tree.now).used + reserved_for tree.now.disk.profile tree.now.disk.block_size has_turned size) }
 {
     let geometry = tree.geometry();
-    let held = reserved_block_count_for_size(geometry, has_turned, size);
+    let held = reserved_for_bytes(geometry, has_turned, size);
     (geometry.block_count as u64) < tree.used_count() as u64 + held
 }
 
@@ -470,8 +470,8 @@ pub fn check_write<D: BlockDevice>(
     fd: u32,
     bytes: &[u8],
 ) -> Result<(), Error>
-    requires { tree.now.failed ≡ false → IsSessionReadyForCalls tree.now files.now }
-    ensures { IsResultOfChecksWithoutReads (session_view_of_tree_and_files tree.now files.now) (ops.Write fd bytes.now) (λ _. is_some (writer_of_open_file_or_none (open_file_at files.now fd)) ≡ true) result }
+    requires { tree.now.failed ≡ false → IsReady tree.now files.now }
+    ensures { IsUnreadResult (view_of_session tree.now files.now) (ops.Write fd bytes.now) (λ _. is_some (open_writer (open_file_at files.now fd)) ≡ true) result }
 {
     if tree.has_failed() {
         return Err(Error::Failed);
@@ -483,13 +483,13 @@ pub fn check_write<D: BlockDevice>(
         return Ok(());
     }
     let place = writer.place();
-    if is_file_too_long(tree, place as u64 + bytes.len() as u64) {
+    if file_is_long(tree, place as u64 + bytes.len() as u64) {
         return Err(Error::TooBig);
     }
     let size = writer.size.max(place + bytes.len() as u32);
-    if lacks_room_for_writer_blocks(
+    if lacks_writer_room(
         tree,
-        writer.is_nonsequential_after_change_at(place.min(writer.size)),
+        writer.turns_by_change(place.min(writer.size)),
         size,
     ) {
         return Err(Error::NoSpace);
@@ -504,8 +504,8 @@ pub fn check_truncate<D: BlockDevice>(
     fd: u32,
     size: u32,
 ) -> Result<(), Error>
-    requires { tree.now.failed ≡ false → IsSessionReadyForCalls tree.now files.now }
-    ensures { IsResultOfChecksWithoutReads (session_view_of_tree_and_files tree.now files.now) (ops.Truncate fd size) (λ _. is_some (writer_of_open_file_or_none (open_file_at files.now fd)) ≡ true) result }
+    requires { tree.now.failed ≡ false → IsReady tree.now files.now }
+    ensures { IsUnreadResult (view_of_session tree.now files.now) (ops.Truncate fd size) (λ _. is_some (open_writer (open_file_at files.now fd)) ≡ true) result }
 {
     if tree.has_failed() {
         return Err(Error::Failed);
@@ -513,11 +513,11 @@ pub fn check_truncate<D: BlockDevice>(
     let Some(writer) = files.writer(fd) else {
         return Err(Error::BadFile);
     };
-    if is_file_too_long(tree, size as u64) {
+    if file_is_long(tree, size as u64) {
         return Err(Error::TooBig);
     }
     if size != writer.size
-        && lacks_room_for_writer_blocks(tree, writer.is_nonsequential_after_resize(), size)
+        && lacks_writer_room(tree, writer.turns_by_resize(), size)
     {
         return Err(Error::NoSpace);
     }
@@ -525,12 +525,12 @@ pub fn check_truncate<D: BlockDevice>(
 }
 
 /// Checks whether a file is open under the number.
-pub fn check_is_file_open<D: BlockDevice>(
+pub fn check_open<D: BlockDevice>(
     tree: &Tree<D>,
     files: &Files,
     fd: u32,
 ) -> Result<(), Error>
-    ensures { IsResultOfChecksWithoutReads (session_view_of_tree_and_files tree.now files.now) (ops.Close fd) (λ _. is_some (open_file_at files.now fd) ≡ true) result }
+    ensures { IsUnreadResult (view_of_session tree.now files.now) (ops.Close fd) (λ _. is_some (open_file_at files.now fd) ≡ true) result }
 {
     if tree.has_failed() {
         return Err(Error::Failed);
@@ -542,12 +542,12 @@ pub fn check_is_file_open<D: BlockDevice>(
 }
 
 /// Checks whether a file is open under the number, for a sync.
-pub fn check_is_file_open_for_sync<D: BlockDevice>(
+pub fn check_sync_file<D: BlockDevice>(
     tree: &Tree<D>,
     files: &Files,
     fd: u32,
 ) -> Result<(), Error>
-    ensures { IsResultOfChecksWithoutReads (session_view_of_tree_and_files tree.now files.now) (ops.Sync fd) (λ _. is_some (open_file_at files.now fd) ≡ true) result }
+    ensures { IsUnreadResult (view_of_session tree.now files.now) (ops.Sync fd) (λ _. is_some (open_file_at files.now fd) ≡ true) result }
 {
     if tree.has_failed() {
         return Err(Error::Failed);

@@ -1,14 +1,14 @@
 // What a session knows of its device.
 
-ghost use Rattle.lfs_fs.specs.DeviceLaws.{IsDiskLeftByConformingDeviceCalls};
+ghost use Rattle.lfs_fs.specs.DeviceLaws.{LeftConforming};
 
 use lfs_device::BlockDevice;
 use lfs_tree::Tree;
 
 // Shows a proof that the tree's device meets the laws of its calls. The call does nothing at run
 // time.
-pub(crate) fn show_conforming_device_calls_to_proof<D: BlockDevice>(tree: &Tree<D>)
-    ensures { IsDiskLeftByConformingDeviceCalls tree.now }
+pub(crate) fn lemma_calls_conform<D: BlockDevice>(tree: &Tree<D>)
+    ensures { LeftConforming tree.now }
 {
     let _device = tree.device();
 }

@@ -3,21 +3,21 @@
 ghost use Rattle.std.specs.Prelude.{◌==◌, ℕ, if◌then◌else◌, nat_lt, ◌≡◌, ◌<◌, ◌≤◌, ◌^◌, ◌||◌, [], ◌∷◌, false, nat_le, length, None, Some, IfOk, IfErr, OnOk, OnErr, true, is_none, is_some, slice_get, slice_set, vec_len};
 ghost use Rattle.std.specs.List.{list_any};
 ghost use Rattle.std.specs.Option.{option_flatten, option_map};
-ghost use Rattle.lfs_model.specs.TreeEdits.{same_path};
-ghost use Rattle.lfs_model.specs.Operations.{path_of_bytes};
-ghost use Rattle.lfs_model.specs.Session.{has_open_file_with_path_satisfying};
-ghost use Rattle.lfs_model.specs.Writers.{is_nonsequential_write, writer_after_write};
-ghost use Rattle.lfs_model.specs.Refusals.{path_of_bytes_or_root, is_root_or_invalid_path};
+ghost use Rattle.lfs_model.specs.session.TreeEdits.{same_path};
+ghost use Rattle.lfs_model.specs.session.Operations.{parse_path};
+ghost use Rattle.lfs_model.specs.session.Session.{has_file};
+ghost use Rattle.lfs_model.specs.session.Writers.{turns_writer, written_writer};
+ghost use Rattle.lfs_model.specs.session.Refusals.{path_or_root, is_unusable};
 ghost use Rattle.lfs_file.specs.Known.{no_known_blocks};
-ghost use Rattle.lfs_fs.specs.RenamePaths.{open_file_path_prevents_rename};
-ghost use Rattle.lfs_tree.specs.OpenContents.{WritesOnlyUnusedBlocks};
-ghost use Rattle.lfs_tree.specs.TreeState.{IsIoWithFaultOrNoMemory, IsFailedTree, IsSoundTreeState, SurvivesStopsInTreeCall, TreeState, tree_view};
-ghost use Rattle.lfs_fs.specs.WriterChanges.{CanWriteByWriter, ChangesOnlyWriterAtNumber, IsChangedWriterSeenAs};
+ghost use Rattle.lfs_fs.specs.RenamePaths.{open_prevents_rename};
+ghost use Rattle.lfs_tree.specs.OpenContents.{WritesUnusedBlocks};
+ghost use Rattle.lfs_tree.specs.TreeState.{HasErrorCause, IsFailedTree, IsSoundState, SurvivesStops, TreeState, tree_view};
+ghost use Rattle.lfs_fs.specs.WriterChanges.{CanWriteBy, ChangesOnlyWriter, IsChangedWriter};
 ghost use Rattle.lfs_fs.specs.declared.files.Writer.{Writer as WriterSeen};
-ghost use Rattle.lfs_fs.specs.FileView.{last_change_end_of_unsaved, open_file_at, open_files_view, is_open_at_matching_path, is_unsaved_writer, lowest_free_number_of_runtime_files, blocks_reserved_by_writers, blocks_reserved_by_writer, blocks_reserved_for_size, open_file_with_known, open_file_with_position, open_files_with_entry_at_number, reader_of_open_file_or_none, readers_among, is_unsaved_nonsequential, writer_of_open_file_or_none, writer_view, writers_among, position_of_kept_file};
+ghost use Rattle.lfs_fs.specs.FileView.{change_end, open_file_at, files_view, is_open_where, is_unsaved_one, lowest_free, reserved_by_writers, reserved_by, reserved_for, file_with_known, file_with_position, runtime_files_with, open_reader, readers_among, is_unsaved_nonsequential, open_writer, writer_view, writers_among, kept_position};
 
 use crate::owned_path::OwnedPath;
-use crate::writers::write_bytes_by_writer;
+use crate::writers::write_by_writer;
 use lfs_device::{BlockDevice, Error, Geometry};
 use lfs_file::{KnownBlocks, WriterContents, blocks_for};
 use lfs_lookup::FileContents;
@@ -82,19 +82,19 @@ impl Writer {
     }
 
     /// Returns whether the writer is nonsequential after a change that begins there.
-    pub fn is_nonsequential_after_change_at(&self, begin: u32) -> bool
-        ensures { result ≡ (is_unsaved_nonsequential self.now.unsaved || is_nonsequential_write (last_change_end_of_unsaved self.now.unsaved) begin) }
+    pub fn turns_by_change(&self, begin: u32) -> bool
+        ensures { result ≡ (is_unsaved_nonsequential self.now.unsaved || turns_writer (change_end self.now.unsaved) begin) }
     {
         match &self.unsaved {
             Some(unsaved) => unsaved.has_turned
-                || is_write_away_from_last_end(unsaved.last_end, begin),
+                || leaves_last_end(unsaved.last_end, begin),
             None => false,
         }
     }
 
     /// Returns whether the writer is nonsequential after its contents get another size.
-    pub fn is_nonsequential_after_resize(&self) -> bool
-        ensures { result ≡ (is_unsaved_nonsequential self.now.unsaved || is_some (last_change_end_of_unsaved self.now.unsaved)) }
+    pub fn turns_by_resize(&self) -> bool
+        ensures { result ≡ (is_unsaved_nonsequential self.now.unsaved || is_some (change_end self.now.unsaved)) }
     {
         match &self.unsaved {
             Some(unsaved) => unsaved.has_turned || unsaved.last_end.is_some(),
@@ -103,28 +103,28 @@ impl Writer {
     }
 
     /// Returns where the last change ends after the contents get that size.
-    pub fn last_change_end_after_resize(&self, new_size: u32) -> Option<u32>
-        ensures { result ≡ (if nat_lt self.now.size new_size then Some new_size else last_change_end_of_unsaved self.now.unsaved) }
+    pub fn change_end_resized(&self, new_size: u32) -> Option<u32>
+        ensures { result ≡ (if nat_lt self.now.size new_size then Some new_size else change_end self.now.unsaved) }
     {
         match &self.unsaved {
-            Some(unsaved) => last_change_end_for_new_size(self.size, new_size, unsaved.last_end),
-            None => last_change_end_for_new_size(self.size, new_size, None),
+            Some(unsaved) => resized_change_end(self.size, new_size, unsaved.last_end),
+            None => resized_change_end(self.size, new_size, None),
         }
     }
 
     // Returns how many blocks are held for the writer.
     fn reserved_block_count(&self, geometry: Geometry) -> u64
-        ensures held { result ≡ blocks_reserved_by_writer geometry.profile geometry.block_size self.now }
+        ensures held { result ≡ reserved_by geometry.profile geometry.block_size self.now }
         ensures few { result < 2 ^ 34 }
     {
         match &self.unsaved {
-            Some(unsaved) => reserved_block_count_for_size(geometry, unsaved.has_turned, self.size),
+            Some(unsaved) => reserved_for_bytes(geometry, unsaved.has_turned, self.size),
             None => 0,
         }
     }
 }
 
-fn last_change_end_for_new_size(size: u32, new_size: u32, last_end: Option<u32>) -> Option<u32>
+fn resized_change_end(size: u32, new_size: u32, last_end: Option<u32>) -> Option<u32>
     ensures { result ≡ (if nat_lt size new_size then Some new_size else last_end) }
 {
     if size < new_size {
@@ -134,8 +134,8 @@ fn last_change_end_for_new_size(size: u32, new_size: u32, last_end: Option<u32>)
     }
 }
 
-fn is_write_away_from_last_end(last_end: Option<u32>, begin: u32) -> bool
-    ensures { result ≡ is_nonsequential_write last_end begin }
+fn leaves_last_end(last_end: Option<u32>, begin: u32) -> bool
+    ensures { result ≡ turns_writer last_end begin }
 {
     match last_end {
         Some(end) => end != begin,
@@ -151,9 +151,9 @@ pub struct Files {
 
 impl Model for Files {
     ghost use Rattle.std.specs.Prelude.{◌≤◌, length, vec_len};
-    ghost use Rattle.lfs_fs.specs.FileView.{RuntimeOpenFilesByNumber, readers_among, writers_among};
+    ghost use Rattle.lfs_fs.specs.FileView.{RuntimeFiles, readers_among, writers_among};
 
-    ghost Value = { RuntimeOpenFilesByNumber };
+    ghost Value = { RuntimeFiles };
 
     ghost view = { λ f. f.entries.items };
 
@@ -171,18 +171,18 @@ impl Files {
 
     // Returns how many blocks the open writer holds.
     pub(crate) fn reserved_block_count(&self, geometry: Geometry) -> u64
-        ensures held { result ≡ blocks_reserved_by_writers geometry.profile geometry.block_size self.now }
+        ensures held { result ≡ reserved_by_writers geometry.profile geometry.block_size self.now }
         ensures few { result < 2 ^ 34 }
     {
         blocks_reserved_among(&self.entries, geometry)
     }
 
     // Returns whether a writer of that path prevents a reader, or whether 16 readers are open.
-    pub(crate) fn prevents_new_reader_at_path(&self, path: &[u8]) -> bool
-        requires { is_some (path_of_bytes path.now) ≡ true }
-        ensures { result ≡ (list_any (λ w. same_path (path_of_bytes_or_root path.now) w.path) (writers_among self.now) || nat_le 16 (length (readers_among self.now))) }
+    pub(crate) fn prevents_reader_at(&self, path: &[u8]) -> bool
+        requires { is_some (parse_path path.now) ≡ true }
+        ensures { result ≡ (list_any (λ w. same_path (path_or_root path.now) w.path) (writers_among self.now) || nat_le 16 (length (readers_among self.now))) }
     {
-        is_path_of_writer_among(&self.entries, path) || reader_count(&self.entries) >= 16
+        writers_have_path(&self.entries, path) || reader_count(&self.entries) >= 16
     }
 
     /// Opens a reader at the path, at the beginning of its contents, under the least number that is
@@ -195,10 +195,10 @@ impl Files {
         path: &[u8],
         contents: FileContents,
     ) -> Result<u32, Error>
-        requires path { is_some (path_of_bytes path.now) ≡ true }
+        requires path { is_some (parse_path path.now) ≡ true }
         requires few { length (readers_among self.old) < 16 }
-        ensures number { IfOk result (λ fd. fd ≡ lowest_free_number_of_runtime_files self.old) }
-        ensures added { OnOk result (self.new ≡ open_files_with_entry_at_number self.old (lowest_free_number_of_runtime_files self.old) (Some (OpenFile.Reading (record { path = path_of_bytes_or_root path.now; position = 0; contents = contents; known = no_known_blocks })))) }
+        ensures number { IfOk result (λ fd. fd ≡ lowest_free self.old) }
+        ensures added { OnOk result (self.new ≡ runtime_files_with self.old (lowest_free self.old) (Some (OpenFile.Reading (record { path = path_or_root path.now; position = 0; contents = contents; known = no_known_blocks })))) }
         ensures same { OnErr result (self.new ≡ self.old) }
         ensures error { IfErr result (λ e. e ≡ Error.NoMemory) }
     {
@@ -208,14 +208,14 @@ impl Files {
             contents,
             known: KnownBlocks::new(),
         };
-        let number = find_free_file_number(&self.entries);
-        set_table_entry_at_number(&mut self.entries, number, Some(OpenFile::Reading(reader)))?;
+        let number = free_number(&self.entries);
+        set_table_entry(&mut self.entries, number, Some(OpenFile::Reading(reader)))?;
         Ok(number as u32)
     }
 
     /// Borrows the reader of that number.
     pub fn reader(&self, fd: u32) -> Option<&Reader>
-        ensures { option_map (λ r. r.now) result ≡ reader_of_open_file_or_none (open_file_at self.now fd) }
+        ensures { option_map (λ r. r.now) result ≡ open_reader (open_file_at self.now fd) }
     {
         match self.entries.get(fd as usize) {
             Some(Some(OpenFile::Reading(reader))) => Some(reader),
@@ -225,7 +225,7 @@ impl Files {
 
     // Borrows the writer of that number.
     pub(crate) fn writer(&self, fd: u32) -> Option<&Writer>
-        ensures { option_map (λ w. w.now) result ≡ writer_of_open_file_or_none (open_file_at self.now fd) }
+        ensures { option_map (λ w. w.now) result ≡ open_writer (open_file_at self.now fd) }
     {
         match self.entries.get(fd as usize) {
             Some(Some(OpenFile::Writing(writer))) => Some(writer),
@@ -235,7 +235,7 @@ impl Files {
 
     // Returns the position of the file of that number.
     pub(crate) fn position(&self, fd: u32) -> Option<u32>
-        ensures { result ≡ option_map position_of_kept_file (open_file_at self.now fd) }
+        ensures { result ≡ option_map kept_position (open_file_at self.now fd) }
     {
         match self.entries.get(fd as usize) {
             Some(Some(OpenFile::Reading(reader))) => Some(reader.position),
@@ -252,23 +252,23 @@ impl Files {
     }
 
     // Returns whether another writer, or an open file at that path, prevents a writer.
-    pub(crate) fn prevents_new_writer_at_path(&self, path: &[u8]) -> bool
-        requires { is_some (path_of_bytes path.now) ≡ true }
-        ensures { (t : TreeState) → result ≡ (nat_lt 0 (length (writers_among self.now)) || has_open_file_with_path_satisfying (same_path (path_of_bytes_or_root path.now)) (open_files_view t self.now)) }
+    pub(crate) fn prevents_writer_at(&self, path: &[u8]) -> bool
+        requires { is_some (parse_path path.now) ≡ true }
+        ensures { (t : TreeState) → result ≡ (nat_lt 0 (length (writers_among self.now)) || has_file (same_path (path_or_root path.now)) (files_view t self.now)) }
     {
         self.is_writing() || self.is_open_at(path)
     }
 
     /// Makes room for one more open file. Returns its number: the least that is free.
-    pub fn reserve_free_file_number(&mut self) -> Result<u32, Error>
+    pub fn reserve_number(&mut self) -> Result<u32, Error>
         requires { writers_among self.old ≡ [] }
-        ensures number { IfOk result (λ fd. fd ≡ lowest_free_number_of_runtime_files self.old) }
-        ensures room { OnOk result (self.new ≡ open_files_with_entry_at_number self.old (lowest_free_number_of_runtime_files self.old) None) }
+        ensures number { IfOk result (λ fd. fd ≡ lowest_free self.old) }
+        ensures room { OnOk result (self.new ≡ runtime_files_with self.old (lowest_free self.old) None) }
         ensures same { OnErr result (self.new ≡ self.old) }
         ensures error { IfErr result (λ e. e ≡ Error.NoMemory) }
     {
-        let number = find_free_file_number(&self.entries);
-        set_table_entry_at_number(&mut self.entries, number, None)?;
+        let number = free_number(&self.entries);
+        set_table_entry(&mut self.entries, number, None)?;
         Ok(number as u32)
     }
 
@@ -278,7 +278,7 @@ impl Files {
         ensures file { result ≡ open_file_at self.old fd }
         ensures left { self.new ≡ slice_set self.old fd None }
     {
-        take_file_out_of_table(&mut self.entries, fd as usize)
+        take_from_table(&mut self.entries, fd as usize)
     }
 
     /// Puts a writer back under the number that it had.
@@ -288,7 +288,7 @@ impl Files {
         requires none { writers_among self.old ≡ [] }
         ensures { self.new ≡ slice_set self.old fd (Some (OpenFile.Writing writer)) }
     {
-        set_file_in_table(&mut self.entries, fd as usize, OpenFile::Writing(writer));
+        set_in_table(&mut self.entries, fd as usize, OpenFile::Writing(writer));
     }
 
     // Writes bytes, at least one, by the writer of that number.
@@ -302,14 +302,14 @@ impl Files {
         fd: u32,
         bytes: &[u8],
     ) -> Result<(), Error>
-        requires { (w : WriterSeen) × (open_file_at self.old fd ≡ Some (OpenFile.Writing w)) × CanWriteByWriter tree.old w bytes.now }
-        ensures written { (w : WriterSeen) → open_file_at self.old fd ≡ Some (OpenFile.Writing w) → ChangesOnlyWriterAtNumber self.old fd (λ v. OnOk result (IsChangedWriterSeenAs tree.new (writer_after_write (writer_view tree.old w) bytes.now) v)) self.new }
-        ensures beside { OnOk result (WritesOnlyUnusedBlocks tree.old tree.new) }
+        requires { (w : WriterSeen) × (open_file_at self.old fd ≡ Some (OpenFile.Writing w)) × CanWriteBy tree.old w bytes.now }
+        ensures written { (w : WriterSeen) → open_file_at self.old fd ≡ Some (OpenFile.Writing w) → ChangesOnlyWriter self.old fd (λ v. OnOk result (IsChangedWriter tree.new (written_writer (writer_view tree.old w) bytes.now) v)) self.new }
+        ensures beside { OnOk result (WritesUnusedBlocks tree.old tree.new) }
         ensures broken { OnErr result (IsFailedTree tree.old tree.new) }
-        ensures errors { IfErr result (IsIoWithFaultOrNoMemory tree.old tree.new) }
-        ensures survives { IsSoundTreeState tree.old → SurvivesStopsInTreeCall tree.old tree.new (tree_view tree.old) }
+        ensures errors { IfErr result (HasErrorCause tree.old tree.new) }
+        ensures survives { IsSoundState tree.old → SurvivesStops tree.old tree.new (tree_view tree.old) }
     {
-        write_by_writer_in_table(alloc, tree, &mut self.entries, fd as usize, bytes)
+        write_in_table(alloc, tree, &mut self.entries, fd as usize, bytes)
     }
 
     pub(crate) fn is_open(&self, fd: u32) -> bool
@@ -322,8 +322,8 @@ impl Files {
     }
 
     /// Returns whether the file of that number has changes that aren't in the tree.
-    pub fn is_unsaved_at_file_number(&self, fd: u32) -> bool
-        ensures { result ≡ is_unsaved_writer (open_file_at self.now fd) }
+    pub fn is_unsaved_at(&self, fd: u32) -> bool
+        ensures { result ≡ is_unsaved_one (open_file_at self.now fd) }
     {
         match self.entries.get(fd as usize) {
             Some(entry) => is_unsaved(entry),
@@ -332,8 +332,8 @@ impl Files {
     }
 
     /// Returns whether a writer has that number, and contents of that size.
-    pub fn has_writer_of_size(&self, fd: u32, size: u32) -> bool
-        ensures { (w : _) → writer_of_open_file_or_none (open_file_at self.now fd) ≡ Some w → result ≡ (size == w.size) }
+    pub fn has_sized_writer(&self, fd: u32, size: u32) -> bool
+        ensures { (w : _) → open_writer (open_file_at self.now fd) ≡ Some w → result ≡ (size == w.size) }
     {
         match self.writer(fd) {
             Some(writer) => size == writer.size,
@@ -343,34 +343,34 @@ impl Files {
 
     // Returns whether a file is open at the path of these bytes.
     pub(crate) fn is_open_at(&self, path: &[u8]) -> bool
-        requires { is_some (path_of_bytes path.now) ≡ true }
-        ensures { (t : TreeState) → result ≡ has_open_file_with_path_satisfying (same_path (path_of_bytes_or_root path.now)) (open_files_view t self.now) }
+        requires { is_some (parse_path path.now) ≡ true }
+        ensures { (t : TreeState) → result ≡ has_file (same_path (path_or_root path.now)) (files_view t self.now) }
     {
-        is_path_of_open_file_among(&self.entries, path)
+        files_have_path(&self.entries, path)
     }
 
     // Returns whether an open file prevents a rename: one at the first path, which is an entry's,
     // or beneath it, or one at the second path.
-    pub(crate) fn has_open_file_preventing_rename(&self, from: &[u8], to: &[u8]) -> bool
-        requires entry { is_root_or_invalid_path (path_of_bytes from.now) ≡ false }
-        requires given { is_some (path_of_bytes to.now) ≡ true }
-        ensures { (t : TreeState) → result ≡ has_open_file_with_path_satisfying (open_file_path_prevents_rename (path_of_bytes_or_root from.now) (path_of_bytes_or_root to.now)) (open_files_view t self.now) }
+    pub(crate) fn prevents_rename_of(&self, from: &[u8], to: &[u8]) -> bool
+        requires entry { is_unusable (parse_path from.now) ≡ false }
+        requires given { is_some (parse_path to.now) ≡ true }
+        ensures { (t : TreeState) → result ≡ has_file (open_prevents_rename (path_or_root from.now) (path_or_root to.now)) (files_view t self.now) }
     {
-        is_rename_prevented_among(&self.entries, from, to)
+        files_prevent_rename(&self.entries, from, to)
     }
 
     /// Sets the position of an open file.
     pub fn seek(&mut self, fd: u32, position: u32)
         requires { is_some (open_file_at self.old fd) ≡ true }
-        ensures { self.new ≡ slice_set self.old fd (option_map (open_file_with_position position) (open_file_at self.old fd)) }
+        ensures { self.new ≡ slice_set self.old fd (option_map (file_with_position position) (open_file_at self.old fd)) }
     {
-        seek_file_in_table(&mut self.entries, fd as usize, position);
+        seek_in_table(&mut self.entries, fd as usize, position);
     }
 
     /// Notes the blocks that an open reader knows.
     pub fn note_known(&mut self, fd: u32, known: KnownBlocks)
         requires { is_some (open_file_at self.old fd) ≡ true }
-        ensures { self.new ≡ slice_set self.old fd (option_map (open_file_with_known known) (open_file_at self.old fd)) }
+        ensures { self.new ≡ slice_set self.old fd (option_map (file_with_known known) (open_file_at self.old fd)) }
     {
         note_in_table(&mut self.entries, fd as usize, known);
     }
@@ -380,7 +380,7 @@ impl Files {
         requires { is_some (open_file_at self.old fd) ≡ true }
         ensures { self.new ≡ slice_set self.old fd None }
     {
-        close_file_in_table(&mut self.entries, fd as usize);
+        close_in_table(&mut self.entries, fd as usize);
     }
 
     /// Closes all files.
@@ -391,9 +391,9 @@ impl Files {
     }
 }
 
-fn seek_file_in_table(entries: &mut Vec<Option<OpenFile>>, index: usize, position: u32)
+fn seek_in_table(entries: &mut Vec<Option<OpenFile>>, index: usize, position: u32)
     requires { index < vec_len entries.old }
-    ensures files { entries.new.items ≡ slice_set entries.old.items index (option_map (open_file_with_position position) (option_flatten (slice_get entries.old.items index))) }
+    ensures files { entries.new.items ≡ slice_set entries.old.items index (option_map (file_with_position position) (option_flatten (slice_get entries.old.items index))) }
     ensures len { vec_len entries.new ≡ vec_len entries.old }
 {
     match &mut entries[index] {
@@ -405,7 +405,7 @@ fn seek_file_in_table(entries: &mut Vec<Option<OpenFile>>, index: usize, positio
 
 fn note_in_table(entries: &mut Vec<Option<OpenFile>>, index: usize, known: KnownBlocks)
     requires { index < vec_len entries.old }
-    ensures files { entries.new.items ≡ slice_set entries.old.items index (option_map (open_file_with_known known) (option_flatten (slice_get entries.old.items index))) }
+    ensures files { entries.new.items ≡ slice_set entries.old.items index (option_map (file_with_known known) (option_flatten (slice_get entries.old.items index))) }
     ensures len { vec_len entries.new ≡ vec_len entries.old }
 {
     if let Some(OpenFile::Reading(reader)) = &mut entries[index] {
@@ -415,28 +415,28 @@ fn note_in_table(entries: &mut Vec<Option<OpenFile>>, index: usize, known: Known
 
 // Writes bytes by the writer in an entry. The writer stays where it is: to move it took a third of
 // a short write's time.
-fn write_by_writer_in_table<D: BlockDevice>(
+fn write_in_table<D: BlockDevice>(
     alloc: Global,
     tree: &mut Tree<D>,
     entries: &mut Vec<Option<OpenFile>>,
     index: usize,
     bytes: &[u8],
 ) -> Result<(), Error>
-    requires { (w : WriterSeen) × (open_file_at entries.old.items index ≡ Some (OpenFile.Writing w)) × CanWriteByWriter tree.old w bytes.now }
-    ensures written { (w : WriterSeen) → open_file_at entries.old.items index ≡ Some (OpenFile.Writing w) → ChangesOnlyWriterAtNumber entries.old.items index (λ v. OnOk result (IsChangedWriterSeenAs tree.new (writer_after_write (writer_view tree.old w) bytes.now) v)) entries.new.items }
+    requires { (w : WriterSeen) × (open_file_at entries.old.items index ≡ Some (OpenFile.Writing w)) × CanWriteBy tree.old w bytes.now }
+    ensures written { (w : WriterSeen) → open_file_at entries.old.items index ≡ Some (OpenFile.Writing w) → ChangesOnlyWriter entries.old.items index (λ v. OnOk result (IsChangedWriter tree.new (written_writer (writer_view tree.old w) bytes.now) v)) entries.new.items }
     ensures len { vec_len entries.new ≡ vec_len entries.old }
-    ensures beside { OnOk result (WritesOnlyUnusedBlocks tree.old tree.new) }
+    ensures beside { OnOk result (WritesUnusedBlocks tree.old tree.new) }
     ensures broken { OnErr result (IsFailedTree tree.old tree.new) }
-    ensures errors { IfErr result (IsIoWithFaultOrNoMemory tree.old tree.new) }
-    ensures survives { IsSoundTreeState tree.old → SurvivesStopsInTreeCall tree.old tree.new (tree_view tree.old) }
+    ensures errors { IfErr result (HasErrorCause tree.old tree.new) }
+    ensures survives { IsSoundState tree.old → SurvivesStops tree.old tree.new (tree_view tree.old) }
 {
     match &mut entries[index] {
-        Some(OpenFile::Writing(writer)) => write_bytes_by_writer(alloc, tree, writer, bytes),
+        Some(OpenFile::Writing(writer)) => write_by_writer(alloc, tree, writer, bytes),
         _ => unreachable!(),
     }
 }
 
-fn take_file_out_of_table(entries: &mut Vec<Option<OpenFile>>, index: usize) -> Option<OpenFile>
+fn take_from_table(entries: &mut Vec<Option<OpenFile>>, index: usize) -> Option<OpenFile>
     requires { index < vec_len entries.old }
     ensures file { result ≡ option_flatten (slice_get entries.old.items index) }
     ensures files { entries.new.items ≡ slice_set entries.old.items index None }
@@ -445,7 +445,7 @@ fn take_file_out_of_table(entries: &mut Vec<Option<OpenFile>>, index: usize) -> 
     entries[index].take()
 }
 
-fn set_file_in_table(entries: &mut Vec<Option<OpenFile>>, index: usize, file: OpenFile)
+fn set_in_table(entries: &mut Vec<Option<OpenFile>>, index: usize, file: OpenFile)
     requires { index < vec_len entries.old }
     ensures files { entries.new.items ≡ slice_set entries.old.items index (Some file) }
     ensures len { vec_len entries.new ≡ vec_len entries.old }
@@ -453,7 +453,7 @@ fn set_file_in_table(entries: &mut Vec<Option<OpenFile>>, index: usize, file: Op
     entries[index] = Some(file);
 }
 
-fn close_file_in_table(entries: &mut Vec<Option<OpenFile>>, index: usize)
+fn close_in_table(entries: &mut Vec<Option<OpenFile>>, index: usize)
     requires { index < vec_len entries.old }
     ensures files { entries.new.items ≡ slice_set entries.old.items index None }
     ensures len { vec_len entries.new ≡ vec_len entries.old }
@@ -464,7 +464,7 @@ fn close_file_in_table(entries: &mut Vec<Option<OpenFile>>, index: usize)
 // Returns how many blocks the writer holds, of which there is one at most.
 fn blocks_reserved_among(entries: &[Option<OpenFile>], geometry: Geometry) -> u64
     requires { length (writers_among entries.now) ≤ 1 }
-    ensures held { result ≡ blocks_reserved_by_writers geometry.profile geometry.block_size entries.now }
+    ensures held { result ≡ reserved_by_writers geometry.profile geometry.block_size entries.now }
     ensures few { result < 2 ^ 34 }
 {
     for entry in entries {
@@ -476,8 +476,8 @@ fn blocks_reserved_among(entries: &[Option<OpenFile>], geometry: Geometry) -> u6
 }
 
 // Returns how many blocks are held for changed contents of so many bytes.
-pub(crate) fn reserved_block_count_for_size(geometry: Geometry, has_turned: bool, size: u32) -> u64
-    ensures held { result ≡ blocks_reserved_for_size geometry.profile geometry.block_size has_turned size }
+pub(crate) fn reserved_for_bytes(geometry: Geometry, has_turned: bool, size: u32) -> u64
+    ensures held { result ≡ reserved_for geometry.profile geometry.block_size has_turned size }
     ensures few { result < 2 ^ 34 }
 {
     if size <= geometry.inline_limit() {
@@ -492,7 +492,7 @@ pub(crate) fn reserved_block_count_for_size(geometry: Geometry, has_turned: bool
 }
 
 fn is_unsaved(entry: &Option<OpenFile>) -> bool
-    ensures { result ≡ is_unsaved_writer entry.now }
+    ensures { result ≡ is_unsaved_one entry.now }
 {
     match entry {
         Some(OpenFile::Writing(writer)) => writer.unsaved.is_some(),
@@ -512,47 +512,47 @@ fn is_writing(entries: &[Option<OpenFile>]) -> bool
 }
 
 // Returns whether a writer is open at the path of these bytes.
-fn is_path_of_writer_among(entries: &[Option<OpenFile>], path: &[u8]) -> bool
-    requires { is_some (path_of_bytes path.now) ≡ true }
-    ensures { result ≡ list_any (λ w. same_path (path_of_bytes_or_root path.now) w.path) (writers_among entries.now) }
+fn writers_have_path(entries: &[Option<OpenFile>], path: &[u8]) -> bool
+    requires { is_some (parse_path path.now) ≡ true }
+    ensures { result ≡ list_any (λ w. same_path (path_or_root path.now) w.path) (writers_among entries.now) }
 {
     for entry in entries {
-        if is_open_writer_at_path(entry, path) {
+        if is_writer_at(entry, path) {
             return true;
         }
     }
     false
 }
 
-fn is_open_writer_at_path(entry: &Option<OpenFile>, path: &[u8]) -> bool
-    requires { is_some (path_of_bytes path.now) ≡ true }
-    ensures { result ≡ list_any (λ w. same_path (path_of_bytes_or_root path.now) w.path) (writers_among (entry.now ∷ [])) }
+fn is_writer_at(entry: &Option<OpenFile>, path: &[u8]) -> bool
+    requires { is_some (parse_path path.now) ≡ true }
+    ensures { result ≡ list_any (λ w. same_path (path_or_root path.now) w.path) (writers_among (entry.now ∷ [])) }
 {
     match entry {
-        Some(OpenFile::Writing(writer)) => writer.path.is_path_of_bytes(path),
+        Some(OpenFile::Writing(writer)) => writer.path.has_bytes(path),
         _ => false,
     }
 }
 
-fn is_path_of_open_file_among(entries: &[Option<OpenFile>], path: &[u8]) -> bool
-    requires { is_some (path_of_bytes path.now) ≡ true }
-    ensures { result ≡ list_any (is_open_at_matching_path (same_path (path_of_bytes_or_root path.now))) entries.now }
+fn files_have_path(entries: &[Option<OpenFile>], path: &[u8]) -> bool
+    requires { is_some (parse_path path.now) ≡ true }
+    ensures { result ≡ list_any (is_open_where (same_path (path_or_root path.now))) entries.now }
 {
     for entry in entries {
-        if is_file_open_at_path(entry, path) {
+        if is_path_open(entry, path) {
             return true;
         }
     }
     false
 }
 
-fn is_file_open_at_path(entry: &Option<OpenFile>, path: &[u8]) -> bool
-    requires { is_some (path_of_bytes path.now) ≡ true }
-    ensures { result ≡ is_open_at_matching_path (same_path (path_of_bytes_or_root path.now)) entry.now }
+fn is_path_open(entry: &Option<OpenFile>, path: &[u8]) -> bool
+    requires { is_some (parse_path path.now) ≡ true }
+    ensures { result ≡ is_open_where (same_path (path_or_root path.now)) entry.now }
 {
     match entry {
-        Some(OpenFile::Reading(reader)) => reader.path.is_path_of_bytes(path),
-        Some(OpenFile::Writing(writer)) => writer.path.is_path_of_bytes(path),
+        Some(OpenFile::Reading(reader)) => reader.path.has_bytes(path),
+        Some(OpenFile::Writing(writer)) => writer.path.has_bytes(path),
         None => false,
     }
 }
@@ -571,14 +571,14 @@ fn reader_count(entries: &[Option<OpenFile>]) -> usize
 }
 
 fn is_reader(entry: &Option<OpenFile>) -> bool
-    ensures { result ≡ is_some (reader_of_open_file_or_none entry.now) }
+    ensures { result ≡ is_some (open_reader entry.now) }
 {
     matches!(entry, Some(OpenFile::Reading(_)))
 }
 
 // Returns the least number that isn't open.
-fn find_free_file_number(entries: &[Option<OpenFile>]) -> usize
-    ensures { result ≡ lowest_free_number_of_runtime_files entries.now }
+fn free_number(entries: &[Option<OpenFile>]) -> usize
+    ensures { result ≡ lowest_free entries.now }
 {
     let mut number = 0;
     for entry in entries {
@@ -591,7 +591,7 @@ fn find_free_file_number(entries: &[Option<OpenFile>]) -> usize
 }
 
 // Puts an entry under a number, which is the next one at most.
-fn set_table_entry_at_number(
+fn set_table_entry(
     entries: &mut Vec<Option<OpenFile>>,
     number: usize,
     entry: Option<OpenFile>,
@@ -599,7 +599,7 @@ fn set_table_entry_at_number(
     requires inside { number ≤ vec_len entries.old }
     requires few { number < 17 }
     ensures few { vec_len entries.old ≤ 17 → vec_len entries.new ≤ 17 }
-    ensures put { OnOk result (entries.new.items ≡ open_files_with_entry_at_number entries.old.items number entry) }
+    ensures put { OnOk result (entries.new.items ≡ runtime_files_with entries.old.items number entry) }
     ensures same { OnErr result (entries.new.items ≡ entries.old.items) }
     ensures error { IfErr result (λ e. e ≡ Error.NoMemory) }
 {
@@ -615,29 +615,29 @@ fn set_table_entry_at_number(
 
 // Returns whether an open file prevents a rename: one at the first path, which is an entry's, or
 // beneath it, or one at the second path.
-fn is_rename_prevented_among(entries: &[Option<OpenFile>], from: &[u8], to: &[u8]) -> bool
-    requires entry { is_root_or_invalid_path (path_of_bytes from.now) ≡ false }
-    requires given { is_some (path_of_bytes to.now) ≡ true }
-    ensures { result ≡ list_any (is_open_at_matching_path (open_file_path_prevents_rename (path_of_bytes_or_root from.now) (path_of_bytes_or_root to.now))) entries.now }
+fn files_prevent_rename(entries: &[Option<OpenFile>], from: &[u8], to: &[u8]) -> bool
+    requires entry { is_unusable (parse_path from.now) ≡ false }
+    requires given { is_some (parse_path to.now) ≡ true }
+    ensures { result ≡ list_any (is_open_where (open_prevents_rename (path_or_root from.now) (path_or_root to.now))) entries.now }
 {
     for entry in entries {
-        if is_rename_prevented_by_file(entry, from, to) {
+        if file_prevents_rename(entry, from, to) {
             return true;
         }
     }
     false
 }
 
-fn is_rename_prevented_by_file(entry: &Option<OpenFile>, from: &[u8], to: &[u8]) -> bool
-    requires entry { is_root_or_invalid_path (path_of_bytes from.now) ≡ false }
-    requires given { is_some (path_of_bytes to.now) ≡ true }
-    ensures { result ≡ is_open_at_matching_path (open_file_path_prevents_rename (path_of_bytes_or_root from.now) (path_of_bytes_or_root to.now)) entry.now }
+fn file_prevents_rename(entry: &Option<OpenFile>, from: &[u8], to: &[u8]) -> bool
+    requires entry { is_unusable (parse_path from.now) ≡ false }
+    requires given { is_some (parse_path to.now) ≡ true }
+    ensures { result ≡ is_open_where (open_prevents_rename (path_or_root from.now) (path_or_root to.now)) entry.now }
 {
     match entry {
         Some(OpenFile::Reading(reader)) => reader.path.is_within(from)
-            || reader.path.is_path_of_bytes(to),
+            || reader.path.has_bytes(to),
         Some(OpenFile::Writing(writer)) => writer.path.is_within(from)
-            || writer.path.is_path_of_bytes(to),
+            || writer.path.has_bytes(to),
         None => false,
     }
 }

@@ -2,7 +2,7 @@
 
 ghost use Rattle.std.specs.Prelude.{◌≡◌};
 ghost use Rattle.lfs_tag.specs.FieldsView.{move_view};
-ghost use Rattle.lfs_fs.specs.GstateView.{reply_of_returned_gstate, reply_of_disk_gstate};
+ghost use Rattle.lfs_fs.specs.GstateView.{returned_gstate_reply, disk_reply_gstate};
 
 use lfs_tag::MoveState;
 use lfs_tag::kinds::DELETE;
@@ -17,8 +17,8 @@ pub struct Gstate {
     pub moving: Option<([u32; 2], u16)>,
 }
 
-pub(crate) fn gstate_from_move_state(state: &MoveState) -> Gstate
-    ensures { reply_of_returned_gstate result ≡ reply_of_disk_gstate (move_view state.now) }
+pub(crate) fn gstate_from_move(state: &MoveState) -> Gstate
+    ensures { returned_gstate_reply result ≡ disk_reply_gstate (move_view state.now) }
 {
     let moving = if state.kind == DELETE {
         Some((state.pair, state.id))

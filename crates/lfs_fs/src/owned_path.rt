@@ -1,12 +1,12 @@
 // Paths of open files.
 
 ghost use Rattle.std.specs.Prelude.{◌≡◌, false, true, IfOk, IfErr, is_some};
-ghost use Rattle.lfs_model.specs.Operations.{path_of_bytes};
-ghost use Rattle.lfs_model.specs.Refusals.{path_of_bytes_or_root, is_root_or_invalid_path};
-ghost use Rattle.lfs_model.specs.TreeEdits.{path_without_prefix, same_path};
-ghost use Rattle.lfs_model.specs.Names.{same_name};
+ghost use Rattle.lfs_model.specs.session.Operations.{parse_path};
+ghost use Rattle.lfs_model.specs.session.Refusals.{path_or_root, is_unusable};
+ghost use Rattle.lfs_model.specs.session.TreeEdits.{without_prefix, same_path};
+ghost use Rattle.lfs_model.specs.format.Names.{same_name};
 
-use crate::rename_checks::is_path_at_or_beneath;
+use crate::rename_checks::at_or_beneath;
 use lfs_device::Error;
 use lfs_lookup::Path;
 use std::alloc::Global;
@@ -20,15 +20,15 @@ pub struct OwnedPath {
 
 impl Model for OwnedPath {
     ghost use Rattle.std.specs.Prelude.{◌≡◌, true, is_some};
-    ghost use Rattle.lfs_model.specs.Operations.{path_of_bytes};
-    ghost use Rattle.lfs_model.specs.Refusals.{path_of_bytes_or_root};
-    ghost use Rattle.lfs_model.specs.Tree.{Path};
+    ghost use Rattle.lfs_model.specs.session.Operations.{parse_path};
+    ghost use Rattle.lfs_model.specs.session.Refusals.{path_or_root};
+    ghost use Rattle.lfs_model.specs.tree.Tree.{Path};
 
     ghost Value = { Path };
 
-    ghost view = { λ p. path_of_bytes_or_root p.bytes.items };
+    ghost view = { λ p. path_or_root p.bytes.items };
 
-    ghost invariant = { λ p. is_some (path_of_bytes p.bytes.items) ≡ true };
+    ghost invariant = { λ p. is_some (parse_path p.bytes.items) ≡ true };
 }
 
 impl OwnedPath {
@@ -36,8 +36,8 @@ impl OwnedPath {
     ///
     /// Errors: `AllocError` where memory for them isn't granted.
     pub fn of(alloc: Global, bytes: &[u8]) -> Result<OwnedPath, Error>
-        requires { is_some (path_of_bytes bytes.now) ≡ true }
-        ensures path { IfOk result (λ path. path ≡ path_of_bytes_or_root bytes.now) }
+        requires { is_some (parse_path bytes.now) ≡ true }
+        ensures path { IfOk result (λ path. path ≡ path_or_root bytes.now) }
         ensures error { IfErr result (λ e. e ≡ Error.NoMemory) }
     {
         match Vec::from_slice(alloc, bytes) {
@@ -54,23 +54,23 @@ impl OwnedPath {
     }
 
     // Returns whether this is the path of these bytes.
-    pub(crate) fn is_path_of_bytes(&self, bytes: &[u8]) -> bool
-        requires { is_some (path_of_bytes bytes.now) ≡ true }
-        ensures { result ≡ same_path (path_of_bytes_or_root bytes.now) self.now }
+    pub(crate) fn has_bytes(&self, bytes: &[u8]) -> bool
+        requires { is_some (parse_path bytes.now) ≡ true }
+        ensures { result ≡ same_path (path_or_root bytes.now) self.now }
     {
-        are_same_path_bytes(self.bytes.as_slice(), bytes)
+        same_path_bytes(self.bytes.as_slice(), bytes)
     }
 
     // Returns whether this is the path of these bytes, which are an entry's, or is beneath it.
     pub(crate) fn is_within(&self, bytes: &[u8]) -> bool
-        requires { is_root_or_invalid_path (path_of_bytes bytes.now) ≡ false }
-        ensures { result ≡ is_some (path_without_prefix (path_of_bytes_or_root bytes.now) self.now) }
+        requires { is_unusable (parse_path bytes.now) ≡ false }
+        ensures { result ≡ is_some (without_prefix (path_or_root bytes.now) self.now) }
     {
-        is_path_at_or_beneath(bytes, self.bytes.as_slice())
+        at_or_beneath(bytes, self.bytes.as_slice())
     }
 }
 
-pub(crate) fn are_same_path_bytes(bytes: &[u8], other: &[u8]) -> bool
+pub(crate) fn same_path_bytes(bytes: &[u8], other: &[u8]) -> bool
     ensures { result ≡ same_name bytes.now other.now }
 {
     bytes == other

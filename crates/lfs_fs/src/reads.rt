@@ -1,13 +1,13 @@
 // The bytes that an open reader returns.
 
 ghost use Rattle.std.specs.Prelude.{◌≡◌, ◌+◌, ◌<◌, ◌^◌, ℕ, List, drop, false, take, IfOk, OnOk, vec_len};
-ghost use Rattle.lfs_model.specs.Tree.{Path};
-ghost use Rattle.lfs_model.specs.TreeEdits.{file_bytes_of_node};
-ghost use Rattle.lfs_fs.specs.SessionView.{IsReaderOfCurrentContentsWithoutWriter};
-ghost use Rattle.lfs_file.specs.Known.{AreKnownListBlocks, ReadsKnownList};
-ghost use Rattle.lfs_lookup.specs.FileContents.{struct_of_file_contents};
-ghost use Rattle.lfs_model.specs.Shown.{skip_list_blocks_of_struct};
-ghost use Rattle.lfs_model.specs.Slots.{Ctz, Inline};
+ghost use Rattle.lfs_model.specs.tree.Tree.{Path};
+ghost use Rattle.lfs_model.specs.session.TreeEdits.{file_bytes};
+ghost use Rattle.lfs_fs.specs.SessionView.{IsCurrentReader};
+ghost use Rattle.lfs_file.specs.Known.{AreKnownBlocks, ReadsKnownList};
+ghost use Rattle.lfs_lookup.specs.FileContents.{contents_struct};
+ghost use Rattle.lfs_model.specs.tree.Shown.{struct_blocks};
+ghost use Rattle.lfs_model.specs.format.Slots.{Ctz, Inline};
 ghost use Rattle.lfs_tree.specs.TreeState.{OnlyReadsTreeOrFails, tree_view};
 
 use crate::files::Reader;
@@ -27,14 +27,14 @@ pub(crate) fn bytes_for_reader<D: BlockDevice>(
     count: u32,
 ) -> Result<Vec<u8>, Error>
     requires works { tree.old.failed ≡ false }
-    requires kept { (written : List Path) × IsReaderOfCurrentContentsWithoutWriter tree.old.pairs written reader.now }
-    requires blocks { AreKnownListBlocks (skip_list_blocks_of_struct tree.old.disk (struct_of_file_contents reader.now.contents)) known.old }
+    requires kept { (written : List Path) × IsCurrentReader tree.old.pairs written reader.now }
+    requires blocks { AreKnownBlocks (struct_blocks tree.old.disk (contents_struct reader.now.contents)) known.old }
     ensures reading { OnlyReadsTreeOrFails tree.old result tree.new }
-    ensures bytes { IfOk result (λ v. v.items ≡ take count (drop reader.now.position (file_bytes_of_node (tree_view tree.old reader.now.path)))) }
+    ensures bytes { IfOk result (λ v. v.items ≡ take count (drop reader.now.position (file_bytes (tree_view tree.old reader.now.path)))) }
     ensures end { IfOk result (λ v. reader.now.position + vec_len v < 2 ^ 32) }
-    ensures blocks { AreKnownListBlocks (skip_list_blocks_of_struct tree.old.disk (struct_of_file_contents reader.now.contents)) known.new }
-    ensures none { (own : List ℕ) → struct_of_file_contents reader.now.contents ≡ Inline own → tree.new.history ≡ tree.old.history }
-    ensures few { (head size : ℕ) → struct_of_file_contents reader.now.contents ≡ Ctz head size → OnOk result (ReadsKnownList tree.old.disk.block_size size reader.now.position count known.old known.new tree.old.history tree.new.history) }
+    ensures blocks { AreKnownBlocks (struct_blocks tree.old.disk (contents_struct reader.now.contents)) known.new }
+    ensures none { (own : List ℕ) → contents_struct reader.now.contents ≡ Inline own → tree.new.history ≡ tree.old.history }
+    ensures few { (head size : ℕ) → contents_struct reader.now.contents ≡ Ctz head size → OnOk result (ReadsKnownList tree.old.disk.block_size size reader.now.position count known.old known.new tree.old.history tree.new.history) }
 {
     let left = tree
         .size_of_contents(&reader.contents)

@@ -1,12 +1,12 @@
 // Operations and their replies.
 
 ghost use Rattle.std.specs.Prelude.{◌≡◌, map, IfOk};
-ghost use Rattle.lfs_model.specs.Operations as operations;
-ghost use Rattle.lfs_lookup.specs.Finds.{list_item_view, stat_view};
-ghost use Rattle.lfs_lookup.specs.Refusals.{is_refusal};
-ghost use Rattle.lfs_fs.specs.GstateView.{reply_of_returned_gstate};
-ghost use Rattle.lfs_fs.specs.Replies.{reply_from_result};
-ghost use Rattle.lfs_fs.specs.OpView.{RefusesOnlyWithRefusalError, reply_result_view};
+ghost use Rattle.lfs_model.specs.session.Operations as operations;
+ghost use Rattle.lfs_lookup.specs.Finds.{listed_item_view, stat_view};
+ghost use Rattle.lfs_lookup.specs.RefusalErrors.{is_refusal};
+ghost use Rattle.lfs_fs.specs.GstateView.{returned_gstate_reply};
+ghost use Rattle.lfs_fs.specs.Replies.{reply_from};
+ghost use Rattle.lfs_fs.specs.OpView.{RefusesOnly, result_view};
 
 use crate::files::Fd;
 use crate::flags::OpenFlags;
@@ -92,8 +92,8 @@ fn is_refusal(error: Error) -> bool
 }
 
 fn refused_reply(error: Error) -> Result<Reply, Error>
-    ensures seen { reply_result_view result ≡ reply_from_result (λ r. r) (Err error) }
-    ensures named { IfOk result RefusesOnlyWithRefusalError }
+    ensures seen { result_view result ≡ reply_from (λ r. r) (Err error) }
+    ensures named { IfOk result RefusesOnly }
 {
     if is_refusal(error) {
         Ok(Reply::Refused(error))
@@ -102,9 +102,9 @@ fn refused_reply(error: Error) -> Result<Reply, Error>
     }
 }
 
-pub(crate) fn reply_of_unit_result(answer: Result<(), Error>) -> Result<Reply, Error>
-    ensures seen { reply_result_view result ≡ reply_from_result (λ _. operations.Done) answer }
-    ensures named { IfOk result RefusesOnlyWithRefusalError }
+pub(crate) fn reply_of_unit(answer: Result<(), Error>) -> Result<Reply, Error>
+    ensures seen { result_view result ≡ reply_from (λ _. operations.Done) answer }
+    ensures named { IfOk result RefusesOnly }
 {
     match answer {
         Ok(()) => Ok(Reply::Done),
@@ -112,9 +112,9 @@ pub(crate) fn reply_of_unit_result(answer: Result<(), Error>) -> Result<Reply, E
     }
 }
 
-pub(crate) fn reply_of_fd_result(answer: Result<Fd, Error>) -> Result<Reply, Error>
-    ensures seen { reply_result_view result ≡ reply_from_result operations.Opened answer }
-    ensures named { IfOk result RefusesOnlyWithRefusalError }
+pub(crate) fn reply_of_fd(answer: Result<Fd, Error>) -> Result<Reply, Error>
+    ensures seen { result_view result ≡ reply_from operations.Opened answer }
+    ensures named { IfOk result RefusesOnly }
 {
     match answer {
         Ok(fd) => Ok(Reply::Fd(fd)),
@@ -122,9 +122,9 @@ pub(crate) fn reply_of_fd_result(answer: Result<Fd, Error>) -> Result<Reply, Err
     }
 }
 
-pub(crate) fn reply_of_bytes_result(answer: Result<Vec<u8>, Error>) -> Result<Reply, Error>
-    ensures seen { reply_result_view result ≡ reply_from_result (λ v. operations.Bytes v.items) answer }
-    ensures named { IfOk result RefusesOnlyWithRefusalError }
+pub(crate) fn reply_of_bytes(answer: Result<Vec<u8>, Error>) -> Result<Reply, Error>
+    ensures seen { result_view result ≡ reply_from (λ v. operations.Bytes v.items) answer }
+    ensures named { IfOk result RefusesOnly }
 {
     match answer {
         Ok(bytes) => Ok(Reply::Bytes(bytes)),
@@ -132,9 +132,9 @@ pub(crate) fn reply_of_bytes_result(answer: Result<Vec<u8>, Error>) -> Result<Re
     }
 }
 
-pub(crate) fn reply_of_count_result(answer: Result<u32, Error>) -> Result<Reply, Error>
-    ensures seen { reply_result_view result ≡ reply_from_result operations.Count answer }
-    ensures named { IfOk result RefusesOnlyWithRefusalError }
+pub(crate) fn reply_of_count(answer: Result<u32, Error>) -> Result<Reply, Error>
+    ensures seen { result_view result ≡ reply_from operations.Count answer }
+    ensures named { IfOk result RefusesOnly }
 {
     match answer {
         Ok(count) => Ok(Reply::Count(count)),
@@ -142,9 +142,9 @@ pub(crate) fn reply_of_count_result(answer: Result<u32, Error>) -> Result<Reply,
     }
 }
 
-pub(crate) fn reply_of_items_result(answer: Result<Vec<Item>, Error>) -> Result<Reply, Error>
-    ensures seen { reply_result_view result ≡ reply_from_result (λ items. operations.Items (map list_item_view items.items)) answer }
-    ensures named { IfOk result RefusesOnlyWithRefusalError }
+pub(crate) fn reply_of_items(answer: Result<Vec<Item>, Error>) -> Result<Reply, Error>
+    ensures seen { result_view result ≡ reply_from (λ items. operations.Items (map listed_item_view items.items)) answer }
+    ensures named { IfOk result RefusesOnly }
 {
     match answer {
         Ok(items) => Ok(Reply::Items(items)),
@@ -152,9 +152,9 @@ pub(crate) fn reply_of_items_result(answer: Result<Vec<Item>, Error>) -> Result<
     }
 }
 
-pub(crate) fn reply_of_stat_result(answer: Result<Stat, Error>) -> Result<Reply, Error>
-    ensures seen { reply_result_view result ≡ reply_from_result (λ stat. operations.StatIs (stat_view stat)) answer }
-    ensures named { IfOk result RefusesOnlyWithRefusalError }
+pub(crate) fn reply_of_stat(answer: Result<Stat, Error>) -> Result<Reply, Error>
+    ensures seen { result_view result ≡ reply_from (λ stat. operations.StatIs (stat_view stat)) answer }
+    ensures named { IfOk result RefusesOnly }
 {
     match answer {
         Ok(stat) => Ok(Reply::Stat(stat)),
@@ -162,9 +162,9 @@ pub(crate) fn reply_of_stat_result(answer: Result<Stat, Error>) -> Result<Reply,
     }
 }
 
-pub(crate) fn reply_of_gstate_result(answer: Result<Gstate, Error>) -> Result<Reply, Error>
-    ensures seen { reply_result_view result ≡ reply_from_result reply_of_returned_gstate answer }
-    ensures named { IfOk result RefusesOnlyWithRefusalError }
+pub(crate) fn reply_of_gstate(answer: Result<Gstate, Error>) -> Result<Reply, Error>
+    ensures seen { result_view result ≡ reply_from returned_gstate_reply answer }
+    ensures named { IfOk result RefusesOnly }
 {
     match answer {
         Ok(gstate) => Ok(Reply::Gstate(gstate)),
@@ -172,9 +172,9 @@ pub(crate) fn reply_of_gstate_result(answer: Result<Gstate, Error>) -> Result<Re
     }
 }
 
-pub(crate) fn reply_of_bool_result(answer: Result<bool, Error>) -> Result<Reply, Error>
-    ensures seen { reply_result_view result ≡ reply_from_result operations.Yes answer }
-    ensures named { IfOk result RefusesOnlyWithRefusalError }
+pub(crate) fn reply_of_bool(answer: Result<bool, Error>) -> Result<Reply, Error>
+    ensures seen { result_view result ≡ reply_from operations.Yes answer }
+    ensures named { IfOk result RefusesOnly }
 {
     match answer {
         Ok(yes) => Ok(Reply::Yes(yes)),

@@ -1,59 +1,59 @@
-ghost use Rattle.lfs_model.specs.Operations as ops;
-ghost use Rattle.lfs_model.specs.Operations.{Operation, Reply as Answer};
-ghost use Rattle.lfs_fs.specs.Replies.{reply_from_result};
+ghost use Rattle.lfs_model.specs.session.Operations as ops;
+ghost use Rattle.lfs_model.specs.session.Operations.{Operation, Reply as Answer};
+ghost use Rattle.lfs_fs.specs.Replies.{reply_from};
 ghost use Rattle.std.specs.Prelude.{◌≡◌, ◌⊎◌, ◌++◌, ◌+◌, ◌≤◌, None, Some, false, true, List, [], drop, length, map, take, All, IfOk, IfErr, MatchResult, OnOk};
-ghost use Rattle.lfs_model.specs.Disk.{SameGeometry, disk_in_order};
-ghost use Rattle.lfs_model.specs.Thread.{Pair, blocks_of_pair_address};
-ghost use Rattle.lfs_model.specs.Fresh.{empty_tree};
-ghost use Rattle.lfs_model.specs.Headline.{IsSessionHealthyWithDiskTree, IsSessionAgreeingWithItsDisk};
-ghost use Rattle.lfs_model.specs.History.{fault_count_of_history, read_count_of_history};
-ghost use Rattle.lfs_model.specs.Profile.{superblock_of_image};
-ghost use Rattle.lfs_model.specs.State.{Healthy, session_after_mount};
-ghost use Rattle.lfs_model.specs.Run.{AreSessionSteps, SystemState};
-ghost use Rattle.lfs_model.specs.Performed.{AreStepsSurvivingLossWithinReadBounds};
-ghost use Rattle.lfs_model.specs.RepeatedPowerLoss.{IsJustMounted, MeetsPremisesForSurvivingPowerLoss, IsRunSurvivingPowerLosses};
-ghost use Rattle.lfs_model.specs.PowerLoss.{IsOperationSurvivingPowerLoss};
+ghost use Rattle.lfs_model.specs.format.Disk.{SameGeometry, ordered_disk};
+ghost use Rattle.lfs_model.specs.format.Thread.{Pair, address_blocks};
+ghost use Rattle.lfs_model.specs.tree.Fresh.{empty_tree};
+ghost use Rattle.lfs_model.specs.session.Headline.{HasDiskTree, SessionMatchesDisk};
+ghost use Rattle.lfs_model.specs.session.History.{fault_count, read_count};
+ghost use Rattle.lfs_model.specs.tree.Profile.{image_fields};
+ghost use Rattle.lfs_model.specs.session.State.{Healthy, mounted_session};
+ghost use Rattle.lfs_model.specs.session.Run.{AreSteps, SystemState};
+ghost use Rattle.lfs_model.specs.crash.Performed.{AreSafeSteps};
+ghost use Rattle.lfs_model.specs.crash.RepeatedPowerLoss.{IsMounted, MeetsRunPremises, CrashSafe};
+ghost use Rattle.lfs_model.specs.crash.PowerLoss.{SurvivesPowerLoss};
 ghost use Rattle.lfs_model.specs.declared.order.NameOrder.{NameOrder};
 ghost use Rattle.lfs_model.specs.declared.order.NameOrder.TheVariants.{LongerFirst, ShorterFirst};
-ghost use Rattle.lfs_thread.specs.Device.{GivesDeviceBackOnlyReadWithError};
-ghost use Rattle.lfs_thread.specs.Kept.{disk_of_device, kept_thread_in_order};
-ghost use Rattle.lfs_model.specs.Thread.{anchor_pair_address};
-ghost use Rattle.lfs_model.specs.View.{IsAcceptedImage};
-ghost use Rattle.lfs_lookup.specs.Finds.{list_item_view, stat_view};
-ghost use Rattle.lfs_lookup.specs.Refusals.{is_refusal};
+ghost use Rattle.lfs_thread.specs.ThreadDevice.{GivesDeviceBackOnlyReadWithError};
+ghost use Rattle.lfs_thread.specs.Kept.{disk_of_device, kept_in_order};
+ghost use Rattle.lfs_model.specs.format.Thread.{anchor_address};
+ghost use Rattle.lfs_model.specs.tree.View.{IsAccepted};
+ghost use Rattle.lfs_lookup.specs.Finds.{listed_item_view, stat_view};
+ghost use Rattle.lfs_lookup.specs.RefusalErrors.{is_refusal};
 ghost use Rattle.lfs_tag.specs.FieldsView.{superblock_view};
-ghost use Rattle.lfs_tree.specs.Formats.{FailedFormatSparesOtherBlocks, IsFreshlyFormatted, WritesFirstTwoBlocks};
-ghost use Rattle.lfs_tree.specs.TreeState.{kept_thread_of_tree_state};
-ghost use Rattle.lfs_fs.specs.GstateView.{reply_of_returned_gstate};
-ghost use Rattle.lfs_fs.specs.ImageLimits.{HasSessionFailedByRead, WasWorkingSessionRead};
-ghost use Rattle.lfs_fs.specs.SessionView.{IsSessionBegunByMount, EndsRunByError, system_state_of_session_view};
+ghost use Rattle.lfs_tree.specs.Formats.{FailedFormatSparesOtherBlocks, IsFormatted, WritesFirstTwo};
+ghost use Rattle.lfs_tree.specs.TreeState.{kept_thread};
+ghost use Rattle.lfs_fs.specs.GstateView.{returned_gstate_reply};
+ghost use Rattle.lfs_fs.specs.ImageLimits.{FailedByRead, WasSessionRead};
+ghost use Rattle.lfs_fs.specs.SessionView.{BeginsByMount, EndsRun, system_state};
 ghost use Rattle.lfs_fs.specs.FlagsView.{flags_view};
-ghost use Rattle.lfs_fs.specs.OpView.{RefusesOnlyWithRefusalError, op_view, reply_result_view, reply_view};
-ghost use Rattle.lfs_fs.specs.CallEffects.{IsSessionCallWithResult};
-ghost use Rattle.lfs_fs.specs.ReaderReads.{TakesFewDeviceReads};
-ghost use Rattle.lfs_fs.specs.FileAnswers.{AnswersOfOpenFile, position_of_open_file, size_of_open_file};
+ghost use Rattle.lfs_fs.specs.OpView.{RefusesOnly, op_view, result_view, reply_view};
+ghost use Rattle.lfs_fs.specs.CallEffects.{IsCall};
+ghost use Rattle.lfs_fs.specs.ReaderReads.{ReadsFew};
+ghost use Rattle.lfs_fs.specs.FileAnswers.{FileAnswersOf, file_position, file_size};
 
 use crate::checks::{
-    check_and_find_contents_for_reader, check_and_get_attr, check_and_list, check_and_stat,
-    check_is_file_open, check_is_file_open_for_sync, check_mkdir, check_open_writer, check_remove,
+    check_open_reader, check_get_attr, check_and_list, check_and_stat,
+    check_open, check_sync_file, check_mkdir, check_open_writer, check_remove,
     check_remove_attr, check_seek, check_set_attr, check_truncate, check_write,
 };
-use crate::device_laws::show_conforming_device_calls_to_proof;
+use crate::device_laws::lemma_calls_conform;
 use crate::files::{Fd, Files, OpenFile};
 use crate::flags::OpenFlags;
-use crate::gstate::{Gstate, gstate_from_move_state};
-use crate::open_files::tree_changes_spare_open_files;
+use crate::gstate::{Gstate, gstate_from_move};
+use crate::open_files::lemma_files_stay;
 use crate::owned_path::OwnedPath;
 use crate::reads::bytes_for_reader;
 use crate::rename_checks::check_rename;
 use crate::run::{
-    Op, Reply, reply_of_bool_result, reply_of_bytes_result, reply_of_count_result,
-    reply_of_fd_result, reply_of_gstate_result, reply_of_items_result, reply_of_stat_result,
-    reply_of_unit_result,
+    Op, Reply, reply_of_bool, reply_of_bytes, reply_of_count,
+    reply_of_fd, reply_of_gstate, reply_of_items, reply_of_stat,
+    reply_of_unit,
 };
 use crate::writers::{
-    create_file_and_open_writer, writer_after_saving, writer_after_truncating,
-    writer_of_existing_file,
+    create_and_open, writer_after_saving, writer_after_truncating,
+    existing_file_writer,
 };
 use bitflags::Flags;
 use lfs_device::{BlockDevice, Error};
@@ -82,14 +82,14 @@ pub struct Session<D: BlockDevice> {
 }
 
 impl<D: BlockDevice> Model for Session<D> {
-    ghost use Rattle.lfs_fs.specs.SessionView.{SessionView, session_view_of_tree_and_files};
-    ghost use Rattle.lfs_fs.specs.DeviceLaws.{HasSessionInvariant};
+    ghost use Rattle.lfs_fs.specs.SessionView.{SessionView, view_of_session};
+    ghost use Rattle.lfs_fs.specs.DeviceLaws.{HasInvariant};
 
     ghost Value = { SessionView };
 
-    ghost view = { λ s. session_view_of_tree_and_files s.tree s.files };
+    ghost view = { λ s. view_of_session s.tree s.files };
 
-    ghost invariant = { λ s. HasSessionInvariant s.tree s.files };
+    ghost invariant = { λ s. HasInvariant s.tree s.files };
 }
 
 impl<D: BlockDevice> Session<D> {
@@ -101,7 +101,7 @@ impl<D: BlockDevice> Session<D> {
     /// `Invalid` where the path isn't well formed; `NoEnt` or `NotDir` where a parent is missing or
     /// is a file; `NoEnt` where no entry is there.
     pub fn stat(&mut self, alloc: Global, path: &[u8]) -> Result<Stat, Error>
-        ensures { IsSessionCallWithResult self.old (ops.Stat path.now) (reply_from_result (λ stat. ops.StatIs (stat_view stat)) result) self.new }
+        ensures { IsCall self.old (ops.Stat path.now) (reply_from (λ stat. ops.StatIs (stat_view stat)) result) self.new }
     {
         check_and_stat(alloc, &mut self.tree, &self.files, path)
     }
@@ -114,7 +114,7 @@ impl<D: BlockDevice> Session<D> {
     /// `Invalid` where the path isn't well formed; `NoEnt` or `NotDir` where a parent is missing or
     /// is a file; `NoEnt` where no entry is there; `NotDir` where a file is there.
     pub fn list(&mut self, alloc: Global, path: &[u8]) -> Result<Vec<Item>, Error>
-        ensures { IsSessionCallWithResult self.old (ops.ListAll path.now) (reply_from_result (λ items. ops.Items (map list_item_view items.items)) result) self.new }
+        ensures { IsCall self.old (ops.ListAll path.now) (reply_from (λ items. ops.Items (map listed_item_view items.items)) result) self.new }
     {
         check_and_list(alloc, &mut self.tree, &self.files, path)
     }
@@ -128,20 +128,20 @@ impl<D: BlockDevice> Session<D> {
     /// parent is missing or is a file; `NoEnt` where no entry is there; `NoAttr` where the entry
     /// has none of that type.
     pub fn get_attr(&mut self, alloc: Global, path: &[u8], kind: u8) -> Result<Vec<u8>, Error>
-        ensures { IsSessionCallWithResult self.old (ops.GetAttr path.now kind) (reply_from_result (λ v. ops.Bytes v.items) result) self.new }
+        ensures { IsCall self.old (ops.GetAttr path.now kind) (reply_from (λ v. ops.Bytes v.items) result) self.new }
     {
-        check_and_get_attr(alloc, &mut self.tree, &self.files, path, kind)
+        check_get_attr(alloc, &mut self.tree, &self.files, path, kind)
     }
 
     /// Returns the global state. The call makes no call of the device, and is never refused but in
     /// a failed session.
     pub fn gstate(&self) -> Result<Gstate, Error>
-        ensures { IsSessionCallWithResult self.now ops.AskGstate (reply_from_result reply_of_returned_gstate result) self.now }
+        ensures { IsCall self.now ops.AskGstate (reply_from returned_gstate_reply result) self.now }
     {
         if self.tree.has_failed() {
             return Err(Error::Failed);
         }
-        Ok(gstate_from_move_state(&self.tree.gstate()))
+        Ok(gstate_from_move(&self.tree.gstate()))
     }
 
     /// Returns whether the image uses a block. The call makes no call of the device.
@@ -150,7 +150,7 @@ impl<D: BlockDevice> Session<D> {
     ///
     /// `Invalid` where the image has no such block.
     pub fn is_used(&self, block: u32) -> Result<bool, Error>
-        ensures { IsSessionCallWithResult self.now (ops.IsUsed block) (reply_from_result ops.Yes result) self.now }
+        ensures { IsCall self.now (ops.IsUsed block) (reply_from ops.Yes result) self.now }
     {
         if self.tree.has_failed() {
             return Err(Error::Failed);
@@ -164,7 +164,7 @@ impl<D: BlockDevice> Session<D> {
     /// Returns how many blocks the image uses. The call makes no call of the device, and is never
     /// refused but in a failed session.
     pub fn used_count(&self) -> Result<u32, Error>
-        ensures { IsSessionCallWithResult self.now ops.UsedCount (reply_from_result ops.Count result) self.now }
+        ensures { IsCall self.now ops.UsedCount (reply_from ops.Count result) self.now }
     {
         if self.tree.has_failed() {
             return Err(Error::Failed);
@@ -182,12 +182,12 @@ impl<D: BlockDevice> Session<D> {
     /// there; `EntryFull` where the name takes too much of a metadata pair; `NoSpace` where fewer
     /// than four blocks are free.
     pub fn mkdir(&mut self, alloc: Global, path: &[u8]) -> Result<(), Error>
-        ensures { IsSessionCallWithResult self.old (ops.Mkdir path.now) (reply_from_result (λ _. ops.Done) result) self.new }
+        ensures { IsCall self.old (ops.Mkdir path.now) (reply_from (λ _. ops.Done) result) self.new }
     {
-        tree_changes_spare_open_files();
+        lemma_files_stay();
         let path = check_mkdir(alloc, &mut self.tree, &self.files, path)?;
         let answer = self.tree.mkdir(alloc, &path);
-        show_conforming_device_calls_to_proof(&self.tree);
+        lemma_calls_conform(&self.tree);
         answer
     }
 
@@ -200,12 +200,12 @@ impl<D: BlockDevice> Session<D> {
     /// where no entry is there; `NotEmpty` where a directory has entries; `Busy` where the file is
     /// open.
     pub fn remove(&mut self, alloc: Global, path: &[u8]) -> Result<(), Error>
-        ensures { IsSessionCallWithResult self.old (ops.Remove path.now) (reply_from_result (λ _. ops.Done) result) self.new }
+        ensures { IsCall self.old (ops.Remove path.now) (reply_from (λ _. ops.Done) result) self.new }
     {
-        tree_changes_spare_open_files();
+        lemma_files_stay();
         let path = check_remove(alloc, &mut self.tree, &self.files, path)?;
         let answer = self.tree.remove(alloc, &path);
-        show_conforming_device_calls_to_proof(&self.tree);
+        lemma_calls_conform(&self.tree);
         answer
     }
 
@@ -224,9 +224,9 @@ impl<D: BlockDevice> Session<D> {
     /// the old path, beneath it or at the new path is open; `EntryFull` where the new name and the
     /// attributes take too much of a metadata pair; `NoSpace` where fewer than two blocks are free.
     pub fn rename(&mut self, alloc: Global, from: &[u8], to: &[u8]) -> Result<(), Error>
-        ensures { IsSessionCallWithResult self.old (ops.Rename from.now to.now) (reply_from_result (λ _. ops.Done) result) self.new }
+        ensures { IsCall self.old (ops.Rename from.now to.now) (reply_from (λ _. ops.Done) result) self.new }
     {
-        tree_changes_spare_open_files();
+        lemma_files_stay();
         let renaming = check_rename(alloc, &mut self.tree, &self.files, from, to)?;
         if renaming.is_same {
             return Ok(());
@@ -234,7 +234,7 @@ impl<D: BlockDevice> Session<D> {
         let answer = self
             .tree
             .rename(alloc, &renaming.from, &renaming.to, renaming.targets);
-        show_conforming_device_calls_to_proof(&self.tree);
+        lemma_calls_conform(&self.tree);
         answer
     }
 
@@ -256,12 +256,12 @@ impl<D: BlockDevice> Session<D> {
         kind: u8,
         value: &[u8],
     ) -> Result<(), Error>
-        ensures { IsSessionCallWithResult self.old (ops.SetAttr path.now kind value.now) (reply_from_result (λ _. ops.Done) result) self.new }
+        ensures { IsCall self.old (ops.SetAttr path.now kind value.now) (reply_from (λ _. ops.Done) result) self.new }
     {
-        tree_changes_spare_open_files();
+        lemma_files_stay();
         let path = check_set_attr(alloc, &mut self.tree, &self.files, path, kind, value)?;
         let answer = self.tree.set_attr(alloc, &path, kind, value);
-        show_conforming_device_calls_to_proof(&self.tree);
+        lemma_calls_conform(&self.tree);
         answer
     }
 
@@ -273,12 +273,12 @@ impl<D: BlockDevice> Session<D> {
     /// formed or is the root's; `NoEnt` or `NotDir` where a parent is missing or is a file; `NoEnt`
     /// where no entry is there; `NoAttr` where the entry has none of that type.
     pub fn remove_attr(&mut self, alloc: Global, path: &[u8], kind: u8) -> Result<(), Error>
-        ensures { IsSessionCallWithResult self.old (ops.RemoveAttr path.now kind) (reply_from_result (λ _. ops.Done) result) self.new }
+        ensures { IsCall self.old (ops.RemoveAttr path.now kind) (reply_from (λ _. ops.Done) result) self.new }
     {
-        tree_changes_spare_open_files();
+        lemma_files_stay();
         let path = check_remove_attr(alloc, &mut self.tree, &self.files, path, kind)?;
         let answer = self.tree.remove_attr(alloc, &path, kind);
-        show_conforming_device_calls_to_proof(&self.tree);
+        lemma_calls_conform(&self.tree);
         answer
     }
 
@@ -289,9 +289,9 @@ impl<D: BlockDevice> Session<D> {
     ///
     /// `ReadOnly` where the image isn't in the writing profile.
     pub fn recover(&mut self, alloc: Global) -> Result<(), Error>
-        ensures { IsSessionCallWithResult self.old ops.Recover (reply_from_result (λ _. ops.Done) result) self.new }
+        ensures { IsCall self.old ops.Recover (reply_from (λ _. ops.Done) result) self.new }
     {
-        tree_changes_spare_open_files();
+        lemma_files_stay();
         if self.tree.has_failed() {
             return Err(Error::Failed);
         }
@@ -299,16 +299,16 @@ impl<D: BlockDevice> Session<D> {
             return Err(Error::ReadOnly);
         }
         let answer = self.tree.recover(alloc);
-        show_conforming_device_calls_to_proof(&self.tree);
+        lemma_calls_conform(&self.tree);
         answer
     }
 
     // Opens a file for reading.
     fn open_reader(&mut self, alloc: Global, path: &[u8], flags: OpenFlags) -> Result<Fd, Error>
         requires { (flags_view flags).write ≡ false }
-        ensures { IsSessionCallWithResult self.old (ops.Open path.now (flags_view flags)) (reply_from_result ops.Opened result) self.new }
+        ensures { IsCall self.old (ops.Open path.now (flags_view flags)) (reply_from ops.Opened result) self.new }
     {
-        let contents = check_and_find_contents_for_reader(
+        let contents = check_open_reader(
             alloc,
             &mut self.tree,
             &self.files,
@@ -325,32 +325,32 @@ impl<D: BlockDevice> Session<D> {
     // Opens a file for writing.
     fn open_writer(&mut self, alloc: Global, path: &[u8], flags: OpenFlags) -> Result<Fd, Error>
         requires { (flags_view flags).write ≡ true }
-        ensures { IsSessionCallWithResult self.old (ops.Open path.now (flags_view flags)) (reply_from_result ops.Opened result) self.new }
+        ensures { IsCall self.old (ops.Open path.now (flags_view flags)) (reply_from ops.Opened result) self.new }
     {
         let found = check_open_writer(alloc, &mut self.tree, &self.files, path, flags)?;
         let Ok(owned) = OwnedPath::of(alloc, path) else {
             self.tree.fail();
             return Err(Error::NoMemory);
         };
-        let Ok(number) = self.files.reserve_free_file_number() else {
+        let Ok(number) = self.files.reserve_number() else {
             self.tree.fail();
             return Err(Error::NoMemory);
         };
         let writer = match found.size {
             Some(size) => {
-                let answer = writer_of_existing_file(alloc, &mut self.tree, owned, size, flags);
-                show_conforming_device_calls_to_proof(&self.tree);
+                let answer = existing_file_writer(alloc, &mut self.tree, owned, size, flags);
+                lemma_calls_conform(&self.tree);
                 answer?
             }
             None => {
-                let answer = create_file_and_open_writer(
+                let answer = create_and_open(
                     alloc,
                     &mut self.tree,
                     owned,
                     flags,
                     found.target,
                 );
-                show_conforming_device_calls_to_proof(&self.tree);
+                lemma_calls_conform(&self.tree);
                 answer?
             }
         };
@@ -375,7 +375,7 @@ impl<D: BlockDevice> Session<D> {
     /// its name takes too much of a metadata pair; `NoSpace` where fewer than two blocks are free
     /// for a file to create, or with [`TRUNCATE`](OpenFlags::TRUNCATE) too few for the file anew.
     pub fn open(&mut self, alloc: Global, path: &[u8], flags: OpenFlags) -> Result<Fd, Error>
-        ensures { IsSessionCallWithResult self.old (ops.Open path.now (flags_view flags)) (reply_from_result ops.Opened result) self.new }
+        ensures { IsCall self.old (ops.Open path.now (flags_view flags)) (reply_from ops.Opened result) self.new }
     {
         if flags.contains(OpenFlags::WRITE) {
             self.open_writer(alloc, path, flags)
@@ -394,14 +394,14 @@ impl<D: BlockDevice> Session<D> {
     /// have more than 2,147,483,647 bytes, or more than the profile allows; `NoSpace` where too few
     /// blocks are free for what the file would hold.
     pub fn write(&mut self, alloc: Global, fd: Fd, bytes: &[u8]) -> Result<u32, Error>
-        ensures { IsSessionCallWithResult self.old (ops.Write fd bytes.now) (reply_from_result ops.Count result) self.new }
+        ensures { IsCall self.old (ops.Write fd bytes.now) (reply_from ops.Count result) self.new }
     {
         check_write(&self.tree, &self.files, fd, bytes)?;
         if bytes.is_empty() {
             return Ok(0);
         }
         let answer = self.files.write(alloc, &mut self.tree, fd, bytes);
-        show_conforming_device_calls_to_proof(&self.tree);
+        lemma_calls_conform(&self.tree);
         answer?;
         Ok(bytes.len() as u32)
     }
@@ -415,17 +415,17 @@ impl<D: BlockDevice> Session<D> {
     /// 2,147,483,647 bytes, or more than the profile allows; `NoSpace` where too few blocks are
     /// free for what the file would hold.
     pub fn truncate(&mut self, alloc: Global, fd: Fd, size: u32) -> Result<(), Error>
-        ensures { IsSessionCallWithResult self.old (ops.Truncate fd size) (reply_from_result (λ _. ops.Done) result) self.new }
+        ensures { IsCall self.old (ops.Truncate fd size) (reply_from (λ _. ops.Done) result) self.new }
     {
         check_truncate(&self.tree, &self.files, fd, size)?;
-        if self.files.has_writer_of_size(fd, size) {
+        if self.files.has_sized_writer(fd, size) {
             return Ok(());
         }
         let Some(OpenFile::Writing(writer)) = self.files.take(fd) else {
             unreachable!()
         };
         let answer = writer_after_truncating(alloc, &mut self.tree, writer, size);
-        show_conforming_device_calls_to_proof(&self.tree);
+        lemma_calls_conform(&self.tree);
         let writer = answer?;
         self.files.put_back_writer(fd, writer);
         Ok(())
@@ -437,17 +437,17 @@ impl<D: BlockDevice> Session<D> {
     ///
     /// `BadFile` where no file is open under the number.
     pub fn sync(&mut self, alloc: Global, fd: Fd) -> Result<(), Error>
-        ensures { IsSessionCallWithResult self.old (ops.Sync fd) (reply_from_result (λ _. ops.Done) result) self.new }
+        ensures { IsCall self.old (ops.Sync fd) (reply_from (λ _. ops.Done) result) self.new }
     {
-        check_is_file_open_for_sync(&self.tree, &self.files, fd)?;
-        if !self.files.is_unsaved_at_file_number(fd) {
+        check_sync_file(&self.tree, &self.files, fd)?;
+        if !self.files.is_unsaved_at(fd) {
             return Ok(());
         }
         let Some(OpenFile::Writing(writer)) = self.files.take(fd) else {
             unreachable!()
         };
         let answer = writer_after_saving(alloc, &mut self.tree, writer);
-        show_conforming_device_calls_to_proof(&self.tree);
+        lemma_calls_conform(&self.tree);
         let writer = answer?;
         self.files.put_back_writer(fd, writer);
         Ok(())
@@ -465,8 +465,8 @@ impl<D: BlockDevice> Session<D> {
     ///
     /// `BadFile` where no file is open for reading under the number.
     pub fn read(&mut self, alloc: Global, fd: Fd, count: u32) -> Result<Vec<u8>, Error>
-        ensures call { IsSessionCallWithResult self.old (ops.Read fd count) (reply_from_result (λ v. ops.Bytes v.items) result) self.new }
-        ensures few { OnOk result (TakesFewDeviceReads self.old fd count self.new) }
+        ensures call { IsCall self.old (ops.Read fd count) (reply_from (λ v. ops.Bytes v.items) result) self.new }
+        ensures few { OnOk result (ReadsFew self.old fd count self.new) }
     {
         if self.tree.has_failed() {
             return Err(Error::Failed);
@@ -492,9 +492,9 @@ impl<D: BlockDevice> Session<D> {
     ///
     /// `BadFile` where no file is open for reading under the number.
     pub fn read_into(&mut self, fd: Fd, buf: &mut [u8]) -> Result<usize, Error>
-        ensures call { IsSessionCallWithResult self.old (ops.Read fd (length buf.old)) (reply_from_result (λ n. ops.Bytes (take n buf.new)) result) self.new }
+        ensures call { IsCall self.old (ops.Read fd (length buf.old)) (reply_from (λ n. ops.Bytes (take n buf.new)) result) self.new }
         ensures stays { MatchResult result (λ n. (n ≤ length buf.old) × (drop n buf.new ≡ drop n buf.old)) (λ e. is_refusal e ≡ true → buf.new ≡ buf.old) }
-        ensures few { OnOk result (TakesFewDeviceReads self.old fd (length buf.old) self.new) }
+        ensures few { OnOk result (ReadsFew self.old fd (length buf.old) self.new) }
     {
         if self.tree.has_failed() {
             return Err(Error::Failed);
@@ -520,7 +520,7 @@ impl<D: BlockDevice> Session<D> {
     /// `BadFile` where no file is open under the number; `Invalid` for a position above
     /// 2,147,483,647, or above the profile's longest file.
     pub fn seek(&mut self, fd: Fd, position: u32) -> Result<(), Error>
-        ensures { IsSessionCallWithResult self.old (ops.Seek fd position) (reply_from_result (λ _. ops.Done) result) self.new }
+        ensures { IsCall self.old (ops.Seek fd position) (reply_from (λ _. ops.Done) result) self.new }
     {
         check_seek(&self.tree, &self.files, fd, position)?;
         self.files.seek(fd, position);
@@ -534,7 +534,7 @@ impl<D: BlockDevice> Session<D> {
     ///
     /// `BadFile` where no file is open under the number.
     pub fn position(&self, fd: Fd) -> Result<u32, Error>
-        ensures { AnswersOfOpenFile position_of_open_file self.now fd result }
+        ensures { FileAnswersOf file_position self.now fd result }
     {
         if self.tree.has_failed() {
             return Err(Error::Failed);
@@ -552,7 +552,7 @@ impl<D: BlockDevice> Session<D> {
     ///
     /// `BadFile` where no file is open under the number.
     pub fn size(&self, fd: Fd) -> Result<u32, Error>
-        ensures { AnswersOfOpenFile size_of_open_file self.now fd result }
+        ensures { FileAnswersOf file_size self.now fd result }
     {
         if self.tree.has_failed() {
             return Err(Error::Failed);
@@ -572,10 +572,10 @@ impl<D: BlockDevice> Session<D> {
     ///
     /// `BadFile` where no file is open under the number.
     pub fn close(&mut self, alloc: Global, fd: Fd) -> Result<(), Error>
-        ensures { IsSessionCallWithResult self.old (ops.Close fd) (reply_from_result (λ _. ops.Done) result) self.new }
+        ensures { IsCall self.old (ops.Close fd) (reply_from (λ _. ops.Done) result) self.new }
     {
-        check_is_file_open(&self.tree, &self.files, fd)?;
-        if !self.files.is_unsaved_at_file_number(fd) {
+        check_open(&self.tree, &self.files, fd)?;
+        if !self.files.is_unsaved_at(fd) {
             self.files.close(fd);
             return Ok(());
         }
@@ -583,7 +583,7 @@ impl<D: BlockDevice> Session<D> {
             unreachable!()
         };
         let answer = writer_after_saving(alloc, &mut self.tree, writer);
-        show_conforming_device_calls_to_proof(&self.tree);
+        lemma_calls_conform(&self.tree);
         answer?;
         Ok(())
     }
@@ -596,17 +596,17 @@ impl<D: BlockDevice> Session<D> {
     /// `Corrupt` exactly where the device has no accepted image in either order. `Io` where a read
     /// failed. `NoMemory` where memory isn't granted. After any error the session has failed.
     pub fn remount(&mut self, alloc: Global) -> Result<(), Error>
-        ensures { IsSessionCallWithResult self.old ops.Remount (reply_from_result (λ _. ops.Done) result) self.new }
+        ensures { IsCall self.old ops.Remount (reply_from (λ _. ops.Done) result) self.new }
     {
         self.files.clear();
         let answer = self.tree.remount(alloc);
-        show_conforming_device_calls_to_proof(&self.tree);
+        lemma_calls_conform(&self.tree);
         answer
     }
 
     /// Borrows the device, as the last call left it.
     pub fn device(&self) -> &D
-        ensures disk { disk_in_order self.now.tree.disk.order (disk_of_device D.BlockDevice result.now) ≡ self.now.tree.disk }
+        ensures disk { ordered_disk self.now.tree.disk.order (disk_of_device D.BlockDevice result.now) ≡ self.now.tree.disk }
         ensures history { D.history result.now ≡ self.now.tree.history }
     {
         self.tree.device()
@@ -614,7 +614,7 @@ impl<D: BlockDevice> Session<D> {
 
     /// Ends the session, and returns the device. Nothing is written.
     pub fn unmount(self) -> D
-        ensures disk { disk_in_order self.tree.disk.order (disk_of_device D.BlockDevice result) ≡ self.tree.disk }
+        ensures disk { ordered_disk self.tree.disk.order (disk_of_device D.BlockDevice result) ≡ self.tree.disk }
         ensures history { D.history result ≡ self.tree.history }
     {
         self.tree.into_device()
@@ -638,53 +638,53 @@ impl<D: BlockDevice> Session<D> {
     /// `Io` where the read failed, and `NoMemory` where memory isn't granted. After either the
     /// session has failed.
     pub fn superblock(&mut self, alloc: Global) -> Result<Superblock, Error>
-        ensures is { IfOk result (λ f. superblock_of_image self.old.tree.pairs ≡ Some (superblock_view f)) }
-        ensures read { OnOk result (WasWorkingSessionRead self.old self.new) }
-        ensures failed { IfErr result (HasSessionFailedByRead self.old self.new) }
-        ensures few { read_count_of_history self.new.tree.history ≤ read_count_of_history self.old.tree.history + 1 }
+        ensures is { IfOk result (λ f. image_fields self.old.tree.pairs ≡ Some (superblock_view f)) }
+        ensures read { OnOk result (WasSessionRead self.old self.new) }
+        ensures failed { IfErr result (FailedByRead self.old self.new) }
+        ensures few { read_count self.new.tree.history ≤ read_count self.old.tree.history + 1 }
     {
         if self.tree.has_failed() {
             return Err(Error::Failed);
         }
         let superblock = self.tree.superblock(alloc);
-        show_conforming_device_calls_to_proof(&self.tree);
+        lemma_calls_conform(&self.tree);
         superblock
     }
 
     // Performs one operation. A refusal is a reply; after an error the session has failed.
     fn perform(&mut self, alloc: Global, op: Op<'_>) -> Result<Reply, Error>
-        ensures call { IsSessionCallWithResult self.old (op_view op.entry) (reply_result_view result) self.new }
-        ensures named { IfOk result RefusesOnlyWithRefusalError }
+        ensures call { IsCall self.old (op_view op.entry) (result_view result) self.new }
+        ensures named { IfOk result RefusesOnly }
     {
         match op {
-            Op::Open(path, flags) => reply_of_fd_result(self.open(alloc, path, flags)),
-            Op::Read(fd, count) => reply_of_bytes_result(self.read(alloc, fd, count)),
-            Op::Seek(fd, position) => reply_of_unit_result(self.seek(fd, position)),
-            Op::Write(fd, bytes) => reply_of_count_result(self.write(alloc, fd, bytes)),
-            Op::Truncate(fd, size) => reply_of_unit_result(self.truncate(alloc, fd, size)),
-            Op::Sync(fd) => reply_of_unit_result(self.sync(alloc, fd)),
-            Op::Close(fd) => reply_of_unit_result(self.close(alloc, fd)),
-            Op::Mkdir(path) => reply_of_unit_result(self.mkdir(alloc, path)),
-            Op::List(path) => reply_of_items_result(self.list(alloc, path)),
-            Op::Stat(path) => reply_of_stat_result(self.stat(alloc, path)),
-            Op::GetAttr(path, kind) => reply_of_bytes_result(self.get_attr(alloc, path, kind)),
-            Op::Remove(path) => reply_of_unit_result(self.remove(alloc, path)),
-            Op::Rename(from, to) => reply_of_unit_result(self.rename(alloc, from, to)),
-            Op::SetAttr(path, kind, value) => reply_of_unit_result(self.set_attr(
+            Op::Open(path, flags) => reply_of_fd(self.open(alloc, path, flags)),
+            Op::Read(fd, count) => reply_of_bytes(self.read(alloc, fd, count)),
+            Op::Seek(fd, position) => reply_of_unit(self.seek(fd, position)),
+            Op::Write(fd, bytes) => reply_of_count(self.write(alloc, fd, bytes)),
+            Op::Truncate(fd, size) => reply_of_unit(self.truncate(alloc, fd, size)),
+            Op::Sync(fd) => reply_of_unit(self.sync(alloc, fd)),
+            Op::Close(fd) => reply_of_unit(self.close(alloc, fd)),
+            Op::Mkdir(path) => reply_of_unit(self.mkdir(alloc, path)),
+            Op::List(path) => reply_of_items(self.list(alloc, path)),
+            Op::Stat(path) => reply_of_stat(self.stat(alloc, path)),
+            Op::GetAttr(path, kind) => reply_of_bytes(self.get_attr(alloc, path, kind)),
+            Op::Remove(path) => reply_of_unit(self.remove(alloc, path)),
+            Op::Rename(from, to) => reply_of_unit(self.rename(alloc, from, to)),
+            Op::SetAttr(path, kind, value) => reply_of_unit(self.set_attr(
                 alloc, path, kind, value,
             )),
-            Op::RemoveAttr(path, kind) => reply_of_unit_result(self.remove_attr(alloc, path, kind)),
-            Op::Gstate => reply_of_gstate_result(self.gstate()),
-            Op::IsUsed(block) => reply_of_bool_result(self.is_used(block)),
-            Op::UsedCount => reply_of_count_result(self.used_count()),
-            Op::Recover => reply_of_unit_result(self.recover(alloc)),
-            Op::Remount => reply_of_unit_result(self.remount(alloc)),
+            Op::RemoveAttr(path, kind) => reply_of_unit(self.remove_attr(alloc, path, kind)),
+            Op::Gstate => reply_of_gstate(self.gstate()),
+            Op::IsUsed(block) => reply_of_bool(self.is_used(block)),
+            Op::UsedCount => reply_of_count(self.used_count()),
+            Op::Recover => reply_of_unit(self.recover(alloc)),
+            Op::Remount => reply_of_unit(self.remount(alloc)),
         }
     }
 
     fn fail(&mut self)
         ensures failed { self.new ≡ record self.old { tree = record self.old.tree { failed = true } } }
-        ensures survives_loss { (op : Operation) → IsOperationSurvivingPowerLoss (system_state_of_session_view self.old) op (system_state_of_session_view self.new) }
+        ensures survives_loss { (op : Operation) → SurvivesPowerLoss (system_state self.old) op (system_state self.new) }
     {
         self.tree.fail();
     }
@@ -696,13 +696,13 @@ impl<D: BlockDevice> Session<D> {
     /// `Io`, `NoMemory` and, from a remount, `Corrupt`. The operations before it were applied, and
     /// the session has failed.
     pub fn run(&mut self, alloc: Global, ops: &[Op<'_>]) -> Result<Vec<Reply>, Error>
-        ensures performed { IfOk result (λ replies. AreStepsSurvivingLossWithinReadBounds None (system_state_of_session_view self.old) (map op_view ops.now) (map reply_view replies.items) (system_state_of_session_view self.new)) }
-        ensures named { IfOk result (λ replies. All RefusesOnlyWithRefusalError replies.items) }
-        ensures no_fault { OnOk result (fault_count_of_history self.new.tree.history ≡ fault_count_of_history self.old.tree.history) }
-        ensures headline { IfOk result (λ replies. (from : SystemState) (done : List Operation) (answers : List Answer) → IsSessionHealthyWithDiskTree from → AreSessionSteps from done answers (system_state_of_session_view self.old)
-            → IsSessionAgreeingWithItsDisk from (done ++ map op_view ops.now) (answers ++ map reply_view replies.items) (system_state_of_session_view self.new)) }
-        ensures survives { MeetsPremisesForSurvivingPowerLoss (system_state_of_session_view self.old) (system_state_of_session_view self.new) → IsRunSurvivingPowerLosses (system_state_of_session_view self.old) (map op_view ops.now) (system_state_of_session_view self.new) }
-        ensures ended { IfErr result (λ e. EndsRunByError e (system_state_of_session_view self.old) (map op_view ops.now) (system_state_of_session_view self.new)) }
+        ensures performed { IfOk result (λ replies. AreSafeSteps None (system_state self.old) (map op_view ops.now) (map reply_view replies.items) (system_state self.new)) }
+        ensures named { IfOk result (λ replies. All RefusesOnly replies.items) }
+        ensures no_fault { OnOk result (fault_count self.new.tree.history ≡ fault_count self.old.tree.history) }
+        ensures headline { IfOk result (λ replies. (from : SystemState) (done : List Operation) (answers : List Answer) → HasDiskTree from → AreSteps from done answers (system_state self.old)
+            → SessionMatchesDisk from (done ++ map op_view ops.now) (answers ++ map reply_view replies.items) (system_state self.new)) }
+        ensures survives { MeetsRunPremises (system_state self.old) (system_state self.new) → CrashSafe (system_state self.old) (map op_view ops.now) (system_state self.new) }
+        ensures ended { IfErr result (λ e. EndsRun e (system_state self.old) (map op_view ops.now) (system_state self.new)) }
     {
         let mut replies = Vec::new(alloc);
         for op in ops {
@@ -731,16 +731,16 @@ impl<D: BlockDevice> Session<D> {
 /// `Corrupt` exactly where the device has no accepted image in either order. `Io` where a read
 /// failed. `NoMemory` where memory isn't granted. An error comes with the device.
 pub fn mount<D: BlockDevice>(alloc: Global, device: D) -> Result<Session<D>, (D, Error)>
-    ensures begun { IfOk result (λ s. IsSessionBegunByMount (disk_in_order s.tree.disk.order (disk_of_device D.BlockDevice device)) (D.history device) s) }
-    ensures state { IfOk result (λ s. IsJustMounted (disk_in_order s.tree.disk.order (disk_of_device D.BlockDevice device)) (system_state_of_session_view s)) }
-    ensures longer { IfOk result (λ s. s.tree.disk.order ≡ ShorterFirst → (ps : List Pair) → ¬ IsAcceptedImage (disk_in_order LongerFirst (disk_of_device D.BlockDevice device)) ps) }
-    ensures corrupt { IfErr result (λ e. e.1 ≡ Error.Corrupt → (order : NameOrder) (ps : List Pair) → ¬ IsAcceptedImage (disk_in_order order (disk_of_device D.BlockDevice device)) ps) }
+    ensures begun { IfOk result (λ s. BeginsByMount (ordered_disk s.tree.disk.order (disk_of_device D.BlockDevice device)) (D.history device) s) }
+    ensures state { IfOk result (λ s. IsMounted (ordered_disk s.tree.disk.order (disk_of_device D.BlockDevice device)) (system_state s)) }
+    ensures longer { IfOk result (λ s. s.tree.disk.order ≡ ShorterFirst → (ps : List Pair) → ¬ IsAccepted (ordered_disk LongerFirst (disk_of_device D.BlockDevice device)) ps) }
+    ensures corrupt { IfErr result (λ e. e.1 ≡ Error.Corrupt → (order : NameOrder) (ps : List Pair) → ¬ IsAccepted (ordered_disk order (disk_of_device D.BlockDevice device)) ps) }
     ensures errors { IfErr result (λ e. (e.1 ≡ Error.Io) ⊎ (e.1 ≡ Error.Corrupt) ⊎ (e.1 ≡ Error.NoMemory)) }
     ensures back { IfErr result (λ e. GivesDeviceBackOnlyReadWithError D.BlockDevice device e.0 e.1) }
 {
     match Tree::mount(alloc, device) {
         Ok(tree) => {
-            show_conforming_device_calls_to_proof(&tree);
+            lemma_calls_conform(&tree);
             Ok(Session {
                 tree,
                 files: Files::without_open_files(alloc),
@@ -757,11 +757,11 @@ pub fn mount<D: BlockDevice>(alloc: Global, device: D) -> Result<Session<D>, (D,
 ///
 /// Errors are those of [`format_ordered`].
 pub fn format<D: BlockDevice>(alloc: Global, device: D) -> Result<Session<D>, (D, Error)>
-    ensures formatted { IfOk result (λ s. IsFreshlyFormatted (kept_thread_of_tree_state s.tree)) }
-    ensures state { IfOk result (λ s. (system_state_of_session_view s).state ≡ Healthy (session_after_mount empty_tree)) }
-    ensures geometry { IfOk result (λ s. SameGeometry (disk_in_order LongerFirst (disk_of_device D.BlockDevice device)) s.tree.disk) }
-    ensures calls { IfOk result (λ s. WritesFirstTwoBlocks (kept_thread_in_order D.BlockDevice LongerFirst device [] []) (kept_thread_of_tree_state s.tree)) }
-    ensures back { IfErr result (λ e. FailedFormatSparesOtherBlocks D.BlockDevice (blocks_of_pair_address anchor_pair_address) device e.0 e.1) }
+    ensures formatted { IfOk result (λ s. IsFormatted (kept_thread s.tree)) }
+    ensures state { IfOk result (λ s. (system_state s).state ≡ Healthy (mounted_session empty_tree)) }
+    ensures geometry { IfOk result (λ s. SameGeometry (ordered_disk LongerFirst (disk_of_device D.BlockDevice device)) s.tree.disk) }
+    ensures calls { IfOk result (λ s. WritesFirstTwo (kept_in_order D.BlockDevice LongerFirst device [] []) (kept_thread s.tree)) }
+    ensures back { IfErr result (λ e. FailedFormatSparesOtherBlocks D.BlockDevice (address_blocks anchor_address) device e.0 e.1) }
 {
     format_ordered(alloc, device, NameOrder::LongerFirst)
 }
@@ -779,15 +779,15 @@ pub fn format_ordered<D: BlockDevice>(
     device: D,
     order: NameOrder,
 ) -> Result<Session<D>, (D, Error)>
-    ensures formatted { IfOk result (λ s. IsFreshlyFormatted (kept_thread_of_tree_state s.tree)) }
-    ensures state { IfOk result (λ s. (system_state_of_session_view s).state ≡ Healthy (session_after_mount empty_tree)) }
-    ensures geometry { IfOk result (λ s. SameGeometry (disk_in_order order (disk_of_device D.BlockDevice device)) s.tree.disk) }
-    ensures calls { IfOk result (λ s. WritesFirstTwoBlocks (kept_thread_in_order D.BlockDevice order device [] []) (kept_thread_of_tree_state s.tree)) }
-    ensures back { IfErr result (λ e. FailedFormatSparesOtherBlocks D.BlockDevice (blocks_of_pair_address anchor_pair_address) device e.0 e.1) }
+    ensures formatted { IfOk result (λ s. IsFormatted (kept_thread s.tree)) }
+    ensures state { IfOk result (λ s. (system_state s).state ≡ Healthy (mounted_session empty_tree)) }
+    ensures geometry { IfOk result (λ s. SameGeometry (ordered_disk order (disk_of_device D.BlockDevice device)) s.tree.disk) }
+    ensures calls { IfOk result (λ s. WritesFirstTwo (kept_in_order D.BlockDevice order device [] []) (kept_thread s.tree)) }
+    ensures back { IfErr result (λ e. FailedFormatSparesOtherBlocks D.BlockDevice (address_blocks anchor_address) device e.0 e.1) }
 {
     match Tree::format(alloc, device, order) {
         Ok(tree) => {
-            show_conforming_device_calls_to_proof(&tree);
+            lemma_calls_conform(&tree);
             Ok(Session {
                 tree,
                 files: Files::without_open_files(alloc),

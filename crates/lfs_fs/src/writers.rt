@@ -1,23 +1,23 @@
 // The calls of a writer.
 
 ghost use Rattle.std.specs.Prelude.{ℕ, List, [], true, ◌≡◌, length, IfErr, IfOk, IfSome, IsSome, OnErr, OnOk};
-ghost use Rattle.lfs_model.specs.Writers.{writer_after_open, writer_after_sync, writer_after_truncate, writer_after_write};
-ghost use Rattle.lfs_tree.specs.OpenContents.{AreWriterContentsOverTreeFile, StoresBytesKeepingOtherFilesAtPath, WritesOnlyUnusedBlocks, bytes_of_writer_contents, kept_thread_of_tree_state};
-ghost use Rattle.lfs_tree.specs.TreeState.{tree_view, WasTreeOnlyRead, IsFailedTree, IsOperationAppliedToTree, IsTreeFailedByRead, IsIoWithFaultOrNoMemory, IsSoundTreeState, LeavesUnconcernedBlocksAlone, SurvivesStopsInTreeCall};
-ghost use Rattle.lfs_file.specs.Contents.{storage_form_of_contents};
-ghost use Rattle.lfs_fs.specs.WriterChanges.{CanOpenWriter, IsOpenedWriterSeenAs, CanSaveWriter, CanTruncateByWriter, CanWriteByWriter, HasFileUnderUnsavedContents, IsStorageFormOfOptionalUnsavedContents, IsSavedWriterSeenAs, IsChangedWriterSeenAs};
-ghost use Rattle.lfs_fs.specs.FileView.{unsaved_or_tree_bytes_of_writer, writer_view};
+ghost use Rattle.lfs_model.specs.session.Writers.{opened_writer, synced_writer, truncated_writer, written_writer};
+ghost use Rattle.lfs_tree.specs.OpenContents.{OverTreeFile, StoresBytesAt, WritesUnusedBlocks, writer_contents_bytes, kept_thread};
+ghost use Rattle.lfs_tree.specs.TreeState.{tree_view, OnlyReadsTree, IsFailedTree, IsApplied, FailedByReading, HasErrorCause, IsSoundState, LeavesOthersAlone, SurvivesStops};
+ghost use Rattle.lfs_file.specs.Contents.{contents_form};
+ghost use Rattle.lfs_fs.specs.WriterChanges.{CanOpenWriter, IsOpenedWriter, CanSaveWriter, CanTruncateBy, CanWriteBy, HasFileUnder, IsUnsavedForm, IsSavedWriter, IsChangedWriter};
+ghost use Rattle.lfs_fs.specs.FileView.{unsaved_or_tree, writer_view};
 ghost use Rattle.lfs_fs.specs.FlagsView.{flags_view};
-ghost use Rattle.lfs_model.specs.TreeEdits.{tree_after_creation, file_bytes_of_node, tree_after_change_of_node};
-ghost use Rattle.lfs_model.specs.Operations as ops;
-ghost use Rattle.lfs_model.specs.Operations.{FlagsOfOpen};
-ghost use Rattle.lfs_model.specs.Refusals.{path_of_bytes_or_root};
-ghost use Rattle.lfs_model.specs.Effects.{node_with_bytes};
-ghost use Rattle.lfs_model.specs.Tree.{FileNode};
-ghost use Rattle.lfs_model.specs.Slots.{zero_gstate};
-ghost use Rattle.lfs_model.specs.Thread.{gstate_of_pairs};
-ghost use Rattle.lfs_tree.specs.CreationPaths.{IsLookupResultAtCreationPath};
-ghost use Rattle.lfs_tree.specs.Permissions.{CanCreateFileAtPath};
+ghost use Rattle.lfs_model.specs.session.TreeEdits.{tree_creating, file_bytes, tree_with_change};
+ghost use Rattle.lfs_model.specs.session.Operations as ops;
+ghost use Rattle.lfs_model.specs.session.Operations.{FlagsOfOpen};
+ghost use Rattle.lfs_model.specs.session.Refusals.{path_or_root};
+ghost use Rattle.lfs_model.specs.session.Effects.{file_with_bytes};
+ghost use Rattle.lfs_model.specs.tree.Tree.{FileNode};
+ghost use Rattle.lfs_model.specs.format.Slots.{zero_gstate};
+ghost use Rattle.lfs_model.specs.format.Thread.{pairs_gstate};
+ghost use Rattle.lfs_tree.specs.CreationPaths.{IsCreationResult};
+ghost use Rattle.lfs_tree.specs.Permissions.{CanCreateFile};
 
 use crate::files::{UnsavedContents, Writer};
 use crate::flags::OpenFlags;
@@ -25,10 +25,10 @@ use crate::owned_path::OwnedPath;
 use bitflags::Flags;
 use lfs_device::{BlockDevice, Error};
 use lfs_file::{
-    WriterContents, contents_forms_fit_writer_after_calls, reserved_blocks_suffice_for_calls,
+    WriterContents, lemma_forms_fit, lemma_reserve_suffices,
 };
 use lfs_lookup::PathLookup;
-use lfs_tree::{Tree, operations_leave_writer_contents_alone, operations_take_few_blocks};
+use lfs_tree::{Tree, lemma_contents_stay, lemma_few_blocks};
 use std::alloc::Global;
 
 // Returns the contents of a writer of a file of that size: the changed ones, or else those of the file.
@@ -39,14 +39,14 @@ fn contents_of_writer<D: BlockDevice>(
     size: u32,
     unsaved: Option<UnsavedContents>,
 ) -> Result<WriterContents, Error>
-    requires file { HasFileUnderUnsavedContents tree.old path.now unsaved }
-    requires size { length (unsaved_or_tree_bytes_of_writer tree.old path.now unsaved) ≡ size }
-    ensures asked { OnOk result (WasTreeOnlyRead tree.old tree.new) }
-    ensures over { IfOk result (AreWriterContentsOverTreeFile tree.new path.now) }
-    ensures bytes { IfOk result (λ c. bytes_of_writer_contents (kept_thread_of_tree_state tree.new) c ≡ unsaved_or_tree_bytes_of_writer tree.old path.now unsaved) }
-    ensures form { IfOk result (λ c. IsStorageFormOfOptionalUnsavedContents tree.old.disk.profile tree.old.disk.block_size unsaved (length (unsaved_or_tree_bytes_of_writer tree.old path.now unsaved)) (storage_form_of_contents c)) }
-    ensures broken { OnErr result (IsTreeFailedByRead tree.old tree.new) }
-    ensures errors { IfErr result (IsIoWithFaultOrNoMemory tree.old tree.new) }
+    requires file { HasFileUnder tree.old path.now unsaved }
+    requires size { length (unsaved_or_tree tree.old path.now unsaved) ≡ size }
+    ensures asked { OnOk result (OnlyReadsTree tree.old tree.new) }
+    ensures over { IfOk result (OverTreeFile tree.new path.now) }
+    ensures bytes { IfOk result (λ c. writer_contents_bytes (kept_thread tree.new) c ≡ unsaved_or_tree tree.old path.now unsaved) }
+    ensures form { IfOk result (λ c. IsUnsavedForm tree.old.disk.profile tree.old.disk.block_size unsaved (length (unsaved_or_tree tree.old path.now unsaved)) (contents_form c)) }
+    ensures broken { OnErr result (FailedByReading tree.old tree.new) }
+    ensures errors { IfErr result (HasErrorCause tree.old tree.new) }
 {
     match unsaved {
         Some(unsaved) => Ok(unsaved.contents),
@@ -56,23 +56,23 @@ fn contents_of_writer<D: BlockDevice>(
 }
 
 // Writes bytes, at least one, by a writer. After an error the writer is of no use.
-pub(crate) fn write_bytes_by_writer<D: BlockDevice>(
+pub(crate) fn write_by_writer<D: BlockDevice>(
     alloc: Global,
     tree: &mut Tree<D>,
     writer: &mut Writer,
     bytes: &[u8],
 ) -> Result<(), Error>
-    requires { CanWriteByWriter tree.old writer.old bytes.now }
-    ensures written { OnOk result (IsChangedWriterSeenAs tree.new (writer_after_write (writer_view tree.old writer.old) bytes.now) writer.new) }
-    ensures beside { OnOk result (WritesOnlyUnusedBlocks tree.old tree.new) }
+    requires { CanWriteBy tree.old writer.old bytes.now }
+    ensures written { OnOk result (IsChangedWriter tree.new (written_writer (writer_view tree.old writer.old) bytes.now) writer.new) }
+    ensures beside { OnOk result (WritesUnusedBlocks tree.old tree.new) }
     ensures broken { OnErr result (IsFailedTree tree.old tree.new) }
-    ensures errors { IfErr result (IsIoWithFaultOrNoMemory tree.old tree.new) }
-    ensures survives { IsSoundTreeState tree.old → SurvivesStopsInTreeCall tree.old tree.new (tree_view tree.old) }
+    ensures errors { IfErr result (HasErrorCause tree.old tree.new) }
+    ensures survives { IsSoundState tree.old → SurvivesStops tree.old tree.new (tree_view tree.old) }
 {
-    contents_forms_fit_writer_after_calls();
-    reserved_blocks_suffice_for_calls();
+    lemma_forms_fit();
+    lemma_reserve_suffices();
     let place = writer.place();
-    let has_turned = writer.is_nonsequential_after_change_at(place.min(writer.size));
+    let has_turned = writer.turns_by_change(place.min(writer.size));
     let end = place + bytes.len() as u32;
     let unsaved = writer.unsaved.take();
     let contents = contents_of_writer(alloc, tree, &writer.path, writer.size, unsaved)?;
@@ -94,17 +94,17 @@ pub(crate) fn writer_after_truncating<D: BlockDevice>(
     writer: Writer,
     new_size: u32,
 ) -> Result<Writer, Error>
-    requires { CanTruncateByWriter tree.old writer new_size }
-    ensures written { IfOk result (IsChangedWriterSeenAs tree.new (writer_after_truncate (writer_view tree.old writer) new_size)) }
-    ensures beside { OnOk result (WritesOnlyUnusedBlocks tree.old tree.new) }
+    requires { CanTruncateBy tree.old writer new_size }
+    ensures written { IfOk result (IsChangedWriter tree.new (truncated_writer (writer_view tree.old writer) new_size)) }
+    ensures beside { OnOk result (WritesUnusedBlocks tree.old tree.new) }
     ensures broken { OnErr result (IsFailedTree tree.old tree.new) }
-    ensures errors { IfErr result (IsIoWithFaultOrNoMemory tree.old tree.new) }
-    ensures survives { IsSoundTreeState tree.old → SurvivesStopsInTreeCall tree.old tree.new (tree_view tree.old) }
+    ensures errors { IfErr result (HasErrorCause tree.old tree.new) }
+    ensures survives { IsSoundState tree.old → SurvivesStops tree.old tree.new (tree_view tree.old) }
 {
-    contents_forms_fit_writer_after_calls();
-    reserved_blocks_suffice_for_calls();
-    let has_turned = writer.is_nonsequential_after_resize();
-    let last_end = writer.last_change_end_after_resize(new_size);
+    lemma_forms_fit();
+    lemma_reserve_suffices();
+    let has_turned = writer.turns_by_resize();
+    let last_end = writer.change_end_resized(new_size);
     let Writer {
         path,
         position,
@@ -134,13 +134,13 @@ pub(crate) fn writer_after_saving<D: BlockDevice>(
     writer: Writer,
 ) -> Result<Writer, Error>
     requires { CanSaveWriter tree.old writer }
-    ensures stored { OnOk result (StoresBytesKeepingOtherFilesAtPath tree.old writer.path (unsaved_or_tree_bytes_of_writer tree.old writer.path writer.unsaved) tree.new) }
-    ensures saved { IfOk result (IsSavedWriterSeenAs tree.new (writer_after_sync (writer_view tree.old writer))) }
+    ensures stored { OnOk result (StoresBytesAt tree.old writer.path (unsaved_or_tree tree.old writer.path writer.unsaved) tree.new) }
+    ensures saved { IfOk result (IsSavedWriter tree.new (synced_writer (writer_view tree.old writer))) }
     ensures broken { OnErr result (IsFailedTree tree.old tree.new) }
-    ensures errors { IfErr result (IsIoWithFaultOrNoMemory tree.old tree.new) }
-    ensures survives { SurvivesStopsInTreeCall tree.old tree.new (tree_after_change_of_node writer.path (node_with_bytes (unsaved_or_tree_bytes_of_writer tree.old writer.path writer.unsaved)) (tree_view tree.old)) }
+    ensures errors { IfErr result (HasErrorCause tree.old tree.new) }
+    ensures survives { SurvivesStops tree.old tree.new (tree_with_change writer.path (file_with_bytes (unsaved_or_tree tree.old writer.path writer.unsaved)) (tree_view tree.old)) }
 {
-    reserved_blocks_suffice_for_calls();
+    lemma_reserve_suffices();
     let Writer {
         path,
         position,
@@ -162,7 +162,7 @@ pub(crate) fn writer_after_saving<D: BlockDevice>(
 }
 
 // Opens a writer of a file that is there, at its beginning. A recovery comes first.
-pub(crate) fn writer_of_existing_file<D: BlockDevice>(
+pub(crate) fn existing_file_writer<D: BlockDevice>(
     alloc: Global,
     tree: &mut Tree<D>,
     path: OwnedPath,
@@ -170,14 +170,14 @@ pub(crate) fn writer_of_existing_file<D: BlockDevice>(
     flags: OpenFlags,
 ) -> Result<Writer, Error>
     requires { CanOpenWriter tree.old path size (flags_view flags).truncate }
-    ensures recovered { OnOk result (IsOperationAppliedToTree tree.old ops.Recover tree.new) }
-    ensures begun { IfOk result (IsOpenedWriterSeenAs tree.new (writer_after_open path (flags_view flags) (file_bytes_of_node (tree_view tree.old path)))) }
+    ensures recovered { OnOk result (IsApplied tree.old ops.Recover tree.new) }
+    ensures begun { IfOk result (IsOpenedWriter tree.new (opened_writer path (flags_view flags) (file_bytes (tree_view tree.old path)))) }
     ensures broken { OnErr result (IsFailedTree tree.old tree.new) }
-    ensures errors { IfErr result (IsIoWithFaultOrNoMemory tree.old tree.new) }
-    ensures survives { SurvivesStopsInTreeCall tree.old tree.new (tree_view tree.old) }
+    ensures errors { IfErr result (HasErrorCause tree.old tree.new) }
+    ensures survives { SurvivesStops tree.old tree.new (tree_view tree.old) }
 {
-    operations_take_few_blocks();
-    operations_leave_writer_contents_alone();
+    lemma_few_blocks();
+    lemma_contents_stay();
     let appends = flags.contains(OpenFlags::APPEND);
     if flags.contains(OpenFlags::TRUNCATE) && size > 0 {
         let contents = tree.empty_contents(alloc)?;
@@ -205,21 +205,21 @@ pub(crate) fn writer_of_existing_file<D: BlockDevice>(
 }
 
 // Opens a writer of an empty file, which is made. `known` is where the path leads to, if nothing is to recover.
-pub(crate) fn create_file_and_open_writer<D: BlockDevice>(
+pub(crate) fn create_and_open<D: BlockDevice>(
     alloc: Global,
     tree: &mut Tree<D>,
     path: OwnedPath,
     flags: OpenFlags,
     known: Option<PathLookup>,
 ) -> Result<Writer, Error>
-    requires can { CanCreateFileAtPath tree.old path }
-    requires known { IfSome known (IsLookupResultAtCreationPath (kept_thread_of_tree_state tree.old) path) }
-    requires looked_up { gstate_of_pairs tree.old.pairs ≡ zero_gstate → IsSome known }
-    ensures made { OnOk result ((bytes : List ℕ) (flags : FlagsOfOpen) → path_of_bytes_or_root bytes ≡ path → flags.write ≡ true → IsOperationAppliedToTree tree.old (ops.Open bytes flags) tree.new × LeavesUnconcernedBlocksAlone tree.old (ops.Open bytes flags) tree.new) }
-    ensures begun { IfOk result (IsOpenedWriterSeenAs tree.new (writer_after_open path (flags_view flags) [])) }
+    requires can { CanCreateFile tree.old path }
+    requires known { IfSome known (IsCreationResult (kept_thread tree.old) path) }
+    requires looked_up { pairs_gstate tree.old.pairs ≡ zero_gstate → IsSome known }
+    ensures made { OnOk result ((bytes : List ℕ) (flags : FlagsOfOpen) → path_or_root bytes ≡ path → flags.write ≡ true → IsApplied tree.old (ops.Open bytes flags) tree.new × LeavesOthersAlone tree.old (ops.Open bytes flags) tree.new) }
+    ensures begun { IfOk result (IsOpenedWriter tree.new (opened_writer path (flags_view flags) [])) }
     ensures broken { OnErr result (IsFailedTree tree.old tree.new) }
-    ensures errors { IfErr result (IsIoWithFaultOrNoMemory tree.old tree.new) }
-    ensures survives { SurvivesStopsInTreeCall tree.old tree.new (tree_after_creation path (FileNode [] []) (tree_view tree.old)) }
+    ensures errors { IfErr result (HasErrorCause tree.old tree.new) }
+    ensures survives { SurvivesStops tree.old tree.new (tree_creating path (FileNode [] []) (tree_view tree.old)) }
 {
     tree.create(alloc, &path.lend(), known)?;
     Ok(Writer {

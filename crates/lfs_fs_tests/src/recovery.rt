@@ -1,19 +1,19 @@
 // A session whose device stops in an operation, and the session that is mounted and recovered then.
 
 ghost use Rattle.std.specs.Prelude.{◌≡◌};
-ghost use Rattle.lfs_model.specs.Disk.{Disk, disk_in_order};
-ghost use Rattle.lfs_model.specs.Operations as ops;
-ghost use Rattle.lfs_model.specs.PowerLoss.{HasTreeBeforeOrAfterOperation};
-ghost use Rattle.lfs_model.specs.Premises.{IsHistoryMeetingPowerLossPremises};
-ghost use Rattle.lfs_model.specs.RepeatedPowerLoss.{IsJustMounted, HasSameDiskBytes};
-ghost use Rattle.lfs_model.specs.Tree.{Tree};
+ghost use Rattle.lfs_model.specs.format.Disk.{Disk, ordered_disk};
+ghost use Rattle.lfs_model.specs.session.Operations as ops;
+ghost use Rattle.lfs_model.specs.crash.PowerLoss.{HasEither};
+ghost use Rattle.lfs_model.specs.crash.Premises.{MeetsPremises};
+ghost use Rattle.lfs_model.specs.crash.RepeatedPowerLoss.{IsMounted, SameBytes};
+ghost use Rattle.lfs_model.specs.tree.Tree.{Tree};
 ghost use Rattle.lfs_model.specs.declared.order.NameOrder.{NameOrder};
-ghost use Rattle.lfs_device.specs.RamDevice.{geometry_of_ram_device, ram_blocks};
-ghost use Rattle.lfs_device.specs.Shown.{disk_of_geometry_and_blocks};
-ghost use Rattle.lfs_fs.specs.SessionView.{system_state_of_session_view};
-ghost use Rattle.lfs_fs_tests.specs.Recovered.{RecoversTreeBeforeOrAfter, RecoversFromStoppedOperation};
+ghost use Rattle.lfs_device.specs.RamDevice.{ram_geometry, ram_blocks};
+ghost use Rattle.lfs_device.specs.DeviceDisk.{disk_of_blocks};
+ghost use Rattle.lfs_fs.specs.SessionView.{system_state};
+ghost use Rattle.lfs_fs_tests.specs.Recovered.{RecoversEitherTree, RecoversFromStop};
 
-use lfs_device::{Error, FaultDevice, RamDevice, prove_ram_devices_never_fail_and_meet_premises};
+use lfs_device::{Error, FaultDevice, RamDevice, lemma_ram_premises};
 use lfs_fs::{Session, mount};
 use lfs_model::power_loss_leaves_disk_with_safe_tree;
 use std::alloc::Global;
@@ -23,8 +23,8 @@ fn recover_session(
     alloc: Global,
     mut session: Session<RamDevice>,
 ) -> Result<Session<RamDevice>, Error>
-    ensures { (left other : Disk) (before after : Tree) → HasTreeBeforeOrAfterOperation left before after → HasSameDiskBytes left other → IsJustMounted other (system_state_of_session_view session)
-        → RecoversTreeBeforeOrAfter before after result }
+    ensures { (left other : Disk) (before after : Tree) → HasEither left before after → SameBytes left other → IsMounted other (system_state session)
+        → RecoversEitherTree before after result }
 {
     power_loss_leaves_disk_with_safe_tree();
     match session.recover(alloc) {
@@ -35,8 +35,8 @@ fn recover_session(
 
 // A session over a device with an image, with nothing left to recover.
 fn recover_device(alloc: Global, device: RamDevice) -> Result<Session<RamDevice>, Error>
-    ensures { (order : NameOrder) (before after : Tree) → HasTreeBeforeOrAfterOperation (disk_in_order order (disk_of_geometry_and_blocks (geometry_of_ram_device device) (ram_blocks device))) before after
-        → RecoversTreeBeforeOrAfter before after result }
+    ensures { (order : NameOrder) (before after : Tree) → HasEither (ordered_disk order (disk_of_blocks (ram_geometry device) (ram_blocks device))) before after
+        → RecoversEitherTree before after result }
 {
     match mount(alloc, device) {
         Ok(session) => recover_session(alloc, session),
@@ -54,14 +54,14 @@ pub fn recover_from_stop(
     alloc: Global,
     session: Session<FaultDevice<RamDevice>>,
 ) -> Result<Session<RamDevice>, Error>
-    ensures { (before after : Tree) → (IsHistoryMeetingPowerLossPremises session.tree.history → HasTreeBeforeOrAfterOperation session.tree.disk before after) → RecoversTreeBeforeOrAfter before after result }
+    ensures { (before after : Tree) → (MeetsPremises session.tree.history → HasEither session.tree.disk before after) → RecoversEitherTree before after result }
 {
-    prove_ram_devices_never_fail_and_meet_premises();
+    lemma_ram_premises();
     let device = session.unmount();
     if device.may_tear_program() {
         return Err(Error::Invalid);
     }
-    device.prove_power_loss_premises();
+    device.lemma_premises_hold();
     recover_device(alloc, device.into_inner())
 }
 
@@ -77,7 +77,7 @@ pub fn rename_despite_stop(
     from: &[u8],
     to: &[u8],
 ) -> Result<Session<RamDevice>, Error>
-    ensures { RecoversFromStoppedOperation (system_state_of_session_view session) (ops.Rename from.now to.now) result }
+    ensures { RecoversFromStop (system_state session) (ops.Rename from.now to.now) result }
 {
     let _ = session.rename(alloc, from, to);
     recover_from_stop(alloc, session)

@@ -1,7 +1,7 @@
 // Devices, made empty or with an image, and sessions over them.
 
 use lfs_device::{BlockDevice, Error, Geometry, RamDevice};
-use lfs_fixtures::{BlockFilling, FixtureEntries, image_with_second_commit};
+use lfs_fixtures::{BlockFilling, FixtureEntries, image_with_commit};
 use lfs_fs::{Session, format, mount};
 use std::alloc::Global;
 
@@ -40,7 +40,7 @@ pub fn device_with_start_image(alloc: Global, start: Start<'_>) -> Result<RamDev
             Ok(session.unmount())
         }
         Start::Image(entries, others) => {
-            let bytes = image_with_second_commit(alloc, entries, others)?;
+            let bytes = image_with_commit(alloc, entries, others)?;
             RamDevice::from_bytes(Geometry::new(4096, 256, 16)?, bytes)
         }
     }

@@ -4,173 +4,173 @@ use Rattle.std.specs.Prelude.{is_none}
 use Rattle.std.specs.Option.{option_and_then, option_map, option_or}
 use Rattle.std.proofs.lemmas.Option.{same_Some}
 use Rattle.lfs_model.specs.declared.order.NameOrder.{NameOrder}
-use Rattle.lfs_model.specs.Names.{names_sorted_in_order}
+use Rattle.lfs_model.specs.format.Names.{sorted_names}
 use Rattle.lfs_model.specs.declared.order.NameOrder.TheVariants.{ShorterFirst}
-use Rattle.lfs_model.specs.TreeEdits.{is_directory, is_file}
-use Rattle.lfs_model.specs.Disk.{Disk, disk_in_order}
-use Rattle.lfs_model.specs.Names.{Name}
-use Rattle.lfs_model.specs.Operations as ops
-use Rattle.lfs_model.specs.Session.{refusal_unless_directory, refusal_unless_parents_are_directories}
-use Rattle.lfs_model.specs.SlotEdits.{slot_of_path}
-use Rattle.lfs_model.specs.Slots.{Attributes, Slot, Struct, Inline, Ctz, Branch}
-use Rattle.lfs_model.specs.Effects.{file_size_of_node}
-use Rattle.lfs_model.specs.Thread.{Pair, root_directory_address_of_pairs}
-use Rattle.lfs_model.specs.Tree.{Path, Tree, Node, FileNode, DirectoryNode, branch_address_of_struct, entry_of_name, names_of_directory_at_address, node_of_struct_and_attributes, root_slot, slot_at_path}
-use Rattle.lfs_model.specs.View.{IsAcceptedImage, IsSkipListIfCtzStruct}
-use Rattle.lfs_model.specs.Shown.{IsPathToDirectory, all_slots_not_moved, skip_list_bytes_on_disk, entries_by_directory_in_thread, tree_on_disk}
+use Rattle.lfs_model.specs.session.TreeEdits.{is_directory, is_file}
+use Rattle.lfs_model.specs.format.Disk.{Disk, ordered_disk}
+use Rattle.lfs_model.specs.format.Names.{Name}
+use Rattle.lfs_model.specs.session.Operations as ops
+use Rattle.lfs_model.specs.session.Session.{directory_refusal, parents_refusal}
+use Rattle.lfs_model.specs.session.SlotEdits.{slot_of}
+use Rattle.lfs_model.specs.format.Slots.{Attributes, Slot, Struct, Inline, Ctz, Branch}
+use Rattle.lfs_model.specs.session.Effects.{node_file_size}
+use Rattle.lfs_model.specs.format.Thread.{Pair, root_address}
+use Rattle.lfs_model.specs.tree.Tree.{Path, Tree, Node, FileNode, DirectoryNode, branch_address, entry_named, names_at, struct_node, root_slot, slot_at_path}
+use Rattle.lfs_model.specs.tree.View.{IsAccepted, IsWellFormedCtz}
+use Rattle.lfs_model.specs.tree.Shown.{LeadsTo, all_slots_not_moved, struct_list_bytes, all_entries, tree_on_disk}
 use Rattle.lfs_thread.specs.Kept.{KeptThread, disk_of_device}
 use Rattle.lfs_device.specs.declared.device.BlockDevice.{Ghosts}
-use Rattle.lfs_model.specs.Blocks.{HasBlocksOfCountAndSize}
-use Rattle.lfs_model.proofs.ListSizes.{length-bytes_of_skip_list}
+use Rattle.lfs_model.specs.format.Blocks.{HasBlockSizes}
+use Rattle.lfs_model.proofs.ListSizes.{length-list_bytes}
 use Rattle.lfs_model.proofs.Walks.{walk_append}
-use Rattle.lfs_lookup.specs.AtPath.{file_size_of_storage}
-use Rattle.lfs_lookup.specs.Entry.{IsStorageOfStruct}
+use Rattle.lfs_lookup.specs.AtPath.{storage_size}
+use Rattle.lfs_lookup.specs.Entry.{IsStorage}
 use Rattle.lfs_lookup.specs.declared.entry.FileStorage.{FileStorage}
 use Rattle.lfs_lookup.specs.declared.entry.FileStorage.TheVariants as contents
-use Rattle.lfs_lookup.specs.Finds.{IsFoundNodeAtPath}
-use Rattle.lfs_lookup.specs.Paths.{IsLookupResultWithSlotHidden}
+use Rattle.lfs_lookup.specs.Finds.{IsFoundNode}
+use Rattle.lfs_lookup.specs.LookupPaths.{IsHiddenResult}
 use Rattle.lfs_lookup.specs.declared.found_entries.FoundNode.{FoundNode}
 use Rattle.lfs_lookup.specs.declared.paths.VisiblePathLookup.TheVariants as shown
 use Rattle.lfs_lookup.specs.declared.search.SlotPosition.{SlotPosition}
 use Rattle.lfs_lookup.specs.declared.found_entries.Node.TheVariants as node
 use Rattle.std.proofs.lemmas.List.Elements.{recursion_from_All}
-use Rattle.lfs_model.specs.Names.{same_name}
+use Rattle.lfs_model.specs.format.Names.{same_name}
 use Rattle.lfs_model.proofs.Counts.{Each}
 use Rattle.lfs_lookup.proofs.Visits.{each_entry}
 
 -- a list has as many bytes as its size says
 abbrev pub SizedLists : Disk → Type 0
-SizedLists disk = (head size : ℕ) → IsSkipListIfCtzStruct disk (Ctz head size) → length (skip_list_bytes_on_disk disk head size) ≡ size
+SizedLists disk = (head size : ℕ) → IsWellFormedCtz disk (Ctz head size) → length (struct_list_bytes disk head size) ≡ size
 
-pub sized_on : {D : Type 0} (g : Ghosts D) (d : D) (disk : Disk) (n : ℕ) {order : NameOrder} → disk_in_order order (disk_of_device g d) ≡ disk → 1024 ≤ (g.geometry d).block_size → HasBlocksOfCountAndSize (g.geometry d).block_size n (g.blocks d) → SizedLists disk
+pub sized_on : {D : Type 0} (g : Ghosts D) (d : D) (disk : Disk) (n : ℕ) {order : NameOrder} → ordered_disk order (disk_of_device g d) ≡ disk → 1024 ≤ (g.geometry d).block_size → HasBlockSizes (g.geometry d).block_size n (g.blocks d) → SizedLists disk
 sized_on g d disk n e large shape =
-    subst SizedLists e (λ head size list. length-bytes_of_skip_list (g.blocks d) (g.geometry d).block_size n head size large shape list)
+    subst SizedLists e (λ head size list. length-list_bytes (g.blocks d) (g.geometry d).block_size n head size large shape list)
 
 -- ---- by the node
 
-pub finds_nothing : (t : Tree) (p : Path) (fault : Option ops.Refusal) → t p ≡ None → refusal_unless_parents_are_directories t [] p ≡ fault → IsFoundNodeAtPath t p (record { fault = fault; node = node.Nothing })
-finds_nothing t p fault e h = record { parents = h; nothing = ap is_none e; directories = ap is_directory e; files = ap is_file e; sizes = ap file_size_of_node e }
+pub finds_nothing : (t : Tree) (p : Path) (fault : Option ops.Refusal) → t p ≡ None → parents_refusal t [] p ≡ fault → IsFoundNode t p (record { fault = fault; node = node.Nothing })
+finds_nothing t p fault e h = record { parents = h; nothing = ap is_none e; directories = ap is_directory e; files = ap is_file e; sizes = ap node_file_size e }
 
-pub finds_file : (t : Tree) (p : Path) (attributes : Attributes) (bytes : List ℕ) (size : ℕ) → t p ≡ Some (FileNode attributes bytes) → refusal_unless_parents_are_directories t [] p ≡ None → length bytes ≡ size
-    → IsFoundNodeAtPath t p (record { fault = None; node = node.File size })
+pub finds_file : (t : Tree) (p : Path) (attributes : Attributes) (bytes : List ℕ) (size : ℕ) → t p ≡ Some (FileNode attributes bytes) → parents_refusal t [] p ≡ None → length bytes ≡ size
+    → IsFoundNode t p (record { fault = None; node = node.File size })
 finds_file t p attributes bytes size e h l = record {
   parents = h;
   nothing = ap is_none e;
   directories = ap is_directory e;
   files = ap is_file e;
-  sizes = ap file_size_of_node e ∙ ap Some l;
+  sizes = ap node_file_size e ∙ ap Some l;
 }
 
-pub finds_directory : (t : Tree) (p : Path) (attributes : Attributes) (names : List Name) → t p ≡ Some (DirectoryNode attributes names) → refusal_unless_parents_are_directories t [] p ≡ None → IsFoundNodeAtPath t p (record { fault = None; node = node.Directory })
+pub finds_directory : (t : Tree) (p : Path) (attributes : Attributes) (names : List Name) → t p ≡ Some (DirectoryNode attributes names) → parents_refusal t [] p ≡ None → IsFoundNode t p (record { fault = None; node = node.Directory })
 finds_directory t p attributes names e h = record {
   parents = h;
   nothing = ap is_none e;
   directories = ap is_directory e;
   files = ap is_file e;
-  sizes = ap file_size_of_node e;
+  sizes = ap node_file_size e;
 }
 
 -- ---- by the slot
 
 module _ (disk : Disk) (ps : List Pair) where
   abbrev node_shown : Option Slot → Option Node
-  node_shown o = option_map (λ (f : Slot). node_of_struct_and_attributes (skip_list_bytes_on_disk disk) (entries_by_directory_in_thread ps) f.attributes f.struct) o
+  node_shown o = option_map (λ (f : Slot). struct_node (struct_list_bytes disk) (all_entries ps) f.attributes f.struct) o
 
   -- nothing stands beneath what isn't a directory
-  none_below : (p : Path) (n : Name) (q : Path) (r : ops.Refusal) → refusal_unless_directory (tree_on_disk disk ps p) ≡ Some r → slot_of_path ps (p ++ n ∷ q) ≡ None
-  none_below p n q r h = walk_append (entries_by_directory_in_thread ps) (root_slot (root_directory_address_of_pairs ps)) p (n ∷ q) ∙ go (slot_of_path ps p) h
+  none_below : (p : Path) (n : Name) (q : Path) (r : ops.Refusal) → directory_refusal (tree_on_disk disk ps p) ≡ Some r → slot_of ps (p ++ n ∷ q) ≡ None
+  none_below p n q r h = walk_append (all_entries ps) (root_slot (root_address ps)) p (n ∷ q) ∙ go (slot_of ps p) h
     where
-      by_struct : (a : Attributes) (s : Struct) → refusal_unless_directory (Some (node_of_struct_and_attributes (skip_list_bytes_on_disk disk) (entries_by_directory_in_thread ps) a s)) ≡ Some r → (x : Slot) → x.struct ≡ s → slot_at_path (entries_by_directory_in_thread ps) x (n ∷ q) ≡ None
-      by_struct a (Inline bytes) k x e = ap (λ (z : Struct). option_and_then (λ child. slot_at_path (entries_by_directory_in_thread ps) child q) (option_and_then (λ at. entry_of_name n (entries_by_directory_in_thread ps at)) (branch_address_of_struct z))) e
-      by_struct a (Ctz head size) k x e = ap (λ (z : Struct). option_and_then (λ child. slot_at_path (entries_by_directory_in_thread ps) child q) (option_and_then (λ at. entry_of_name n (entries_by_directory_in_thread ps at)) (branch_address_of_struct z))) e
+      by_struct : (a : Attributes) (s : Struct) → directory_refusal (Some (struct_node (struct_list_bytes disk) (all_entries ps) a s)) ≡ Some r → (x : Slot) → x.struct ≡ s → slot_at_path (all_entries ps) x (n ∷ q) ≡ None
+      by_struct a (Inline bytes) k x e = ap (λ (z : Struct). option_and_then (λ child. slot_at_path (all_entries ps) child q) (option_and_then (λ at. entry_named n (all_entries ps at)) (branch_address z))) e
+      by_struct a (Ctz head size) k x e = ap (λ (z : Struct). option_and_then (λ child. slot_at_path (all_entries ps) child q) (option_and_then (λ at. entry_named n (all_entries ps at)) (branch_address z))) e
       by_struct a (Branch to) k x e = absurd (cc)
 
-      go : (o : Option Slot) → refusal_unless_directory (node_shown o) ≡ Some r → option_and_then (λ x. slot_at_path (entries_by_directory_in_thread ps) x (n ∷ q)) o ≡ None
+      go : (o : Option Slot) → directory_refusal (node_shown o) ≡ Some r → option_and_then (λ x. slot_at_path (all_entries ps) x (n ∷ q)) o ≡ None
       go None k = refl
       go (Some x) k = by_struct x.attributes x.struct k x refl
 
-  pub refused_none : (path above : Path) (r : ops.Refusal) → refusal_unless_parents_are_directories (tree_on_disk disk ps) above path ≡ Some r → slot_of_path ps (above ++ path) ≡ None
+  pub refused_none : (path above : Path) (r : ops.Refusal) → parents_refusal (tree_on_disk disk ps) above path ≡ Some r → slot_of ps (above ++ path) ≡ None
   refused_none [] above r h = absurd (cc)
   refused_none (n ∷ []) above r h = absurd (cc)
-  refused_none (n ∷ m ∷ rest) above r h = subst (λ z. slot_of_path ps z ≡ None) (append_assoc above (n ∷ []) (m ∷ rest)) (go (refusal_unless_directory (tree_on_disk disk ps (above ++ n ∷ []))) refl (refused_none (m ∷ rest) (above ++ n ∷ []) r) h)
+  refused_none (n ∷ m ∷ rest) above r h = subst (λ z. slot_of ps z ≡ None) (append_assoc above (n ∷ []) (m ∷ rest)) (go (directory_refusal (tree_on_disk disk ps (above ++ n ∷ []))) refl (refused_none (m ∷ rest) (above ++ n ∷ []) r) h)
     where
-      go : (o : Option ops.Refusal) → refusal_unless_directory (tree_on_disk disk ps (above ++ n ∷ [])) ≡ o
-          → (refusal_unless_parents_are_directories (tree_on_disk disk ps) (above ++ n ∷ []) (m ∷ rest) ≡ Some r → slot_of_path ps ((above ++ n ∷ []) ++ m ∷ rest) ≡ None) → option_or o (refusal_unless_parents_are_directories (tree_on_disk disk ps) (above ++ n ∷ []) (m ∷ rest)) ≡ Some r
-          → slot_of_path ps ((above ++ n ∷ []) ++ m ∷ rest) ≡ None
+      go : (o : Option ops.Refusal) → directory_refusal (tree_on_disk disk ps (above ++ n ∷ [])) ≡ o
+          → (parents_refusal (tree_on_disk disk ps) (above ++ n ∷ []) (m ∷ rest) ≡ Some r → slot_of ps ((above ++ n ∷ []) ++ m ∷ rest) ≡ None) → option_or o (parents_refusal (tree_on_disk disk ps) (above ++ n ∷ []) (m ∷ rest)) ≡ Some r
+          → slot_of ps ((above ++ n ∷ []) ++ m ∷ rest) ≡ None
       go (Some x) e later k = none_below (above ++ n ∷ []) m rest x e
       go None e later k = later k
 
-  pub nothing_at : (path : Path) → slot_of_path ps path ≡ None → tree_on_disk disk ps path ≡ None
+  pub nothing_at : (path : Path) → slot_of ps path ≡ None → tree_on_disk disk ps path ≡ None
   nothing_at path e = ap node_shown e
 
   -- ---- a directory
 
   pub record IsDirectoryAt (path : Path) (at : ℕ × ℕ) : Type 0 where
     pub attributes : Attributes
-    pub is : tree_on_disk disk ps path ≡ Some (DirectoryNode attributes (names_sorted_in_order ShorterFirst (names_of_directory_at_address (entries_by_directory_in_thread ps) at)))
+    pub is : tree_on_disk disk ps path ≡ Some (DirectoryNode attributes (sorted_names ShorterFirst (names_at (all_entries ps) at)))
 
-  pub directory_at_path : (path : Path) (at : ℕ × ℕ) → IsPathToDirectory ps path at → IsDirectoryAt path at
-  directory_at_path path at leads = go (slot_of_path ps path) refl leads
+  pub directory_at_path : (path : Path) (at : ℕ × ℕ) → LeadsTo ps path at → IsDirectoryAt path at
+  directory_at_path path at leads = go (slot_of ps path) refl leads
     where
-      by_struct : (x : Slot) (s : Struct) → x.struct ≡ s → slot_of_path ps path ≡ Some x → branch_address_of_struct s ≡ Some at → IsDirectoryAt path at
+      by_struct : (x : Slot) (s : Struct) → x.struct ≡ s → slot_of ps path ≡ Some x → branch_address s ≡ Some at → IsDirectoryAt path at
       by_struct x (Inline bytes) k e b = absurd (cc)
       by_struct x (Ctz head size) k e b = absurd (cc)
       by_struct x (Branch to) k e b = record {
         attributes = x.attributes;
-        is = ap node_shown e ∙ ap (λ (z : Struct). Some (node_of_struct_and_attributes (skip_list_bytes_on_disk disk) (entries_by_directory_in_thread ps) x.attributes z)) k ∙ ap (λ z. Some (DirectoryNode x.attributes (names_sorted_in_order ShorterFirst (names_of_directory_at_address (entries_by_directory_in_thread ps) z)))) (same_Some to at b);
+        is = ap node_shown e ∙ ap (λ (z : Struct). Some (struct_node (struct_list_bytes disk) (all_entries ps) x.attributes z)) k ∙ ap (λ z. Some (DirectoryNode x.attributes (sorted_names ShorterFirst (names_at (all_entries ps) z)))) (same_Some to at b);
       }
 
-      go : (o : Option Slot) → slot_of_path ps path ≡ o → option_and_then (λ (f : Slot). branch_address_of_struct f.struct) o ≡ Some at → IsDirectoryAt path at
+      go : (o : Option Slot) → slot_of ps path ≡ o → option_and_then (λ (f : Slot). branch_address f.struct) o ≡ Some at → IsDirectoryAt path at
       go None e b = absurd (cc)
       go (Some x) e b = by_struct x x.struct refl e b
 
   -- ---- a file
 
-  pub finds_shown : (path : Path) (x : Slot) (contents : FileStorage) → IsAcceptedImage disk ps → IsSkipListIfCtzStruct disk x.struct → slot_of_path ps path ≡ Some x → IsStorageOfStruct contents x.struct → refusal_unless_parents_are_directories (tree_on_disk disk ps) [] path ≡ None
-      → SizedLists disk → IsFoundNodeAtPath (tree_on_disk disk ps) path (record { fault = None; node = node.File (file_size_of_storage contents) })
+  pub finds_shown : (path : Path) (x : Slot) (contents : FileStorage) → IsAccepted disk ps → IsWellFormedCtz disk x.struct → slot_of ps path ≡ Some x → IsStorage contents x.struct → parents_refusal (tree_on_disk disk ps) [] path ≡ None
+      → SizedLists disk → IsFoundNode (tree_on_disk disk ps) path (record { fault = None; node = node.File (storage_size contents) })
   finds_shown path x (contents.Inline len) ok list e k h sized =
-      finds_file (tree_on_disk disk ps) path x.attributes k.0 len (ap node_shown e ∙ ap (λ (z : Struct). Some (node_of_struct_and_attributes (skip_list_bytes_on_disk disk) (entries_by_directory_in_thread ps) x.attributes z)) k.1.0) h k.1.1.0
+      finds_file (tree_on_disk disk ps) path x.attributes k.0 len (ap node_shown e ∙ ap (λ (z : Struct). Some (struct_node (struct_list_bytes disk) (all_entries ps) x.attributes z)) k.1.0) h k.1.1.0
   finds_shown path x (contents.List head size) ok list e k h sized =
-      finds_file (tree_on_disk disk ps) path x.attributes (skip_list_bytes_on_disk disk head size) size (ap node_shown e ∙ ap (λ (z : Struct). Some (node_of_struct_and_attributes (skip_list_bytes_on_disk disk) (entries_by_directory_in_thread ps) x.attributes z)) k) h (sized head size (subst (IsSkipListIfCtzStruct disk) k list))
+      finds_file (tree_on_disk disk ps) path x.attributes (struct_list_bytes disk head size) size (ap node_shown e ∙ ap (λ (z : Struct). Some (struct_node (struct_list_bytes disk) (all_entries ps) x.attributes z)) k) h (sized head size (subst (IsWellFormedCtz disk) k list))
 
-pub each_found : (Q : Slot → Type 0) (n : Name) (xs : List Slot) (u : Slot) → Each Q xs → entry_of_name n xs ≡ Some u → Q u
+pub each_found : (Q : Slot → Type 0) (n : Name) (xs : List Slot) (u : Slot) → Each Q xs → entry_named n xs ≡ Some u → Q u
 each_found Q n [] u h e = absurd (cc)
 each_found Q n (x ∷ xs) u h e = go (same_name n x.name) (each_found Q n xs u h.1) e
   where
-    go : (c : Bool) → (entry_of_name n xs ≡ Some u → Q u) → cond c (Some x) (entry_of_name n xs) ≡ Some u → Q u
+    go : (c : Bool) → (entry_named n xs ≡ Some u → Q u) → cond c (Some x) (entry_named n xs) ≡ Some u → Q u
     go true k f = subst Q (same_Some x u f) h.0
     go false k f = k f
 
 -- a file's list is well formed
-pub list_at_path : (disk : Disk) (ps : List Pair) (above : Path) (name : Name) (to : ℕ × ℕ) (u : Slot) → IsAcceptedImage disk ps → IsPathToDirectory ps above to → slot_of_path ps (above ++ name ∷ []) ≡ Some u
-    → IsSkipListIfCtzStruct disk u.struct
+pub list_at_path : (disk : Disk) (ps : List Pair) (above : Path) (name : Name) (to : ℕ × ℕ) (u : Slot) → IsAccepted disk ps → LeadsTo ps above to → slot_of ps (above ++ name ∷ []) ≡ Some u
+    → IsWellFormedCtz disk u.struct
 list_at_path disk ps above name to u ok leads e =
-    each_found (λ s. IsSkipListIfCtzStruct disk s.struct) name (entries_by_directory_in_thread ps to) u
-    (each_entry (λ s. IsSkipListIfCtzStruct disk s.struct) disk ps above to ok leads (recursion_from_All (λ (s : Slot). IsSkipListIfCtzStruct disk s.struct) (all_slots_not_moved ps) ok.lists))
-    (go (slot_of_path ps above) leads (sym (walk_append (entries_by_directory_in_thread ps) (root_slot (root_directory_address_of_pairs ps)) above (name ∷ [])) ∙ e))
+    each_found (λ s. IsWellFormedCtz disk s.struct) name (all_entries ps to) u
+    (each_entry (λ s. IsWellFormedCtz disk s.struct) disk ps above to ok leads (recursion_from_All (λ (s : Slot). IsWellFormedCtz disk s.struct) (all_slots_not_moved ps) ok.lists))
+    (go (slot_of ps above) leads (sym (walk_append (all_entries ps) (root_slot (root_address ps)) above (name ∷ [])) ∙ e))
   where
     found : (o : Option Slot) → option_and_then (λ c. let r : Option Slot = Some c in r) o ≡ Some u → o ≡ Some u
     found None k = k
     found (Some c) k = k
 
-    by_struct : (x : Slot) (s : Struct) → branch_address_of_struct s ≡ Some to → option_and_then (λ c. let r : Option Slot = Some c in r) (option_and_then (λ at. entry_of_name name (entries_by_directory_in_thread ps at)) (branch_address_of_struct s)) ≡ Some u → entry_of_name name (entries_by_directory_in_thread ps to) ≡ Some u
+    by_struct : (x : Slot) (s : Struct) → branch_address s ≡ Some to → option_and_then (λ c. let r : Option Slot = Some c in r) (option_and_then (λ at. entry_named name (all_entries ps at)) (branch_address s)) ≡ Some u → entry_named name (all_entries ps to) ≡ Some u
     by_struct x (Inline bytes) b k = absurd (cc)
     by_struct x (Ctz head size) b k = absurd (cc)
-    by_struct x (Branch at) b k = ap (λ z. entry_of_name name (entries_by_directory_in_thread ps z)) (sym (same_Some at to b)) ∙ found (entry_of_name name (entries_by_directory_in_thread ps at)) k
+    by_struct x (Branch at) b k = ap (λ z. entry_named name (all_entries ps z)) (sym (same_Some at to b)) ∙ found (entry_named name (all_entries ps at)) k
 
-    go : (o : Option Slot) → option_and_then (λ (f : Slot). branch_address_of_struct f.struct) o ≡ Some to → option_and_then (λ x. slot_at_path (entries_by_directory_in_thread ps) x (name ∷ [])) o ≡ Some u → entry_of_name name (entries_by_directory_in_thread ps to) ≡ Some u
+    go : (o : Option Slot) → option_and_then (λ (f : Slot). branch_address f.struct) o ≡ Some to → option_and_then (λ x. slot_at_path (all_entries ps) x (name ∷ [])) o ≡ Some u → entry_named name (all_entries ps to) ≡ Some u
     go None b k = absurd (cc)
     go (Some x) b k = by_struct x x.struct b k
 
 -- ---- by what is shown
 
-module _ (t : KeptThread) (path : Path) (ok : IsAcceptedImage t.disk t.pairs) where
-  pub refused_at : (r : ops.Refusal) (f : FoundNode) → refusal_unless_parents_are_directories (tree_on_disk t.disk t.pairs) [] path ≡ Some r → f ≡ record { fault = Some r; node = node.Nothing } → IsFoundNodeAtPath (tree_on_disk t.disk t.pairs) path f
-  refused_at r f h k = subst (λ z. IsFoundNodeAtPath (tree_on_disk t.disk t.pairs) path z) (sym k) (finds_nothing (tree_on_disk t.disk t.pairs) path (Some r) (nothing_at t.disk t.pairs path (refused_none t.disk t.pairs path [] r h)) h)
+module _ (t : KeptThread) (path : Path) (ok : IsAccepted t.disk t.pairs) where
+  pub refused_at : (r : ops.Refusal) (f : FoundNode) → parents_refusal (tree_on_disk t.disk t.pairs) [] path ≡ Some r → f ≡ record { fault = Some r; node = node.Nothing } → IsFoundNode (tree_on_disk t.disk t.pairs) path f
+  refused_at r f h k = subst (λ z. IsFoundNode (tree_on_disk t.disk t.pairs) path z) (sym k) (finds_nothing (tree_on_disk t.disk t.pairs) path (Some r) (nothing_at t.disk t.pairs path (refused_none t.disk t.pairs path [] r h)) h)
 
-  pub file_at : (moved : Option SlotPosition) (spot : SlotPosition) (contents : FileStorage) (f : FoundNode) → IsLookupResultWithSlotHidden t moved path (shown.File spot contents) → SizedLists t.disk → f ≡ record { fault = None; node = node.File (file_size_of_storage contents) }
-      → IsFoundNodeAtPath (tree_on_disk t.disk t.pairs) path f
+  pub file_at : (moved : Option SlotPosition) (spot : SlotPosition) (contents : FileStorage) (f : FoundNode) → IsHiddenResult t moved path (shown.File spot contents) → SizedLists t.disk → f ≡ record { fault = None; node = node.File (storage_size contents) }
+      → IsFoundNode (tree_on_disk t.disk t.pairs) path f
   file_at moved spot contents f (h, (s, k)) sized e =
-      subst (λ z. IsFoundNodeAtPath (tree_on_disk t.disk t.pairs) path z) (sym e)
+      subst (λ z. IsFoundNode (tree_on_disk t.disk t.pairs) path z) (sym e)
       (finds_shown t.disk t.pairs path s.stands.stands.slot contents ok
-      (list_at_path t.disk t.pairs s.above s.name s.on.at s.stands.stands.slot ok s.on.leads (sym (ap (slot_of_path t.pairs) s.is) ∙ s.slot)) s.slot k h sized)
+      (list_at_path t.disk t.pairs s.above s.name s.on.at s.stands.stands.slot ok s.on.leads (sym (ap (slot_of t.pairs) s.is) ∙ s.slot)) s.slot k h sized)

@@ -4,15 +4,15 @@ use Rattle.std.specs.Prelude.{find}
 use Rattle.std.specs.Option.{option_map, option_map_or}
 use Rattle.std.proofs.lemmas.Bool.{eqb-false, ltb-true}
 use Rattle.std.proofs.lemmas.List.Sums.{sum_by-cons}
-use Rattle.lfs_model.specs.Content.{attribute_bytes_of_type, attributes_with_attribute}
-use Rattle.lfs_model.specs.LoggedContent.{AreAttributesInTypeOrder}
-use Rattle.lfs_model.specs.Slots.{Attributes, attributes_size}
+use Rattle.lfs_model.specs.format.Content.{attribute_bytes, attributes_with}
+use Rattle.lfs_model.specs.layers.LoggedContent.{AttributesInOrder}
+use Rattle.lfs_model.specs.format.Slots.{Attributes, attributes_size}
 use Rattle.lfs_tag.specs.ContentView.{attribute_view}
 use Rattle.lfs_tag.specs.declared.content.Attribute.{Attribute}
-use Rattle.lfs_lookup.specs.AttributeAt.{IsAttributesSize, PutChangesAttributesSize}
+use Rattle.lfs_lookup.specs.AttributeAt.{IsAttributesSize, PutChangesSize}
 
 -- there are at most 256, each of at most 1,022 bytes
-pub size_bound : (low : ℕ) (xs : Attributes) → low ≤ 256 → AreAttributesInTypeOrder low xs → attributes_size xs ≤ (256 - low) * 1026
+pub size_bound : (low : ℕ) (xs : Attributes) → low ≤ 256 → AttributesInOrder low xs → attributes_size xs ≤ (256 - low) * 1026
 size_bound low [] l h = omega arith
 size_bound low (a ∷ xs) l h =
     let e = sum_by-cons (λ (a : ℕ × List ℕ). 4 + length a.1) a xs in
@@ -23,20 +23,20 @@ size_bound low (a ∷ xs) l h =
     omega arith
 
 -- none is of a type below the first one's
-absent_below : (low kind : ℕ) (xs : Attributes) → AreAttributesInTypeOrder low xs → kind < low → attribute_bytes_of_type kind xs ≡ None
+absent_below : (low kind : ℕ) (xs : Attributes) → AttributesInOrder low xs → kind < low → attribute_bytes kind xs ≡ None
 absent_below low kind [] h l = refl
 absent_below low kind (a ∷ xs) h l = go (a.0 == kind) refl (let m = h.0 in absent_below (a.0 + 1) kind xs h.3 (omega arith))
   where
-    go : (b : Bool) → (a.0 == kind) ≡ b → attribute_bytes_of_type kind xs ≡ None → option_map (λ (x : ℕ × List ℕ). x.1) (cond b (Some a) (find (λ (x : ℕ × List ℕ). x.0 == kind) xs)) ≡ None
+    go : (b : Bool) → (a.0 == kind) ≡ b → attribute_bytes kind xs ≡ None → option_map (λ (x : ℕ × List ℕ). x.1) (cond b (Some a) (find (λ (x : ℕ × List ℕ). x.0 == kind) xs)) ≡ None
     go true e later = let k = eqb-true a.0 kind e in let m = h.0 in absurd (omega arith)
     go false e later = later
 
-pub takes_place : (low : ℕ) (xs : Attributes) → AreAttributesInTypeOrder low xs → PutChangesAttributesSize xs
+pub takes_place : (low : ℕ) (xs : Attributes) → AttributesInOrder low xs → PutChangesSize xs
 takes_place low [] h kind bytes = let e = sum_by-cons (λ (a : ℕ × List ℕ). 4 + length a.1) (kind, bytes) [] in omega arith
 takes_place low (a ∷ xs) h kind bytes = go (nat_lt kind a.0) (kind == a.0) (a.0 == kind) refl refl refl (takes_place (a.0 + 1) xs h.3 kind bytes)
   where
-    go : (s t u : Bool) → nat_lt kind a.0 ≡ s → (kind == a.0) ≡ t → (a.0 == kind) ≡ u → attributes_size (attributes_with_attribute kind bytes xs) + option_map_or (λ b. 4 + length b) (attribute_bytes_of_type kind xs) 0 ≡ attributes_size xs + (4 + length bytes) →
-        attributes_size (cond s ((kind, bytes) ∷ a ∷ xs) (cond t ((kind, bytes) ∷ xs) (a ∷ attributes_with_attribute kind bytes xs)))
+    go : (s t u : Bool) → nat_lt kind a.0 ≡ s → (kind == a.0) ≡ t → (a.0 == kind) ≡ u → attributes_size (attributes_with kind bytes xs) + option_map_or (λ b. 4 + length b) (attribute_bytes kind xs) 0 ≡ attributes_size xs + (4 + length bytes) →
+        attributes_size (cond s ((kind, bytes) ∷ a ∷ xs) (cond t ((kind, bytes) ∷ xs) (a ∷ attributes_with kind bytes xs)))
         + option_map_or (λ z. 4 + length z) (option_map (λ (x : ℕ × List ℕ). x.1) (cond u (Some a) (find (λ (x : ℕ × List ℕ). x.0 == kind) xs))) 0
         ≡ attributes_size (a ∷ xs) + (4 + length bytes)
     go true t true below same back later = let l = ltb-true kind a.0 below in let e = eqb-true a.0 kind back in absurd (omega arith)
@@ -52,14 +52,14 @@ takes_place low (a ∷ xs) h kind bytes = go (nat_lt kind a.0) (kind == a.0) (a.
     go false true false below same back later = let e = eqb-true kind a.0 same in absurd (eqb-false a.0 kind back (sym e))
     go false false true below same back later = let e = eqb-true a.0 kind back in absurd (eqb-false kind a.0 same (sym e))
     go false false false below same back later =
-        let e = sum_by-cons (λ (a : ℕ × List ℕ). 4 + length a.1) a (attributes_with_attribute kind bytes xs) in
+        let e = sum_by-cons (λ (a : ℕ × List ℕ). 4 + length a.1) a (attributes_with kind bytes xs) in
         let f = sum_by-cons (λ (a : ℕ × List ℕ). 4 + length a.1) a xs in
         omega arith
 
 pub none_sized : IsAttributesSize [] 0
 none_sized = record { is = refl; small = omega arith; put = takes_place 0 [] tt }
 
-pub sized : (xs : Attributes) (size : ℕ) → AreAttributesInTypeOrder 0 xs → size ≡ attributes_size xs → IsAttributesSize xs size
+pub sized : (xs : Attributes) (size : ℕ) → AttributesInOrder 0 xs → size ≡ attributes_size xs → IsAttributesSize xs size
 sized xs size h e = record { is = e; small = (let b = size_bound 0 xs (omega arith) h in omega arith); put = takes_place 0 xs h }
 
 -- the sizes from one of them on
@@ -70,7 +70,7 @@ size_on (x ∷ xs) zero d l = sum_by-cons (λ (a : ℕ × List ℕ). 4 + length 
 size_on (x ∷ xs) (suc i) d l = size_on xs i d (omega arith)
 
 -- one more size is no overflow
-pub size_fits : (xs : List Attribute) (i : ℕ) (d : Attribute) (size : ℕ) → i < length xs → AreAttributesInTypeOrder 0 (map attribute_view xs) → size + attributes_size (map attribute_view (drop i xs)) ≡ attributes_size (map attribute_view xs)
+pub size_fits : (xs : List Attribute) (i : ℕ) (d : Attribute) (size : ℕ) → i < length xs → AttributesInOrder 0 (map attribute_view xs) → size + attributes_size (map attribute_view (drop i xs)) ≡ attributes_size (map attribute_view xs)
     → Fits w64 (size + (4 + length (get_or xs i d).bytes.now))
 size_fits xs i d size l h so_far =
     let on = size_on xs i d l in

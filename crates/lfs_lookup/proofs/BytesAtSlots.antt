@@ -4,33 +4,33 @@ use Rattle.std.specs.List.{enumerate_from, flat_map}
 use Rattle.std.specs.Option.{option_and_then, option_map}
 use Rattle.std.proofs.lemmas.List.{length-take}
 use Rattle.std.proofs.lemmas.Option.{same_Some}
-use Rattle.lfs_model.specs.TreeEdits.{file_bytes_of_node, is_file}
-use Rattle.lfs_model.specs.Content.{RawSlot, slot_if_name_and_struct_present, slots_if_names_and_structs_present, kind_of_name_type, slot_of_id, struct_of_type_and_bytes}
-use Rattle.lfs_model.specs.EntryTypes.{inline_struct_type, directory_struct_type, pair_address_of_bytes}
-use Rattle.lfs_model.specs.Disk.{Disk, inline_limit}
-use Rattle.lfs_model.specs.InDirectory.{IsPairOfDirectory, IsPlaceOfNameInDirectory}
-use Rattle.lfs_model.specs.SkipLists.{data_of_list_block, list_blocks_from_head, list_block_count_for_size}
-use Rattle.lfs_model.specs.Lookup.{slot_bytes_of_type, name_or_struct_bytes_if_of_type}
-use Rattle.lfs_model.specs.Names.{Name}
-use Rattle.lfs_model.specs.Slots.{Slot, Struct, Inline, Ctz, Branch}
-use Rattle.lfs_model.specs.SlotEdits.{slot_of_path}
-use Rattle.lfs_model.specs.Thread.{Pair}
-use Rattle.lfs_model.specs.Tree.{Path, node_of_struct_and_attributes}
-use Rattle.lfs_model.specs.Operations as ops
+use Rattle.lfs_model.specs.session.TreeEdits.{file_bytes, is_file}
+use Rattle.lfs_model.specs.format.Content.{RawSlot, complete_slot, complete_slots, kind_of_type, slot_of_id, read_struct}
+use Rattle.lfs_model.specs.format.EntryTypes.{inline_type, directory_type, read_address}
+use Rattle.lfs_model.specs.format.Disk.{Disk, inline_limit}
+use Rattle.lfs_model.specs.session.InDirectory.{IsPairOfDirectory, IsPlaceOf}
+use Rattle.lfs_model.specs.format.SkipLists.{block_data, blocks_to_head, block_count_for}
+use Rattle.lfs_model.specs.layers.Lookup.{slot_bytes, bytes_of_type}
+use Rattle.lfs_model.specs.format.Names.{Name}
+use Rattle.lfs_model.specs.format.Slots.{Slot, Struct, Inline, Ctz, Branch}
+use Rattle.lfs_model.specs.session.SlotEdits.{slot_of}
+use Rattle.lfs_model.specs.format.Thread.{Pair}
+use Rattle.lfs_model.specs.tree.Tree.{Path, struct_node}
+use Rattle.lfs_model.specs.session.Operations as ops
 use Rattle.std.specs.Prelude.{All}
 use Rattle.std.proofs.lemmas.List.Elements.{recursion_from_All}
 use Rattle.lfs_model.proofs.Counts.{Each, each_right}
-use Rattle.lfs_model.specs.Profile.{IsSlotWithinWritableLimits, HasInlineBytesWithinLimit, IsWritableImage}
-use Rattle.lfs_model.specs.View.{IsAcceptedImage, IsSkipListIfCtzStruct}
-use Rattle.lfs_model.specs.Shown.{skip_list_bytes_on_disk, entries_by_directory_in_thread, tree_on_disk}
+use Rattle.lfs_model.specs.tree.Profile.{IsWritableSlot, InlineBytesFit, IsWritable}
+use Rattle.lfs_model.specs.tree.View.{IsAccepted, IsWellFormedCtz}
+use Rattle.lfs_model.specs.tree.Shown.{struct_list_bytes, all_entries, tree_on_disk}
 use Rattle.lfs_model.proofs.Completed.{complete_parts}
 use Rattle.lfs_thread.specs.Kept.{KeptThread}
-use Rattle.lfs_thread.specs.Steps.{empty_pair_at_anchor}
-use Rattle.lfs_lookup.specs.AtPath.{IsLookupResultAtPathHidingMovedSlot}
-use Rattle.lfs_lookup.specs.BytesAt.{IsFileSlotAtSpot, spot_and_storage_of_found_file}
-use Rattle.lfs_lookup.specs.Entry.{IsStorageOfStruct}
-use Rattle.lfs_lookup.specs.FileBytes.{file_bytes_of_struct}
-use Rattle.lfs_lookup.specs.Paths.{IsUnmovedSlotOfPath}
+use Rattle.lfs_thread.specs.ThreadSteps.{empty_anchor}
+use Rattle.lfs_lookup.specs.AtPath.{IsResult}
+use Rattle.lfs_lookup.specs.BytesAt.{IsFileAt, spot_and_storage}
+use Rattle.lfs_lookup.specs.Entry.{IsStorage}
+use Rattle.lfs_lookup.specs.FileBytes.{struct_file_bytes}
+use Rattle.lfs_lookup.specs.LookupPaths.{IsUnmoved}
 use Rattle.lfs_lookup.specs.declared.entry.FileStorage.{FileStorage}
 use Rattle.lfs_lookup.specs.declared.entry.FileStorage.TheVariants as contents
 use Rattle.lfs_lookup.specs.declared.paths.VisiblePathLookup.{VisiblePathLookup}
@@ -40,7 +40,7 @@ use Rattle.lfs_lookup.proofs.AtPaths.{directory_at_path, list_at_path, nothing_a
 
 -- ---- in a block
 
-pub raw_slot : (raw : List RawSlot) (slots : List Slot) (id : ℕ) (t : Slot) → slots_if_names_and_structs_present raw ≡ Some slots → slice_get slots id ≡ Some t → slot_if_name_and_struct_present (slot_of_id raw id) ≡ Some t
+pub raw_slot : (raw : List RawSlot) (slots : List Slot) (id : ℕ) (t : Slot) → complete_slots raw ≡ Some slots → slice_get slots id ≡ Some t → complete_slot (slot_of_id raw id) ≡ Some t
 raw_slot [] slots id t e is = absurd (let k : slots ≡ [] = sym (same_Some [] slots e) in let m = ap (λ z. slice_get z id) k in cc)
 raw_slot (s ∷ raw) slots zero t e is =
     let p = complete_parts s raw slots e in
@@ -53,7 +53,7 @@ raw_slot (s ∷ raw) slots (suc id) t e is =
 same_inline : (a b : List ℕ) → Inline a ≡ Inline b → a ≡ b
 same_inline a b e = cc
 
-pub inline_held : (s : RawSlot) (t : Slot) (bytes : List ℕ) → slot_if_name_and_struct_present s ≡ Some t → t.struct ≡ Inline bytes → slot_bytes_of_type inline_struct_type s ≡ Some bytes
+pub inline_held : (s : RawSlot) (t : Slot) (bytes : List ℕ) → complete_slot s ≡ Some t → t.struct ≡ Inline bytes → slot_bytes inline_type s ≡ Some bytes
 inline_held s t bytes e h = go s.name s.struct e
   where
     by_type : (held : List ℕ) (to : ℕ × ℕ) (head size : ℕ) (a b : Bool) → cond a (Inline held) (cond b (Branch to) (Ctz head size)) ≡ Inline bytes → cond a (Some held) None ≡ Some bytes
@@ -62,12 +62,12 @@ inline_held s t bytes e h = go s.name s.struct e
     by_type held to head size false false k = absurd (cc)
 
     go : (n p : Option (ℕ × List ℕ)) →
-        option_and_then (λ name. option_map (λ struct. record { kind = kind_of_name_type name.0; name = name.1; struct = struct_of_type_and_bytes struct.0 struct.1; attributes = s.attributes }) p) n ≡ Some t → name_or_struct_bytes_if_of_type inline_struct_type p ≡ Some bytes
+        option_and_then (λ name. option_map (λ struct. record { kind = kind_of_type name.0; name = name.1; struct = read_struct struct.0 struct.1; attributes = s.attributes }) p) n ≡ Some t → bytes_of_type inline_type p ≡ Some bytes
     go None p k = absurd (cc)
     go (Some n) None k = absurd (cc)
     go (Some n) (Some p) k =
-        by_type p.1 (pair_address_of_bytes p.1) _ _ (p.0 == inline_struct_type) (p.0 == directory_struct_type)
-        (ap (λ (x : Slot). x.struct) (same_Some (record { kind = kind_of_name_type n.0; name = n.1; struct = struct_of_type_and_bytes p.0 p.1; attributes = s.attributes }) t k) ∙ h)
+        by_type p.1 (read_address p.1) _ _ (p.0 == inline_type) (p.0 == directory_type)
+        (ap (λ (x : Slot). x.struct) (same_Some (record { kind = kind_of_type n.0; name = n.1; struct = read_struct p.0 p.1; attributes = s.attributes }) t k) ∙ h)
 
 -- ---- in a pair
 
@@ -91,44 +91,44 @@ pair_is ps first index pair rest d b =
     let n : length (b.front ++ b.left) ≡ index = length-append b.front b.left ∙ b.number in
     ap₂ (λ qs i. get_or qs i d) (b.parts ∙ sym (append_assoc b.front b.left (pair ∷ rest))) (sym n) ∙ pair_behind (b.front ++ b.left) pair rest d
 
-pub slot_stands : (ps : List Pair) (first : ℕ) (name : Name) (index id : ℕ) (s : IsPlaceOfNameInDirectory ps first name index id) → slice_get (get_or ps index empty_pair_at_anchor).content.slots id ≡ Some s.stands.slot
+pub slot_stands : (ps : List Pair) (first : ℕ) (name : Name) (index id : ℕ) (s : IsPlaceOf ps first name index id) → slice_get (get_or ps index empty_anchor).content.slots id ≡ Some s.stands.slot
 slot_stands ps first name index id s =
-    ap (λ (p : Pair). slice_get p.content.slots id) (pair_is ps first index s.pair s.rest empty_pair_at_anchor s.place)
+    ap (λ (p : Pair). slice_get p.content.slots id) (pair_is ps first index s.pair s.rest empty_anchor s.place)
     ∙ ap₂ (λ xs i. slice_get xs i) s.stands.held (sym s.stands.number) ∙ slot_behind s.stands.left s.stands.slot s.stands.right
 
 -- ---- at a path
 
-module _ (t : KeptThread) (path : Path) (ok : IsAcceptedImage t.disk t.pairs) (moved : Option SlotPosition) (spot : SlotPosition) (contents : FileStorage) where
-  pub file_stands : (s : IsUnmovedSlotOfPath t.pairs moved path spot) → IsStorageOfStruct contents s.stands.stands.slot.struct → IsFileSlotAtSpot t spot contents s.stands.stands.slot
+module _ (t : KeptThread) (path : Path) (ok : IsAccepted t.disk t.pairs) (moved : Option SlotPosition) (spot : SlotPosition) (contents : FileStorage) where
+  pub file_stands : (s : IsUnmoved t.pairs moved path spot) → IsStorage contents s.stands.stands.slot.struct → IsFileAt t spot contents s.stands.stands.slot
   file_stands s k = record {
     below = behind_below t.pairs s.first spot.pair s.stands.pair s.stands.rest s.stands.place;
     there = slot_stands t.pairs s.first s.name spot.pair spot.id s.stands;
     shows = k;
-    list = list_at_path t.disk t.pairs s.above s.name s.on.at s.stands.stands.slot ok s.on.leads (sym (ap (slot_of_path t.pairs) s.is) ∙ s.slot);
+    list = list_at_path t.disk t.pairs s.above s.name s.on.at s.stands.stands.slot ok s.on.leads (sym (ap (slot_of t.pairs) s.is) ∙ s.slot);
   }
 
-node_bytes : (disk : Disk) (ps : List Pair) (x : Slot) (s : Struct) → file_bytes_of_node (Some (node_of_struct_and_attributes (skip_list_bytes_on_disk disk) (entries_by_directory_in_thread ps) x.attributes s)) ≡ file_bytes_of_struct disk s
+node_bytes : (disk : Disk) (ps : List Pair) (x : Slot) (s : Struct) → file_bytes (Some (struct_node (struct_list_bytes disk) (all_entries ps) x.attributes s)) ≡ struct_file_bytes disk s
 node_bytes disk ps x (Inline bytes) = refl
 node_bytes disk ps x (Ctz head size) = refl
 node_bytes disk ps x (Branch to) = refl
 
-pub bytes_of_slot : (disk : Disk) (ps : List Pair) (path : Path) (x : Slot) → slot_of_path ps path ≡ Some x → file_bytes_of_struct disk x.struct ≡ file_bytes_of_node (tree_on_disk disk ps path)
+pub bytes_of_slot : (disk : Disk) (ps : List Pair) (path : Path) (x : Slot) → slot_of ps path ≡ Some x → struct_file_bytes disk x.struct ≡ file_bytes (tree_on_disk disk ps path)
 bytes_of_slot disk ps path x e =
-    sym (node_bytes disk ps x x.struct) ∙ ap (λ (o : Option Slot). file_bytes_of_node (option_map (λ (f : Slot). node_of_struct_and_attributes (skip_list_bytes_on_disk disk) (entries_by_directory_in_thread ps) f.attributes f.struct) o)) (sym e)
+    sym (node_bytes disk ps x x.struct) ∙ ap (λ (o : Option Slot). file_bytes (option_map (λ (f : Slot). struct_node (struct_list_bytes disk) (all_entries ps) f.attributes f.struct) o)) (sym e)
 
 -- a file has less than 2^31 bytes
-pub few_shown : (disk : Disk) (contents : FileStorage) (s : Struct) → IsStorageOfStruct contents s → IsSkipListIfCtzStruct disk s → length (file_bytes_of_struct disk s) < 2 ^ 31
-few_shown disk (contents.Inline len) s k list = let l = ap (λ z. length (file_bytes_of_struct disk z)) k.1.0 in let m = k.1.1.0 in let n = k.1.1.1 in omega (arith, l, m, n)
+pub few_shown : (disk : Disk) (contents : FileStorage) (s : Struct) → IsStorage contents s → IsWellFormedCtz disk s → length (struct_file_bytes disk s) < 2 ^ 31
+few_shown disk (contents.Inline len) s k list = let l = ap (λ z. length (struct_file_bytes disk z)) k.1.0 in let m = k.1.1.0 in let n = k.1.1.1 in omega (arith, l, m, n)
 few_shown disk (contents.List head size) s k list =
-    let l = subst (IsSkipListIfCtzStruct disk) k list in
-    let e = ap (λ z. length (file_bytes_of_struct disk z)) k in
+    let l = subst (IsWellFormedCtz disk) k list in
+    let e = ap (λ z. length (struct_file_bytes disk z)) k in
     let h = l.size_high in
-    let n = length-take size (flat_map (data_of_list_block disk.blocks) (enumerate_from 0 (list_blocks_from_head disk.blocks (list_block_count_for_size disk.block_size size) head))) in
+    let n = length-take size (flat_map (block_data disk.blocks) (enumerate_from 0 (blocks_to_head disk.blocks (block_count_for disk.block_size size) head))) in
     omega (arith, e, h, n)
 
 -- ---- what is shown
 
-pub is_file_of : (x : VisiblePathLookup) (slot : SlotPosition) (contents : FileStorage) → spot_and_storage_of_found_file x ≡ Some (slot, contents) → x ≡ shown.File slot contents
+pub is_file_of : (x : VisiblePathLookup) (slot : SlotPosition) (contents : FileStorage) → spot_and_storage x ≡ Some (slot, contents) → x ≡ shown.File slot contents
 is_file_of shown.Root slot contents e = absurd (cc)
 is_file_of (shown.Directory s first) slot contents e = absurd (cc)
 is_file_of (shown.File s c) slot contents e =
@@ -140,7 +140,7 @@ is_file_of shown.ParentIsMissing slot contents e = absurd (cc)
 
 -- no file is there where none is found
 module _ (t : KeptThread) (path : Path) where
-  pub not_file : (x : VisiblePathLookup) → IsLookupResultAtPathHidingMovedSlot t path x → spot_and_storage_of_found_file x ≡ None → is_file (tree_on_disk t.disk t.pairs path) ≡ false
+  pub not_file : (x : VisiblePathLookup) → IsResult t path x → spot_and_storage x ≡ None → is_file (tree_on_disk t.disk t.pairs path) ≡ false
   not_file shown.Root s e = ap (λ p. is_file (tree_on_disk t.disk t.pairs p)) s.shows
   not_file (shown.Directory slot first) s e = ap is_file (directory_at_path t.disk t.pairs path s.shows.1.1.at s.shows.1.1.leads).is
   not_file (shown.File slot contents) s e = absurd (cc)
@@ -149,9 +149,9 @@ module _ (t : KeptThread) (path : Path) where
   not_file shown.ParentIsMissing s e = ap is_file (nothing_at t.disk t.pairs path (refused_none t.disk t.pairs path [] ops.NoEnt s.shows))
 
 -- an entry of the writing profile has few bytes in its slot
-inline_within : (disk : Disk) (ps : List Pair) (first : ℕ) (name : Name) (index id : ℕ) (s : IsPlaceOfNameInDirectory ps first name index id) → IsWritableImage disk ps → HasInlineBytesWithinLimit (inline_limit disk.profile disk.block_size) s.stands.slot.struct
+inline_within : (disk : Disk) (ps : List Pair) (first : ℕ) (name : Name) (index id : ℕ) (s : IsPlaceOf ps first name index id) → IsWritable disk ps → InlineBytesFit (inline_limit disk.profile disk.block_size) s.stands.slot.struct
 inline_within disk ps first name index id s fits =
-    let fit : Slot → Type 0 = IsSlotWithinWritableLimits disk.profile disk.block_size disk.page in
+    let fit : Slot → Type 0 = IsWritableSlot disk.profile disk.block_size disk.page in
     let all = recursion_from_All (λ (p : Pair). All fit p.content.slots) ps fits.slots in
     let one = (each_right (λ (p : Pair). All fit p.content.slots) s.place.left (s.pair ∷ s.rest)
     (each_right (λ (p : Pair). All fit p.content.slots) s.place.front (s.place.left ++ s.pair ∷ s.rest) (subst (Each (λ (p : Pair). All fit p.content.slots)) s.place.parts all))).0 in
@@ -161,15 +161,15 @@ inline_within disk ps first name index id s fits =
 -- what is found of the file at a path
 pub record IsFileOf (t : KeptThread) (path : Path) (slot : SlotPosition) (contents : FileStorage) : Type 0 where
   pub held : Slot
-  pub file : IsFileSlotAtSpot t slot contents held
-  pub bytes : file_bytes_of_struct t.disk held.struct ≡ file_bytes_of_node (tree_on_disk t.disk t.pairs path)
-  pub few : length (file_bytes_of_struct t.disk held.struct) < 2 ^ 31
-  pub at : slot_of_path t.pairs path ≡ Some held
-  pub inline : IsWritableImage t.disk t.pairs → HasInlineBytesWithinLimit (inline_limit t.disk.profile t.disk.block_size) held.struct
+  pub file : IsFileAt t slot contents held
+  pub bytes : struct_file_bytes t.disk held.struct ≡ file_bytes (tree_on_disk t.disk t.pairs path)
+  pub few : length (struct_file_bytes t.disk held.struct) < 2 ^ 31
+  pub at : slot_of t.pairs path ≡ Some held
+  pub inline : IsWritable t.disk t.pairs → InlineBytesFit (inline_limit t.disk.profile t.disk.block_size) held.struct
 
-pub file_of_path : (t : KeptThread) (path : Path) (x : VisiblePathLookup) (slot : SlotPosition) (contents : FileStorage) → IsAcceptedImage t.disk t.pairs → IsLookupResultAtPathHidingMovedSlot t path x → spot_and_storage_of_found_file x ≡ Some (slot, contents) → IsFileOf t path slot contents
+pub file_of_path : (t : KeptThread) (path : Path) (x : VisiblePathLookup) (slot : SlotPosition) (contents : FileStorage) → IsAccepted t.disk t.pairs → IsResult t path x → spot_and_storage x ≡ Some (slot, contents) → IsFileOf t path slot contents
 file_of_path t path x slot contents ok shows e =
-    let found = subst (λ z. IsLookupResultAtPathHidingMovedSlot t path z) (is_file_of x slot contents e) shows in
+    let found = subst (λ z. IsResult t path z) (is_file_of x slot contents e) shows in
     let (h, (s, k)) = found.shows in
     let file = file_stands t path ok found.moved slot contents s k in
     record {
@@ -182,10 +182,10 @@ file_of_path t path x slot contents ok shows e =
     }
 
 -- the file is that of a thread that was only read since
-pub file_since : (a b : KeptThread) (slot : SlotPosition) (contents : FileStorage) (held : Slot) → b.pairs ≡ a.pairs → b.disk ≡ a.disk → IsFileSlotAtSpot a slot contents held → IsFileSlotAtSpot b slot contents held
+pub file_since : (a b : KeptThread) (slot : SlotPosition) (contents : FileStorage) (held : Slot) → b.pairs ≡ a.pairs → b.disk ≡ a.disk → IsFileAt a slot contents held → IsFileAt b slot contents held
 file_since a b slot contents held pairs disk h = record {
   below = subst (λ (ps : List Pair). slot.pair < length ps) (sym pairs) h.below;
-  there = subst (λ (ps : List Pair). slice_get (get_or ps slot.pair empty_pair_at_anchor).content.slots slot.id ≡ Some held) (sym pairs) h.there;
+  there = subst (λ (ps : List Pair). slice_get (get_or ps slot.pair empty_anchor).content.slots slot.id ≡ Some held) (sym pairs) h.there;
   shows = h.shows;
-  list = subst (λ (d : Disk). IsSkipListIfCtzStruct d held.struct) (sym disk) h.list;
+  list = subst (λ (d : Disk). IsWellFormedCtz d held.struct) (sym disk) h.list;
 }

@@ -5,23 +5,23 @@ use Rattle.std.specs.Option.{option_and_then, option_map, option_or}
 use Rattle.std.proofs.lemmas.List.{map-append}
 use Rattle.std.proofs.lemmas.List.Sums.{sum_by-append, sum_by-cons}
 use Rattle.lfs_device.specs.declared.error.Error.{Error}
-use Rattle.lfs_model.specs.Disk.{Disk}
-use Rattle.lfs_model.specs.Frame.{pair_count_of_directory_at, ancestor_paths_of_path}
-use Rattle.lfs_model.specs.History.{read_count_of_history}
-use Rattle.lfs_model.specs.InDirectory.{hard_tail_joined_pair_count}
-use Rattle.lfs_model.specs.Names.{Name}
-use Rattle.lfs_model.specs.Operations.{Refusal}
-use Rattle.lfs_model.specs.Session.{refusal_unless_directory, refusal_unless_parents_are_directories}
-use Rattle.lfs_model.specs.SlotEdits.{slot_of_path}
-use Rattle.lfs_model.specs.Slots.{Slot, Struct, Inline, Ctz, Branch}
-use Rattle.lfs_model.specs.Thread.{gstate_of_pairs}
-use Rattle.lfs_model.specs.Tree.{Path, Tree, branch_address_of_struct, node_of_struct_and_attributes}
-use Rattle.lfs_model.specs.View.{IsAcceptedImage}
-use Rattle.lfs_model.specs.Shown.{IsPathToDirectory, skip_list_bytes_on_disk, entries_by_directory_in_thread, tree_on_disk}
+use Rattle.lfs_model.specs.format.Disk.{Disk}
+use Rattle.lfs_model.specs.crash.Frame.{pair_count_at, ancestor_paths}
+use Rattle.lfs_model.specs.session.History.{read_count}
+use Rattle.lfs_model.specs.session.InDirectory.{joined_count}
+use Rattle.lfs_model.specs.format.Names.{Name}
+use Rattle.lfs_model.specs.session.Operations.{Refusal}
+use Rattle.lfs_model.specs.session.Session.{directory_refusal, parents_refusal}
+use Rattle.lfs_model.specs.session.SlotEdits.{slot_of}
+use Rattle.lfs_model.specs.format.Slots.{Slot, Struct, Inline, Ctz, Branch}
+use Rattle.lfs_model.specs.format.Thread.{pairs_gstate}
+use Rattle.lfs_model.specs.tree.Tree.{Path, Tree, branch_address, struct_node}
+use Rattle.lfs_model.specs.tree.View.{IsAccepted}
+use Rattle.lfs_model.specs.tree.Shown.{LeadsTo, struct_list_bytes, all_entries, tree_on_disk}
 use Rattle.lfs_thread.specs.Kept.{KeptThread}
-use Rattle.lfs_thread.specs.Steps.{IsThreadOnlyRead}
-use Rattle.lfs_lookup.specs.Paths.{PathLeadsToFirstPair, IsParentReachedByAllNamesOfPath, IsDirectoryFileOrNothingAtPath, HidesOnlyMovedSlot, IsEntryBelowRootWithSlotHidden, IsFoundEntryOfName, PathLeadsToLookupResult, IsLookupResultWithSlotHidden}
-use Rattle.lfs_lookup.specs.Search.{HidesMovedSlotInPairsFromIndex}
+use Rattle.lfs_thread.specs.ThreadSteps.{OnlyReadsThread}
+use Rattle.lfs_lookup.specs.LookupPaths.{LeadsToPair, ParentReached, IsNodeAt, HidesMovedSlot, IsBelowRoot, IsNamedEntry, LeadsToResult, IsHiddenResult}
+use Rattle.lfs_lookup.specs.NameSearch.{HidesFrom}
 use Rattle.lfs_lookup.specs.declared.search.SlotPosition.{SlotPosition}
 use Rattle.lfs_lookup.specs.declared.paths.VisiblePathLookup.{VisiblePathLookup}
 use Rattle.lfs_lookup.specs.declared.paths.VisiblePathLookup.TheVariants as shown
@@ -62,38 +62,38 @@ drop_whole (suc i) (x ∷ xs) l = drop_whole i xs (omega arith)
 
 -- ---- the directories above
 
-pub parents_on : (p : Path) (n : Name) → ancestor_paths_of_path (p ++ n ∷ []) ≡ ancestor_paths_of_path p ++ p ∷ []
+pub parents_on : (p : Path) (n : Name) → ancestor_paths (p ++ n ∷ []) ≡ ancestor_paths p ++ p ∷ []
 parents_on [] n = refl
-parents_on (x ∷ p) n = ap (λ z. [] ∷ map (λ q. x ∷ q) z) (parents_on p n) ∙ ap (λ z. [] ∷ z) (map-append (λ (q : Path). x ∷ q) (ancestor_paths_of_path p) (p ∷ []))
+parents_on (x ∷ p) n = ap (λ z. [] ∷ map (λ q. x ∷ q) z) (parents_on p n) ∙ ap (λ z. [] ∷ z) (map-append (λ (q : Path). x ∷ q) (ancestor_paths p) (p ∷ []))
 
-pub sum_on : (f : Path → ℕ) (p : Path) (n : Name) → sum_by f (ancestor_paths_of_path (p ++ n ∷ [])) ≡ sum_by f (ancestor_paths_of_path p) + f p
-sum_on f p n = let a = ap (sum_by f) (parents_on p n) in let b = sum_by-append f (ancestor_paths_of_path p) (p ∷ []) in let c = sum_by-cons f p [] in omega (arith, a, b, c)
+pub sum_on : (f : Path → ℕ) (p : Path) (n : Name) → sum_by f (ancestor_paths (p ++ n ∷ [])) ≡ sum_by f (ancestor_paths p) + f p
+sum_on f p n = let a = ap (sum_by f) (parents_on p n) in let b = sum_by-append f (ancestor_paths p) (p ∷ []) in let c = sum_by-cons f p [] in omega (arith, a, b, c)
 
-pub sum_more : (f : Path → ℕ) (p q : Path) → sum_by f (ancestor_paths_of_path p) ≤ sum_by f (ancestor_paths_of_path (p ++ q))
-sum_more f p [] = let e = ap (λ z. sum_by f (ancestor_paths_of_path z)) (append-nil p) in omega (arith, e)
+pub sum_more : (f : Path → ℕ) (p q : Path) → sum_by f (ancestor_paths p) ≤ sum_by f (ancestor_paths (p ++ q))
+sum_more f p [] = let e = ap (λ z. sum_by f (ancestor_paths z)) (append-nil p) in omega (arith, e)
 sum_more f p (n ∷ q) =
     let e = sum_on f p n in
     let r = sum_more f (p ++ n ∷ []) q in
-    let s = ap (λ z. sum_by f (ancestor_paths_of_path z)) (append_assoc p (n ∷ []) q) in
+    let s = ap (λ z. sum_by f (ancestor_paths z)) (append_assoc p (n ∷ []) q) in
     omega (arith, e, r, s)
 
 -- ---- faults
 
 fault_step : (t : Tree) (above : Path) (n : Name) (rest : Path) (name : Name)
-    → refusal_unless_parents_are_directories t above (n ∷ (rest ++ name ∷ [])) ≡ option_or (refusal_unless_directory (t (above ++ n ∷ []))) (refusal_unless_parents_are_directories t (above ++ n ∷ []) (rest ++ name ∷ []))
+    → parents_refusal t above (n ∷ (rest ++ name ∷ [])) ≡ option_or (directory_refusal (t (above ++ n ∷ []))) (parents_refusal t (above ++ n ∷ []) (rest ++ name ∷ []))
 fault_step t above n [] name = refl
 fault_step t above n (r ∷ rest) name = refl
 
 -- a directory refuses nothing
-pub directory_is : (t : KeptThread) (path : Path) (at : ℕ × ℕ) → IsPathToDirectory t.pairs path at → refusal_unless_directory (tree_on_disk t.disk t.pairs path) ≡ None
-directory_is t path at leads = go (slot_of_path t.pairs path) leads
+pub directory_is : (t : KeptThread) (path : Path) (at : ℕ × ℕ) → LeadsTo t.pairs path at → directory_refusal (tree_on_disk t.disk t.pairs path) ≡ None
+directory_is t path at leads = go (slot_of t.pairs path) leads
   where
-    by_struct : (f : Slot) (s : Struct) → branch_address_of_struct s ≡ Some at → refusal_unless_directory (Some (node_of_struct_and_attributes (skip_list_bytes_on_disk t.disk) (entries_by_directory_in_thread t.pairs) f.attributes s)) ≡ None
+    by_struct : (f : Slot) (s : Struct) → branch_address s ≡ Some at → directory_refusal (Some (struct_node (struct_list_bytes t.disk) (all_entries t.pairs) f.attributes s)) ≡ None
     by_struct f (Inline bytes) e = absurd (cc)
     by_struct f (Ctz head size) e = absurd (cc)
     by_struct f (Branch to) e = refl
 
-    go : (o : Option Slot) → option_and_then (λ (f : Slot). branch_address_of_struct f.struct) o ≡ Some at → refusal_unless_directory (option_map (λ (f : Slot). node_of_struct_and_attributes (skip_list_bytes_on_disk t.disk) (entries_by_directory_in_thread t.pairs) f.attributes f.struct) o) ≡ None
+    go : (o : Option Slot) → option_and_then (λ (f : Slot). branch_address f.struct) o ≡ Some at → directory_refusal (option_map (λ (f : Slot). struct_node (struct_list_bytes t.disk) (all_entries t.pairs) f.attributes f.struct) o) ≡ None
     go None e = absurd (cc)
     go (Some f) e = by_struct f f.struct e
 
@@ -101,44 +101,44 @@ directory_is t path at leads = go (slot_of_path t.pairs path) leads
 
 -- the first i components of the path are directories, and the last of them begins with the pair of that number
 pub record HasDescended (t now : KeptThread) (path : Path) (i first : ℕ) : Type 0 where
-  pub begins : PathLeadsToFirstPair t.pairs (take i path) first
-  pub still : (name : Name) → refusal_unless_parents_are_directories (tree_on_disk t.disk t.pairs) [] (path ++ name ∷ []) ≡ refusal_unless_parents_are_directories (tree_on_disk t.disk t.pairs) (take i path) (drop i path ++ name ∷ [])
-  pub few : read_count_of_history now.history ≤ read_count_of_history t.history + sum_by (pair_count_of_directory_at t.pairs) (ancestor_paths_of_path (take i path))
+  pub begins : LeadsToPair t.pairs (take i path) first
+  pub still : (name : Name) → parents_refusal (tree_on_disk t.disk t.pairs) [] (path ++ name ∷ []) ≡ parents_refusal (tree_on_disk t.disk t.pairs) (take i path) (drop i path ++ name ∷ [])
+  pub few : read_count now.history ≤ read_count t.history + sum_by (pair_count_at t.pairs) (ancestor_paths (take i path))
 
 module _ (t now next : KeptThread) (path : Path) (i first : ℕ) (n : Name) (d : HasDescended t now path i first) (at : slice_get path i ≡ Some n) where
-  pub refused_by : (name : Name) → refusal_unless_parents_are_directories (tree_on_disk t.disk t.pairs) [] (path ++ name ∷ [])
-      ≡ option_or (refusal_unless_directory (tree_on_disk t.disk t.pairs (take i path ++ n ∷ []))) (refusal_unless_parents_are_directories (tree_on_disk t.disk t.pairs) (take i path ++ n ∷ []) (drop (i + 1) path ++ name ∷ []))
-  refused_by name = d.still name ∙ ap (λ z. refusal_unless_parents_are_directories (tree_on_disk t.disk t.pairs) (take i path) (z ++ name ∷ [])) (drop_on path i n at) ∙ fault_step (tree_on_disk t.disk t.pairs) (take i path) n (drop (i + 1) path) name
+  pub refused_by : (name : Name) → parents_refusal (tree_on_disk t.disk t.pairs) [] (path ++ name ∷ [])
+      ≡ option_or (directory_refusal (tree_on_disk t.disk t.pairs (take i path ++ n ∷ []))) (parents_refusal (tree_on_disk t.disk t.pairs) (take i path ++ n ∷ []) (drop (i + 1) path ++ name ∷ []))
+  refused_by name = d.still name ∙ ap (λ z. parents_refusal (tree_on_disk t.disk t.pairs) (take i path) (z ++ name ∷ [])) (drop_on path i n at) ∙ fault_step (tree_on_disk t.disk t.pairs) (take i path) n (drop (i + 1) path) name
 
-  pub stops_at : (refusal : Refusal) → refusal_unless_directory (tree_on_disk t.disk t.pairs (take i path ++ n ∷ [])) ≡ Some refusal → (name : Name) → refusal_unless_parents_are_directories (tree_on_disk t.disk t.pairs) [] (path ++ name ∷ []) ≡ Some refusal
-  stops_at refusal e name = refused_by name ∙ ap (λ o. option_or o (refusal_unless_parents_are_directories (tree_on_disk t.disk t.pairs) (take i path ++ n ∷ []) (drop (i + 1) path ++ name ∷ []))) e
+  pub stops_at : (refusal : Refusal) → directory_refusal (tree_on_disk t.disk t.pairs (take i path ++ n ∷ [])) ≡ Some refusal → (name : Name) → parents_refusal (tree_on_disk t.disk t.pairs) [] (path ++ name ∷ []) ≡ Some refusal
+  stops_at refusal e name = refused_by name ∙ ap (λ o. option_or o (parents_refusal (tree_on_disk t.disk t.pairs) (take i path ++ n ∷ []) (drop (i + 1) path ++ name ∷ []))) e
 
-  module _ (more : read_count_of_history next.history ≤ read_count_of_history now.history + pair_count_of_directory_at t.pairs (take i path)) where
-    few_on : read_count_of_history next.history ≤ read_count_of_history t.history + sum_by (pair_count_of_directory_at t.pairs) (ancestor_paths_of_path (take (i + 1) path))
+  module _ (more : read_count next.history ≤ read_count now.history + pair_count_at t.pairs (take i path)) where
+    few_on : read_count next.history ≤ read_count t.history + sum_by (pair_count_at t.pairs) (ancestor_paths (take (i + 1) path))
     few_on =
-        let e = sum_on (pair_count_of_directory_at t.pairs) (take i path) n in
-        let s = ap (λ z. sum_by (pair_count_of_directory_at t.pairs) (ancestor_paths_of_path z)) (take_on path i n at) in
+        let e = sum_on (pair_count_at t.pairs) (take i path) n in
+        let s = ap (λ z. sum_by (pair_count_at t.pairs) (ancestor_paths z)) (take_on path i n at) in
         let f = d.few in
         omega (arith, e, s, f, more)
 
-    pub few_whole : read_count_of_history next.history ≤ read_count_of_history t.history + sum_by (pair_count_of_directory_at t.pairs) (ancestor_paths_of_path path)
+    pub few_whole : read_count next.history ≤ read_count t.history + sum_by (pair_count_at t.pairs) (ancestor_paths path)
     few_whole =
-        let m = sum_more (pair_count_of_directory_at t.pairs) (take (i + 1) path) (drop (i + 1) path) in
-        let s = ap (λ z. sum_by (pair_count_of_directory_at t.pairs) (ancestor_paths_of_path z)) (take_drop (i + 1) path) in
+        let m = sum_more (pair_count_at t.pairs) (take (i + 1) path) (drop (i + 1) path) in
+        let s = ap (λ z. sum_by (pair_count_at t.pairs) (ancestor_paths z)) (take_drop (i + 1) path) in
         let f = few_on in
         omega (arith, m, s, f)
 
-    pub descends_on : (further : ℕ) → PathLeadsToFirstPair t.pairs (take i path ++ n ∷ []) further → HasDescended t next path (i + 1) further
+    pub descends_on : (further : ℕ) → LeadsToPair t.pairs (take i path ++ n ∷ []) further → HasDescended t next path (i + 1) further
     descends_on further on = record {
-      begins = subst (λ p. PathLeadsToFirstPair t.pairs p further) (sym (take_on path i n at)) on;
-      still = λ name. refused_by name ∙ ap₂ (λ o p. option_or o (refusal_unless_parents_are_directories (tree_on_disk t.disk t.pairs) p (drop (i + 1) path ++ name ∷ []))) (directory_is t (take i path ++ n ∷ []) on.at on.leads) (sym (take_on path i n at));
+      begins = subst (λ p. LeadsToPair t.pairs p further) (sym (take_on path i n at)) on;
+      still = λ name. refused_by name ∙ ap₂ (λ o p. option_or o (parents_refusal (tree_on_disk t.disk t.pairs) p (drop (i + 1) path ++ name ∷ []))) (directory_is t (take i path ++ n ∷ []) on.at on.leads) (sym (take_on path i n at));
       few = few_on;
     }
 
-pub has_descended : (t now : KeptThread) (path : Path) (i first : ℕ) → HasDescended t now path i first → length path ≤ i → IsParentReachedByAllNamesOfPath t path (parent.Directory first)
+pub has_descended : (t now : KeptThread) (path : Path) (i first : ℕ) → HasDescended t now path i first → length path ≤ i → ParentReached t path (parent.Directory first)
 has_descended t now path i first d l = record {
-  fault = λ name. d.still name ∙ ap (λ z. refusal_unless_parents_are_directories (tree_on_disk t.disk t.pairs) (take i path) (z ++ name ∷ [])) (drop_whole i path l);
-  begins = subst (λ p. PathLeadsToFirstPair t.pairs p first) (take_whole i path l) d.begins;
+  fault = λ name. d.still name ∙ ap (λ z. parents_refusal (tree_on_disk t.disk t.pairs) (take i path) (z ++ name ∷ [])) (drop_whole i path l);
+  begins = subst (λ p. LeadsToPair t.pairs p first) (take_whole i path l) d.begins;
 }
 
 -- the name at an index
@@ -154,48 +154,48 @@ some_at f (y ∷ xs) (suc i) l = some_at f xs i (omega arith)
 
 -- ---- behind calls that only read
 
-pub begins_same : (a b : KeptThread) → IsThreadOnlyRead a b → (path : Path) (first : ℕ) → PathLeadsToFirstPair a.pairs path first → PathLeadsToFirstPair b.pairs path first
-begins_same a b r path first on = subst (λ ps. PathLeadsToFirstPair ps path first) (sym r.pairs) on
+pub begins_same : (a b : KeptThread) → OnlyReadsThread a b → (path : Path) (first : ℕ) → LeadsToPair a.pairs path first → LeadsToPair b.pairs path first
+begins_same a b r path first on = subst (λ ps. LeadsToPair ps path first) (sym r.pairs) on
 
-pub enters_same : (a b : KeptThread) → IsThreadOnlyRead a b → (path : Path) (p : Parent) → IsDirectoryFileOrNothingAtPath b path p → IsDirectoryFileOrNothingAtPath a path p
-enters_same a b r path (parent.Directory first) e = subst (λ ps. PathLeadsToFirstPair ps path first) r.pairs e
-enters_same a b r path parent.File e = ap₂ (λ d ps. refusal_unless_directory (tree_on_disk d ps path)) (sym r.disk) (sym r.pairs) ∙ e
-enters_same a b r path parent.Nothing e = ap₂ (λ d ps. refusal_unless_directory (tree_on_disk d ps path)) (sym r.disk) (sym r.pairs) ∙ e
+pub enters_same : (a b : KeptThread) → OnlyReadsThread a b → (path : Path) (p : Parent) → IsNodeAt b path p → IsNodeAt a path p
+enters_same a b r path (parent.Directory first) e = subst (λ ps. LeadsToPair ps path first) r.pairs e
+enters_same a b r path parent.File e = ap₂ (λ d ps. directory_refusal (tree_on_disk d ps path)) (sym r.disk) (sym r.pairs) ∙ e
+enters_same a b r path parent.Nothing e = ap₂ (λ d ps. directory_refusal (tree_on_disk d ps path)) (sym r.disk) (sym r.pairs) ∙ e
 
-pub few_same : (a b : KeptThread) → IsAcceptedImage a.disk a.pairs → IsThreadOnlyRead a b → (path : Path) (first : ℕ) → PathLeadsToFirstPair a.pairs path first → hard_tail_joined_pair_count (drop first b.pairs) ≡ pair_count_of_directory_at a.pairs path
-few_same a b ok r path first on = ap (λ ps. hard_tail_joined_pair_count (drop first ps)) r.pairs ∙ run_length_is a.disk a.pairs path on.at first ok on.leads on.begins
+pub few_same : (a b : KeptThread) → IsAccepted a.disk a.pairs → OnlyReadsThread a b → (path : Path) (first : ℕ) → LeadsToPair a.pairs path first → joined_count (drop first b.pairs) ≡ pair_count_at a.pairs path
+few_same a b ok r path first on = ap (λ ps. joined_count (drop first ps)) r.pairs ∙ run_length_is a.disk a.pairs path on.at first ok on.leads on.begins
 
 -- ---- the last name of a path
 
 pub names_are : {A : Type 0} (f : A → Name) (xs above : List A) (x : A) → xs ≡ above ++ x ∷ [] → map f xs ≡ map f above ++ f x ∷ []
 names_are f xs above x e = ap (map f) e ∙ map-append f above (x ∷ [])
 
-pub sum_is : (f : Path → ℕ) (path above : Path) (n : Name) → path ≡ above ++ n ∷ [] → sum_by f (ancestor_paths_of_path path) ≡ sum_by f (ancestor_paths_of_path above) + f above
-sum_is f path above n e = ap (λ p. sum_by f (ancestor_paths_of_path p)) e ∙ sum_on f above n
+pub sum_is : (f : Path → ℕ) (path above : Path) (n : Name) → path ≡ above ++ n ∷ [] → sum_by f (ancestor_paths path) ≡ sum_by f (ancestor_paths above) + f above
+sum_is f path above n e = ap (λ p. sum_by f (ancestor_paths p)) e ∙ sum_on f above n
 
 module _ (t : KeptThread) (path above : Path) (n : Name) (is : path ≡ above ++ n ∷ []) where
-  pub leads_there : (found : PathLookup) → refusal_unless_parents_are_directories (tree_on_disk t.disk t.pairs) [] (above ++ n ∷ []) ≡ None → IsFoundEntryOfName t.disk.order t.pairs above n found → PathLeadsToLookupResult t path found
-  leads_there (found.Directory parent slot first) e there = record { parents = ap (refusal_unless_parents_are_directories (tree_on_disk t.disk t.pairs) []) is ∙ e; there = record { above = above; name = n; is = is; there = there } }
-  leads_there (found.File parent slot contents) e there = record { parents = ap (refusal_unless_parents_are_directories (tree_on_disk t.disk t.pairs) []) is ∙ e; there = record { above = above; name = n; is = is; there = there } }
-  leads_there (found.Nothing parent place) e there = record { parents = ap (refusal_unless_parents_are_directories (tree_on_disk t.disk t.pairs) []) is ∙ e; there = record { above = above; name = n; is = is; there = there } }
+  pub leads_there : (found : PathLookup) → parents_refusal (tree_on_disk t.disk t.pairs) [] (above ++ n ∷ []) ≡ None → IsNamedEntry t.disk.order t.pairs above n found → LeadsToResult t path found
+  leads_there (found.Directory parent slot first) e there = record { parents = ap (parents_refusal (tree_on_disk t.disk t.pairs) []) is ∙ e; there = record { above = above; name = n; is = is; there = there } }
+  leads_there (found.File parent slot contents) e there = record { parents = ap (parents_refusal (tree_on_disk t.disk t.pairs) []) is ∙ e; there = record { above = above; name = n; is = is; there = there } }
+  leads_there (found.Nothing parent place) e there = record { parents = ap (parents_refusal (tree_on_disk t.disk t.pairs) []) is ∙ e; there = record { above = above; name = n; is = is; there = there } }
   leads_there found.Root e there = absurd there
   leads_there found.ParentIsFile e there = absurd there
   leads_there found.ParentIsMissing e there = absurd there
 
-  pub leads_past_file : IsParentReachedByAllNamesOfPath t above parent.File → PathLeadsToLookupResult t path found.ParentIsFile
-  leads_past_file d = record { parents = ap (refusal_unless_parents_are_directories (tree_on_disk t.disk t.pairs) []) is ∙ d.fault n; there = tt }
+  pub leads_past_file : ParentReached t above parent.File → LeadsToResult t path found.ParentIsFile
+  leads_past_file d = record { parents = ap (parents_refusal (tree_on_disk t.disk t.pairs) []) is ∙ d.fault n; there = tt }
 
-  pub leads_past_nothing : IsParentReachedByAllNamesOfPath t above parent.Nothing → PathLeadsToLookupResult t path found.ParentIsMissing
-  leads_past_nothing d = record { parents = ap (refusal_unless_parents_are_directories (tree_on_disk t.disk t.pairs) []) is ∙ d.fault n; there = tt }
+  pub leads_past_nothing : ParentReached t above parent.Nothing → LeadsToResult t path found.ParentIsMissing
+  leads_past_nothing d = record { parents = ap (parents_refusal (tree_on_disk t.disk t.pairs) []) is ∙ d.fault n; there = tt }
 
-pub looked_in : (t next : KeptThread) → IsThreadOnlyRead t next → (above : Path) (n : Name) (first : ℕ) (result : Result PathLookup Error) → PathLeadsToFirstPair t.pairs above first
-    → IfOk result (λ found. (above : Path) → PathLeadsToFirstPair next.pairs above first → IsFoundEntryOfName next.disk.order next.pairs above n found) → (path : Path) → path ≡ above ++ n ∷ []
-    → refusal_unless_parents_are_directories (tree_on_disk t.disk t.pairs) [] (above ++ n ∷ []) ≡ None → IfOk result (PathLeadsToLookupResult t path)
+pub looked_in : (t next : KeptThread) → OnlyReadsThread t next → (above : Path) (n : Name) (first : ℕ) (result : Result PathLookup Error) → LeadsToPair t.pairs above first
+    → IfOk result (λ found. (above : Path) → LeadsToPair next.pairs above first → IsNamedEntry next.disk.order next.pairs above n found) → (path : Path) → path ≡ above ++ n ∷ []
+    → parents_refusal (tree_on_disk t.disk t.pairs) [] (above ++ n ∷ []) ≡ None → IfOk result (LeadsToResult t path)
 looked_in t next r above n first (Err e) on answer path is fault = tt
 looked_in t next r above n first (Ok found) on answer path is fault =
-    leads_there t path above n is found fault (subst₂ (λ (d : Disk) ps. IsFoundEntryOfName d.order ps above n found) r.disk r.pairs (answer above (begins_same t next r above first on)))
+    leads_there t path above n is found fault (subst₂ (λ (d : Disk) ps. IsNamedEntry d.order ps above n found) r.disk r.pairs (answer above (begins_same t next r above first on)))
 
-shows_there : (t : KeptThread) (moved : Option SlotPosition) (path : Path) (s : VisiblePathLookup) → refusal_unless_parents_are_directories (tree_on_disk t.disk t.pairs) [] path ≡ None → IsEntryBelowRootWithSlotHidden t.pairs moved path s → IsLookupResultWithSlotHidden t moved path s
+shows_there : (t : KeptThread) (moved : Option SlotPosition) (path : Path) (s : VisiblePathLookup) → parents_refusal (tree_on_disk t.disk t.pairs) [] path ≡ None → IsBelowRoot t.pairs moved path s → IsHiddenResult t moved path s
 shows_there t moved path (shown.Directory spot first) e there = (e, there)
 shows_there t moved path (shown.File spot contents) e there = (e, there)
 shows_there t moved path shown.Nothing e there = (e, there)
@@ -203,15 +203,15 @@ shows_there t moved path shown.Root e there = absurd there
 shows_there t moved path shown.ParentIsFile e there = absurd there
 shows_there t moved path shown.ParentIsMissing e there = absurd there
 
-pub showed_in : (t next : KeptThread) (moved : Option SlotPosition) → IsThreadOnlyRead t next → (above : Path) (n : Name) (first : ℕ) (result : Result VisiblePathLookup Error) → PathLeadsToFirstPair t.pairs above first
-    → IfOk result (λ s. (above : Path) → PathLeadsToFirstPair next.pairs above first → IsEntryBelowRootWithSlotHidden next.pairs moved (above ++ n ∷ []) s) → (path : Path) → path ≡ above ++ n ∷ []
-    → refusal_unless_parents_are_directories (tree_on_disk t.disk t.pairs) [] (above ++ n ∷ []) ≡ None → IfOk result (IsLookupResultWithSlotHidden t moved path)
+pub showed_in : (t next : KeptThread) (moved : Option SlotPosition) → OnlyReadsThread t next → (above : Path) (n : Name) (first : ℕ) (result : Result VisiblePathLookup Error) → LeadsToPair t.pairs above first
+    → IfOk result (λ s. (above : Path) → LeadsToPair next.pairs above first → IsBelowRoot next.pairs moved (above ++ n ∷ []) s) → (path : Path) → path ≡ above ++ n ∷ []
+    → parents_refusal (tree_on_disk t.disk t.pairs) [] (above ++ n ∷ []) ≡ None → IfOk result (IsHiddenResult t moved path)
 showed_in t next moved r above n first (Err e) on answer path is fault = tt
 showed_in t next moved r above n first (Ok s) on answer path is fault =
-    subst (λ p. IsLookupResultWithSlotHidden t moved p s) (sym is) (shows_there t moved (above ++ n ∷ []) s fault (subst (λ ps. IsEntryBelowRootWithSlotHidden ps moved (above ++ n ∷ []) s) r.pairs (answer above (begins_same t next r above first on))))
+    subst (λ p. IsHiddenResult t moved p s) (sym is) (shows_there t moved (above ++ n ∷ []) s fault (subst (λ ps. IsBelowRoot ps moved (above ++ n ∷ []) s) r.pairs (answer above (begins_same t next r above first on))))
 
-pub hiding_same : (a b : KeptThread) (moved : Option SlotPosition) → IsThreadOnlyRead a b → HidesOnlyMovedSlot a moved → HidesOnlyMovedSlot b moved
+pub hiding_same : (a b : KeptThread) (moved : Option SlotPosition) → OnlyReadsThread a b → HidesMovedSlot a moved → HidesMovedSlot b moved
 hiding_same a b moved r h = record {
-  accepted = subst (λ d. IsAcceptedImage d b.pairs) (sym r.disk) (subst (IsAcceptedImage a.disk) (sym r.pairs) h.accepted);
-  hides = subst (λ ps. HidesMovedSlotInPairsFromIndex (gstate_of_pairs ps) moved 0 ps) (sym r.pairs) h.hides;
+  accepted = subst (λ d. IsAccepted d b.pairs) (sym r.disk) (subst (IsAccepted a.disk) (sym r.pairs) h.accepted);
+  hides = subst (λ ps. HidesFrom (pairs_gstate ps) moved 0 ps) (sym r.pairs) h.hides;
 }

@@ -3,58 +3,58 @@ use Rattle.std.proofs.Common.{refl, ℕ, ◌≡◌, ◌+◌, false, List, [], �
 use Rattle.std.specs.Prelude.{IfNone, IsSome}
 use Rattle.std.specs.List.{AllByRecursion}
 use Rattle.std.specs.Option.{option_and_then, option_map}
-use Rattle.lfs_model.specs.InDirectory.{IsPlaceWhereNameBelongs, ArePairsWithoutSuperblock, IsPlaceOfNameInDirectory}
-use Rattle.lfs_model.specs.Names.{Name}
-use Rattle.lfs_model.specs.Operations.{NoEnt, NotDir}
-use Rattle.lfs_model.specs.Session.{refusal_unless_directory}
-use Rattle.lfs_model.specs.SlotEdits.{slot_of_path}
-use Rattle.lfs_model.specs.Slots.{Slot, Branch, same_pair, zero_gstate}
-use Rattle.lfs_model.specs.Thread.{Pair, pairs_from_root_directory_on}
-use Rattle.lfs_model.specs.Tree.{Path, branch_address_of_struct, node_of_struct_and_attributes}
-use Rattle.lfs_model.specs.View.{IsAcceptedImage}
-use Rattle.lfs_model.specs.Shown.{IsPathToDirectory, skip_list_bytes_on_disk, entries_by_directory_in_thread, tree_on_disk}
+use Rattle.lfs_model.specs.session.InDirectory.{BelongsAt, AreEntryPairs, IsPlaceOf}
+use Rattle.lfs_model.specs.format.Names.{Name}
+use Rattle.lfs_model.specs.session.Operations.{NoEnt, NotDir}
+use Rattle.lfs_model.specs.session.Session.{directory_refusal}
+use Rattle.lfs_model.specs.session.SlotEdits.{slot_of}
+use Rattle.lfs_model.specs.format.Slots.{Slot, Branch, same_pair, zero_gstate}
+use Rattle.lfs_model.specs.format.Thread.{Pair, pairs_from_root}
+use Rattle.lfs_model.specs.tree.Tree.{Path, branch_address, struct_node}
+use Rattle.lfs_model.specs.tree.View.{IsAccepted}
+use Rattle.lfs_model.specs.tree.Shown.{LeadsTo, struct_list_bytes, all_entries, tree_on_disk}
 use Rattle.lfs_model.proofs.Committed.{no_move_from}
 use Rattle.lfs_model.proofs.Counts.{each_right}
 use Rattle.lfs_model.proofs.Found.{chain_of_thread, led_directory}
 use Rattle.lfs_model.proofs.Indexes.{nothing_there}
 use Rattle.lfs_model.proofs.Searches.{begins_directory, place_of_belongs, plain_behind, slot_of_stands}
 use Rattle.lfs_thread.specs.Kept.{KeptThread}
-use Rattle.lfs_lookup.specs.Entry.{IsStorageOfStruct}
+use Rattle.lfs_lookup.specs.Entry.{IsStorage}
 use Rattle.lfs_lookup.specs.declared.entry.FileStorage.{FileStorage}
 use Rattle.lfs_lookup.specs.declared.entry.FileStorage.TheVariants as contents
-use Rattle.lfs_lookup.specs.Paths.{PathLeadsToFirstPair, HidesOnlyMovedSlot, IsAcceptedImageWithZeroGstate}
-use Rattle.lfs_lookup.specs.Search.{HidesMovedSlotInPairsFromIndex, IsNameAbsentAlongHardTails, IsUnhiddenNameAtSpot}
+use Rattle.lfs_lookup.specs.LookupPaths.{LeadsToPair, HidesMovedSlot, IsSettled}
+use Rattle.lfs_lookup.specs.NameSearch.{HidesFrom, IsAbsent, IsNameAt}
 use Rattle.lfs_lookup.specs.declared.entry.FileOrDirectory.{FileOrDirectory}
 use Rattle.lfs_lookup.specs.declared.search.SlotPosition.{SlotPosition}
 use Rattle.lfs_lookup.proofs.ShownSlots.{shown_is, absent_is_shown}
 
-module _ (t : KeptThread) (ok : IsAcceptedImageWithZeroGstate t) (path : Path) (first : ℕ) (on : PathLeadsToFirstPair t.pairs path first) where
-  pub plain_on : ArePairsWithoutSuperblock (drop (first + 1) t.pairs)
+module _ (t : KeptThread) (ok : IsSettled t) (path : Path) (first : ℕ) (on : LeadsToPair t.pairs path first) where
+  pub plain_on : AreEntryPairs (drop (first + 1) t.pairs)
   plain_on =
       let i = begins_directory t.disk t.pairs path on.at first ok.accepted on.leads on.begins in
       plain_behind t.disk t.pairs first ok.accepted (let n = i.number in omega (arith, n))
 
   -- ---- a name that stands there
 
-  module _ (name : Name) (pair id : ℕ) (s : IsPlaceOfNameInDirectory t.pairs first name pair id) where
-    pub slot_is : slot_of_path t.pairs (path ++ name ∷ []) ≡ Some s.stands.slot
+  module _ (name : Name) (pair id : ℕ) (s : IsPlaceOf t.pairs first name pair id) where
+    pub slot_is : slot_of t.pairs (path ++ name ∷ []) ≡ Some s.stands.slot
     slot_is = slot_of_stands t.disk t.pairs path on.at ok.accepted on.leads first pair id name (no_move_from t.pairs ok.settled) s on.begins
 
-    pub leads_to : (to : ℕ × ℕ) → s.stands.slot.struct ≡ Branch to → IsPathToDirectory t.pairs (path ++ name ∷ []) to
-    leads_to to e = ap (option_and_then (λ (f : Slot). branch_address_of_struct f.struct)) slot_is ∙ ap branch_address_of_struct e
+    pub leads_to : (to : ℕ × ℕ) → s.stands.slot.struct ≡ Branch to → LeadsTo t.pairs (path ++ name ∷ []) to
+    leads_to to e = ap (option_and_then (λ (f : Slot). branch_address f.struct)) slot_is ∙ ap branch_address e
 
   -- ---- a name that belongs there
 
-  pub absent_is : (name : Name) (pair id : ℕ) → IsPlaceWhereNameBelongs t.disk.order t.pairs first name pair id → slot_of_path t.pairs (path ++ name ∷ []) ≡ None
+  pub absent_is : (name : Name) (pair id : ℕ) → BelongsAt t.disk.order t.pairs first name pair id → slot_of t.pairs (path ++ name ∷ []) ≡ None
   absent_is name pair id b = (nothing_there t.disk t.pairs path on.at _ name on.leads (place_of_belongs t.disk t.pairs path on.at ok.accepted on.leads first pair id name (no_move_from t.pairs ok.settled) b on.begins)).0
 
 -- ---- a directory that a path leads to is at its address
 
-pub is_somewhere : (t : KeptThread) → IsAcceptedImage t.disk t.pairs → (path : Path) (at : ℕ × ℕ) → IsPathToDirectory t.pairs path at → AllByRecursion (λ p. same_pair p.at at ≡ false) t.pairs → ⊥
+pub is_somewhere : (t : KeptThread) → IsAccepted t.disk t.pairs → (path : Path) (at : ℕ × ℕ) → LeadsTo t.pairs path at → AllByRecursion (λ p. same_pair p.at at ≡ false) t.pairs → ⊥
 is_somewhere t ok path at leads none =
     let d = led_directory t.disk t.pairs path at ok leads in
     let chain = (chain_of_thread t.pairs).0 in
-    let behind = each_right (λ (p : Pair). same_pair p.at at ≡ false) _ (pairs_from_root_directory_on t.pairs) (subst (AllByRecursion (λ p. same_pair p.at at ≡ false)) chain none) in
+    let behind = each_right (λ (p : Pair). same_pair p.at at ≡ false) _ (pairs_from_root t.pairs) (subst (AllByRecursion (λ p. same_pair p.at at ≡ false)) chain none) in
     let here = each_right (λ (p : Pair). same_pair p.at at ≡ false) d.before (d.first ∷ (d.run ++ d.after)) (subst (AllByRecursion (λ p. same_pair p.at at ≡ false)) d.is behind) in
     absurd (let k = sym d.at ∙ here.0 in cc)
 
@@ -64,34 +64,34 @@ some_there (Some x) P h not_so = search rules
 
 -- ---- by the slot at a path
 
-module _ (t : KeptThread) (path : Path) (slot : Slot) (is : slot_of_path t.pairs path ≡ Some slot) where
-  pub leads_by : (to : ℕ × ℕ) → slot.struct ≡ Branch to → IsPathToDirectory t.pairs path to
-  leads_by to e = ap (option_and_then (λ (f : Slot). branch_address_of_struct f.struct)) is ∙ ap branch_address_of_struct e
+module _ (t : KeptThread) (path : Path) (slot : Slot) (is : slot_of t.pairs path ≡ Some slot) where
+  pub leads_by : (to : ℕ × ℕ) → slot.struct ≡ Branch to → LeadsTo t.pairs path to
+  leads_by to e = ap (option_and_then (λ (f : Slot). branch_address f.struct)) is ∙ ap branch_address e
 
-  node_by : tree_on_disk t.disk t.pairs path ≡ Some (node_of_struct_and_attributes (skip_list_bytes_on_disk t.disk) (entries_by_directory_in_thread t.pairs) slot.attributes slot.struct)
-  node_by = ap (option_map (λ (f : Slot). node_of_struct_and_attributes (skip_list_bytes_on_disk t.disk) (entries_by_directory_in_thread t.pairs) f.attributes f.struct)) is
+  node_by : tree_on_disk t.disk t.pairs path ≡ Some (struct_node (struct_list_bytes t.disk) (all_entries t.pairs) slot.attributes slot.struct)
+  node_by = ap (option_map (λ (f : Slot). struct_node (struct_list_bytes t.disk) (all_entries t.pairs) f.attributes f.struct)) is
 
-  pub file_by : (contents : FileStorage) → IsStorageOfStruct contents slot.struct → refusal_unless_directory (tree_on_disk t.disk t.pairs path) ≡ Some NotDir
-  file_by (contents.Inline len) shows = ap refusal_unless_directory (node_by ∙ ap (λ z. Some (node_of_struct_and_attributes (skip_list_bytes_on_disk t.disk) (entries_by_directory_in_thread t.pairs) slot.attributes z)) shows.1.0)
-  file_by (contents.List head size) shows = ap refusal_unless_directory (node_by ∙ ap (λ z. Some (node_of_struct_and_attributes (skip_list_bytes_on_disk t.disk) (entries_by_directory_in_thread t.pairs) slot.attributes z)) shows)
+  pub file_by : (contents : FileStorage) → IsStorage contents slot.struct → directory_refusal (tree_on_disk t.disk t.pairs path) ≡ Some NotDir
+  file_by (contents.Inline len) shows = ap directory_refusal (node_by ∙ ap (λ z. Some (struct_node (struct_list_bytes t.disk) (all_entries t.pairs) slot.attributes z)) shows.1.0)
+  file_by (contents.List head size) shows = ap directory_refusal (node_by ∙ ap (λ z. Some (struct_node (struct_list_bytes t.disk) (all_entries t.pairs) slot.attributes z)) shows)
 
-pub nothing_by : (t : KeptThread) (path : Path) → slot_of_path t.pairs path ≡ None → refusal_unless_directory (tree_on_disk t.disk t.pairs path) ≡ Some NoEnt
-nothing_by t path is = ap refusal_unless_directory (ap (option_map (λ (f : Slot). node_of_struct_and_attributes (skip_list_bytes_on_disk t.disk) (entries_by_directory_in_thread t.pairs) f.attributes f.struct)) is)
+pub nothing_by : (t : KeptThread) (path : Path) → slot_of t.pairs path ≡ None → directory_refusal (tree_on_disk t.disk t.pairs path) ≡ Some NoEnt
+nothing_by t path is = ap directory_refusal (ap (option_map (λ (f : Slot). struct_node (struct_list_bytes t.disk) (all_entries t.pairs) f.attributes f.struct)) is)
 
 -- ---- where a slot counts as deleted
 
-module _ (t : KeptThread) (moved : Option SlotPosition) (h : HidesOnlyMovedSlot t moved) (path : Path) (first : ℕ) (on : PathLeadsToFirstPair t.pairs path first) (name : Name) where
-  pub shown_slot : (spot : SlotPosition) (entry : FileOrDirectory) (s : IsUnhiddenNameAtSpot t.pairs moved first name spot entry) → slot_of_path t.pairs (path ++ name ∷ []) ≡ Some s.stands.stands.slot
+module _ (t : KeptThread) (moved : Option SlotPosition) (h : HidesMovedSlot t moved) (path : Path) (first : ℕ) (on : LeadsToPair t.pairs path first) (name : Name) where
+  pub shown_slot : (spot : SlotPosition) (entry : FileOrDirectory) (s : IsNameAt t.pairs moved first name spot entry) → slot_of t.pairs (path ++ name ∷ []) ≡ Some s.stands.stands.slot
   shown_slot spot entry s = shown_is t.disk t.pairs path on.at moved first name spot entry h.accepted h.hides on.leads on.begins s
 
-  pub no_slot : IsNameAbsentAlongHardTails moved first (drop first t.pairs) name → slot_of_path t.pairs (path ++ name ∷ []) ≡ None
+  pub no_slot : IsAbsent moved first (drop first t.pairs) name → slot_of t.pairs (path ++ name ∷ []) ≡ None
   no_slot absent = absent_is_shown t.disk t.pairs path on.at moved first name h.accepted h.hides on.leads on.begins absent
 
 -- ---- nothing is to be recovered, so no slot counts as deleted
 
-hides_none : (index : ℕ) (ps : List Pair) → HidesMovedSlotInPairsFromIndex zero_gstate None index ps
+hides_none : (index : ℕ) (ps : List Pair) → HidesFrom zero_gstate None index ps
 hides_none index [] = tt
 hides_none index (p ∷ ps) = (refl, hides_none (index + 1) ps)
 
-pub hiding_none : (t : KeptThread) → IsAcceptedImageWithZeroGstate t → HidesOnlyMovedSlot t None
-hiding_none t ok = record { accepted = ok.accepted; hides = subst (λ g. HidesMovedSlotInPairsFromIndex g None 0 t.pairs) (sym ok.settled) (hides_none 0 t.pairs) }
+pub hiding_none : (t : KeptThread) → IsSettled t → HidesMovedSlot t None
+hiding_none t ok = record { accepted = ok.accepted; hides = subst (λ g. HidesFrom g None 0 t.pairs) (sym ok.settled) (hides_none 0 t.pairs) }

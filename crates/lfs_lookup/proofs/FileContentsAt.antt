@@ -1,17 +1,17 @@
 -- The contents of the file at a path.
 use Rattle.std.proofs.Common.{ℕ, ◌≡◌, ◌∙◌, ◌<◌, ◌^◌, List, length, take, drop, Some, sym, ap, subst, arith}
 use Rattle.std.specs.Option.{option_map}
-use Rattle.lfs_model.specs.SlotEdits.{slot_of_path}
-use Rattle.lfs_model.specs.Slots.{Slot}
+use Rattle.lfs_model.specs.session.SlotEdits.{slot_of}
+use Rattle.lfs_model.specs.format.Slots.{Slot}
 use Rattle.std.proofs.lemmas.List.{take_all}
-use Rattle.lfs_model.specs.Thread.{Pair}
-use Rattle.lfs_model.specs.Tree.{Path}
+use Rattle.lfs_model.specs.format.Thread.{Pair}
+use Rattle.lfs_model.specs.tree.Tree.{Path}
 use Rattle.std.specs.Prelude.{IsSome}
 use Rattle.lfs_thread.specs.Kept.{ThreadView}
 use Rattle.lfs_thread.specs.CachedLog.{cached_log}
-use Rattle.lfs_lookup.specs.AttributeAt.{IsLogBlockOfFoundSlotCached}
-use Rattle.lfs_lookup.specs.BytesAt.{spot_and_storage_of_found_file}
-use Rattle.lfs_lookup.specs.FileContents.{IsInlineBytesOrSkipListOfFileAtPath, AreFileContentsOfStruct}
+use Rattle.lfs_lookup.specs.AttributeAt.{IsFoundCached}
+use Rattle.lfs_lookup.specs.BytesAt.{spot_and_storage}
+use Rattle.lfs_lookup.specs.FileContents.{IsStorageAt, AreStructContents}
 use Rattle.lfs_lookup.specs.declared.entry.FileStorage.{FileStorage}
 use Rattle.lfs_lookup.specs.declared.paths.VisiblePathLookup.{VisiblePathLookup}
 use Rattle.lfs_lookup.specs.declared.search.SlotPosition.{SlotPosition}
@@ -22,9 +22,9 @@ use Rattle.lfs_lookup.specs.declared.file_contents.FileContents.{FileContents}
 pub whole : (bytes : List ℕ) (len : ℕ) → length bytes ≡ len → take len (drop 0 bytes) ≡ bytes
 whole bytes len e = take_all len bytes (omega (arith, e))
 
-pub contents_at : (ps : List Pair) (path : Path) (held : Slot) (contents : FileContents) → slot_of_path ps path ≡ Some held → AreFileContentsOfStruct held.struct contents → IsInlineBytesOrSkipListOfFileAtPath ps path contents
+pub contents_at : (ps : List Pair) (path : Path) (held : Slot) (contents : FileContents) → slot_of ps path ≡ Some held → AreStructContents held.struct contents → IsStorageAt ps path contents
 contents_at ps path held contents at is = record { struct = ap (option_map (λ (u : Slot). u.struct)) at ∙ ap Some (sym is.struct); fits = is.fits }
 
 -- the block of a file that is shown is cached
-pub file_at_hand : (t : ThreadView) (x : VisiblePathLookup) (slot : SlotPosition) (contents : FileStorage) → IsLogBlockOfFoundSlotCached t x → spot_and_storage_of_found_file x ≡ Some (slot, contents) → IsSome (cached_log t slot.pair)
-file_at_hand t x slot contents h e = subst (λ z. IsLogBlockOfFoundSlotCached t z) (is_file_of x slot contents e) h
+pub file_at_hand : (t : ThreadView) (x : VisiblePathLookup) (slot : SlotPosition) (contents : FileStorage) → IsFoundCached t x → spot_and_storage x ≡ Some (slot, contents) → IsSome (cached_log t slot.pair)
+file_at_hand t x slot contents h e = subst (λ z. IsFoundCached t z) (is_file_of x slot contents e) h

@@ -6,66 +6,66 @@ use Rattle.std.proofs.lemmas.List.Concat.{flat_map-append}
 use Rattle.std.proofs.lemmas.List.Elements.{filter-append}
 use Rattle.std.proofs.Math.Seq.{drop-append_seam}
 use Rattle.lfs_model.specs.declared.order.NameOrder.{NameOrder}
-use Rattle.lfs_model.specs.InDirectory.{IsPlaceWhereNameBelongs, HasFirstSlotGreaterName, ArePairsWithoutSuperblock, HasHardTail, IsIdWhereNameBelongs, HaveHardTailsButLast, IsPlaceOfNameInDirectory, HasEntryOfNameAtId, slots_without_superblock, last_pair_has_hard_tail, hard_tail_joined_pair_count, slots_of_pairs_in_order}
-use Rattle.lfs_model.specs.Names.{Name, name_cmp}
-use Rattle.lfs_model.specs.Slots.{Slot, is_superblock}
-use Rattle.lfs_model.specs.Thread.{Pair, is_hard_tail, starts_with_superblock}
+use Rattle.lfs_model.specs.session.InDirectory.{BelongsAt, FirstIsGreater, AreEntryPairs, HasHardTail, BelongsAtId, AreJoined, IsPlaceOf, HasName, entry_slots, last_joins, joined_count, all_slots}
+use Rattle.lfs_model.specs.format.Names.{Name, name_cmp}
+use Rattle.lfs_model.specs.format.Slots.{Slot, is_superblock}
+use Rattle.lfs_model.specs.format.Thread.{Pair, is_hard_tail, starts_superblock}
 use Rattle.lfs_model.proofs.Counts.{each_left, each_right}
-use Rattle.lfs_lookup.specs.Entry.{IsEntryOfStruct}
+use Rattle.lfs_lookup.specs.Entry.{IsStructEntry}
 use Rattle.lfs_lookup.specs.declared.entry.FileOrDirectory.{FileOrDirectory}
-use Rattle.lfs_lookup.specs.Halves.{EndsWithoutHardTail}
-use Rattle.lfs_lookup.specs.Listed.{hard_tail_joined_pairs}
+use Rattle.lfs_lookup.specs.Halves.{EndsWithoutTail}
+use Rattle.lfs_lookup.specs.Listed.{joined_pairs}
 use Rattle.lfs_lookup.proofs.Directories.{run_hard_on, run_on as run_here_on}
 use Rattle.lfs_lookup.proofs.Walked.{at_index, run_some}
 
 -- ---- the pairs of a directory
 
-pub run_part : (xs : List Pair) → (after : List Pair) × (xs ≡ hard_tail_joined_pairs xs ++ after)
+pub run_part : (xs : List Pair) → (after : List Pair) × (xs ≡ joined_pairs xs ++ after)
 run_part [] = ([], refl)
 run_part (p ∷ ps) = go (is_hard_tail p.content.tail) (run_part ps)
   where
-    go : (b : Bool) → ((after : List Pair) × (ps ≡ hard_tail_joined_pairs ps ++ after)) → (after : List Pair) × (p ∷ ps ≡ (p ∷ cond b (hard_tail_joined_pairs ps) []) ++ after)
+    go : (b : Bool) → ((after : List Pair) × (ps ≡ joined_pairs ps ++ after)) → (after : List Pair) × (p ∷ ps ≡ (p ∷ cond b (joined_pairs ps) []) ++ after)
     go true r = (r.0, ap (λ z. p ∷ z) r.1)
     go false r = (ps, refl)
 
-pub run_count : (xs : List Pair) → length (hard_tail_joined_pairs xs) ≡ hard_tail_joined_pair_count xs
+pub run_count : (xs : List Pair) → length (joined_pairs xs) ≡ joined_count xs
 run_count [] = refl
 run_count (p ∷ ps) = go (is_hard_tail p.content.tail) (run_count ps)
   where
-    go : (b : Bool) → length (hard_tail_joined_pairs ps) ≡ hard_tail_joined_pair_count ps → length (p ∷ cond b (hard_tail_joined_pairs ps) []) ≡ cond b (1 + hard_tail_joined_pair_count ps) 1
+    go : (b : Bool) → length (joined_pairs ps) ≡ joined_count ps → length (p ∷ cond b (joined_pairs ps) []) ≡ cond b (1 + joined_count ps) 1
     go true e = omega (arith, e)
     go false e = refl
 
 abbrev Chained : List Pair → Type 0
 Chained [] = Unit {0}
-Chained (p ∷ ps) = HaveHardTailsButLast p ps
+Chained (p ∷ ps) = AreJoined p ps
 
-chain_more : (p : Pair) (qs : List Pair) → HasHardTail p → Chained qs → HaveHardTailsButLast p qs
+chain_more : (p : Pair) (qs : List Pair) → HasHardTail p → Chained qs → AreJoined p qs
 chain_more p [] h k = tt
 chain_more p (q ∷ qs) h k = (h, k)
 
-run_chained : (xs : List Pair) → Chained (hard_tail_joined_pairs xs)
+run_chained : (xs : List Pair) → Chained (joined_pairs xs)
 run_chained [] = tt
 run_chained (p ∷ ps) = go (is_hard_tail p.content.tail) refl (run_chained ps)
   where
-    go : (b : Bool) → is_hard_tail p.content.tail ≡ b → Chained (hard_tail_joined_pairs ps) → HaveHardTailsButLast p (cond b (hard_tail_joined_pairs ps) [])
-    go true e k = chain_more p (hard_tail_joined_pairs ps) e k
+    go : (b : Bool) → is_hard_tail p.content.tail ≡ b → Chained (joined_pairs ps) → AreJoined p (cond b (joined_pairs ps) [])
+    go true e k = chain_more p (joined_pairs ps) e k
     go false e k = tt
 
-chain_left : (left : List Pair) (p : Pair) (rest : List Pair) → Chained (left ++ p ∷ rest) → AllByRecursion HasHardTail left × HaveHardTailsButLast p rest
+chain_left : (left : List Pair) (p : Pair) (rest : List Pair) → Chained (left ++ p ∷ rest) → AllByRecursion HasHardTail left × AreJoined p rest
 chain_left [] p rest h = (tt, h)
 chain_left (x ∷ []) p rest h = ((h.0, tt), h.1)
 chain_left (x ∷ y ∷ left) p rest h = let r = chain_left (y ∷ left) p rest h.1 in ((h.0, r.0), r.1)
 
-runs_front : (p : Pair) (later rest : List Pair) → HaveHardTailsButLast p (later ++ rest) → HaveHardTailsButLast p later
+runs_front : (p : Pair) (later rest : List Pair) → AreJoined p (later ++ rest) → AreJoined p later
 runs_front p [] rest h = tt
 runs_front p (q ∷ later) rest h = (h.0, runs_front q later rest h.1)
 
-last_behind : (x : Pair) (left : List Pair) (p : Pair) (rest : List Pair) → last_pair_has_hard_tail x (left ++ p ∷ rest) ≡ last_pair_has_hard_tail p rest
+last_behind : (x : Pair) (left : List Pair) (p : Pair) (rest : List Pair) → last_joins x (left ++ p ∷ rest) ≡ last_joins p rest
 last_behind x [] p rest = refl
 last_behind x (y ∷ left) p rest = last_behind y left p rest
 
-soft_end : (left : List Pair) (p : Pair) (rest : List Pair) → EndsWithoutHardTail (left ++ p ∷ rest) → last_pair_has_hard_tail p rest ≡ false
+soft_end : (left : List Pair) (p : Pair) (rest : List Pair) → EndsWithoutTail (left ++ p ∷ rest) → last_joins p rest ≡ false
 soft_end [] p rest h = h
 soft_end (x ∷ left) p rest h = sym (last_behind x left p rest) ∙ h
 
@@ -75,8 +75,8 @@ same_behind xs zs ys ws e l = sym (drop-append_seam xs zs) ∙ ap₂ (λ (n : �
 
 -- ---- where they end
 
-pub soft_on : (ps : List Pair) (index next : ℕ) (d : Pair) → next < length ps → is_hard_tail (get_or ps index d).content.tail ≡ true → next ≡ index + 1 → EndsWithoutHardTail (hard_tail_joined_pairs (drop next ps)) → EndsWithoutHardTail (hard_tail_joined_pairs (drop index ps))
-soft_on ps index next d l hard e h = subst EndsWithoutHardTail (sym (run_hard_on ps index next d (omega arith) hard e ∙ ap (λ z. get_or ps index d ∷ z) (run_here_on ps next d l))) (subst EndsWithoutHardTail (run_here_on ps next d l) h)
+pub soft_on : (ps : List Pair) (index next : ℕ) (d : Pair) → next < length ps → is_hard_tail (get_or ps index d).content.tail ≡ true → next ≡ index + 1 → EndsWithoutTail (joined_pairs (drop next ps)) → EndsWithoutTail (joined_pairs (drop index ps))
+soft_on ps index next d l hard e h = subst EndsWithoutTail (sym (run_hard_on ps index next d (omega arith) hard e ∙ ap (λ z. get_or ps index d ∷ z) (run_here_on ps next d l))) (subst EndsWithoutTail (run_here_on ps next d l) h)
 
 -- ---- a pair by its number
 
@@ -86,20 +86,20 @@ pub record IsAt (run : List Pair) (first index : ℕ) (q : Pair) : Type 0 where
   pub parts : run ≡ before ++ q ∷ behind
   pub number : first + length before ≡ index
 
-pub at_run : (ps : List Pair) (first index : ℕ) (d : Pair) → first ≤ index → index < first + hard_tail_joined_pair_count (drop first ps) → IsAt (hard_tail_joined_pairs (drop first ps)) first index (get_or ps index d)
+pub at_run : (ps : List Pair) (first index : ℕ) (d : Pair) → first ≤ index → index < first + joined_count (drop first ps) → IsAt (joined_pairs (drop first ps)) first index (get_or ps index d)
 at_run ps first index d from below =
     let part = run_part (drop first ps) in
     let n = run_count (drop first ps) in
-    let small : index - first < length (hard_tail_joined_pairs (drop first ps)) = omega arith in
-    let a = at_index (hard_tail_joined_pairs (drop first ps)) (index - first) d small in
+    let small : index - first < length (joined_pairs (drop first ps)) = omega arith in
+    let a = at_index (joined_pairs (drop first ps)) (index - first) d small in
     let same : first + (index - first) ≡ index = omega arith in
-    let is : get_or (hard_tail_joined_pairs (drop first ps)) (index - first) d ≡ get_or ps index d =
-    sym (get_or_append_left (hard_tail_joined_pairs (drop first ps)) part.0 d (index - first) small) ∙ ap (λ z. get_or z (index - first) d) (sym part.1)
+    let is : get_or (joined_pairs (drop first ps)) (index - first) d ≡ get_or ps index d =
+    sym (get_or_append_left (joined_pairs (drop first ps)) part.0 d (index - first) small) ∙ ap (λ z. get_or z (index - first) d) (sym part.1)
     ∙ get_or-drop first ps (index - first) d ∙ ap (λ (i : ℕ). get_or ps i d) same in
-    subst (IsAt (hard_tail_joined_pairs (drop first ps)) first index) is (record { before = a.front; behind = a.rest; parts = a.parts; number = (let b = a.begins in omega arith) })
+    subst (IsAt (joined_pairs (drop first ps)) first index) is (record { before = a.front; behind = a.rest; parts = a.parts; number = (let b = a.begins in omega arith) })
 
 -- the directory's pairs in the thread
-parts_of : (ps : List Pair) (first : ℕ) (left later more : List Pair) (q : Pair) → hard_tail_joined_pairs (drop first ps) ≡ left ++ q ∷ (later ++ more)
+parts_of : (ps : List Pair) (first : ℕ) (left later more : List Pair) (q : Pair) → joined_pairs (drop first ps) ≡ left ++ q ∷ (later ++ more)
     → ps ≡ take first ps ++ (left ++ q ∷ (later ++ (more ++ (run_part (drop first ps)).0)))
 parts_of ps first left later more q e =
     sym (take-append-drop first ps)
@@ -121,25 +121,25 @@ abbrev IsPlain : Pair → Type 0
 IsPlain p = AllByRecursion (λ s. is_superblock s ≡ false) p.content.slots
 
 -- a pair behind the directory's first one has no superblock
-plain_at : (ps : List Pair) (first : ℕ) (x : Pair) (left : List Pair) (q : Pair) (behind : List Pair) → ArePairsWithoutSuperblock (drop (first + 1) ps) → hard_tail_joined_pairs (drop first ps) ≡ x ∷ (left ++ q ∷ behind) → IsPlain q
+plain_at : (ps : List Pair) (first : ℕ) (x : Pair) (left : List Pair) (q : Pair) (behind : List Pair) → AreEntryPairs (drop (first + 1) ps) → joined_pairs (drop first ps) ≡ x ∷ (left ++ q ∷ behind) → IsPlain q
 plain_at ps first x left q behind plain e =
     let part = run_part (drop first ps) in
     let is = drop_more first ps x ((left ++ q ∷ behind) ++ part.0) (part.1 ∙ ap (λ z. z ++ part.0) e) in
-    (each_right IsPlain left (q ∷ behind) (each_left IsPlain (left ++ q ∷ behind) part.0 (subst ArePairsWithoutSuperblock is plain))).0
+    (each_right IsPlain left (q ∷ behind) (each_left IsPlain (left ++ q ∷ behind) part.0 (subst AreEntryPairs is plain))).0
 
 -- slots without a superblock that aren't none have an entry
-some_entries : (left right : List Slot) → AllByRecursion (λ s. is_superblock s ≡ false) (left ++ right) → 0 < length left → slots_without_superblock left ≢ []
+some_entries : (left right : List Slot) → AllByRecursion (λ s. is_superblock s ≡ false) (left ++ right) → 0 < length left → entry_slots left ≢ []
 some_entries [] right plain l e = absurd (omega arith)
 some_entries (s ∷ left) right plain l e =
-    let k : s ∷ slots_without_superblock left ≡ [] = sym (ap (λ b. cond (not b) (s ∷ slots_without_superblock left) (slots_without_superblock left)) plain.0) ∙ e in
+    let k : s ∷ entry_slots left ≡ [] = sym (ap (λ b. cond (not b) (s ∷ entry_slots left) (entry_slots left)) plain.0) ∙ e in
     absurd (cc)
 
 -- the pair is the directory's first, or these slots of it have an entry
-not_before_here : (ps : List Pair) (first index : ℕ) (q : Pair) (a : IsAt (hard_tail_joined_pairs (drop first ps)) first index q) → ArePairsWithoutSuperblock (drop (first + 1) ps) → (left right : List Slot) → q.content.slots ≡ left ++ right
-    → (index ≡ first) ⊎ (0 < length left) → (a.before ≡ []) ⊎ (slots_without_superblock left ≢ [])
+not_before_here : (ps : List Pair) (first index : ℕ) (q : Pair) (a : IsAt (joined_pairs (drop first ps)) first index q) → AreEntryPairs (drop (first + 1) ps) → (left right : List Slot) → q.content.slots ≡ left ++ right
+    → (index ≡ first) ⊎ (0 < length left) → (a.before ≡ []) ⊎ (entry_slots left ≢ [])
 not_before_here ps first index q a plain left right held why = go a.before a.parts a.number why
   where
-    go : (before : List Pair) → hard_tail_joined_pairs (drop first ps) ≡ before ++ q ∷ a.behind → first + length before ≡ index → (index ≡ first) ⊎ (0 < length left) → (before ≡ []) ⊎ (slots_without_superblock left ≢ [])
+    go : (before : List Pair) → joined_pairs (drop first ps) ≡ before ++ q ∷ a.behind → first + length before ≡ index → (index ≡ first) ⊎ (0 < length left) → (before ≡ []) ⊎ (entry_slots left ≢ [])
     go [] e n w = inl refl
     go (x ∷ before) e n (inl is) = absurd (omega arith)
     go (x ∷ before) e n (inr some) = inr (some_entries left right (subst (AllByRecursion (λ s. is_superblock s ≡ false)) held (plain_at ps first x before q a.behind plain e)) some)
@@ -147,11 +147,11 @@ not_before_here ps first index q a plain left right held why = go a.before a.par
 -- ---- entries of pairs
 
 -- the entries of pairs without any, and one more pair
-entries_on : (empty : List Pair) (q : Pair) → slots_of_pairs_in_order empty ≡ [] → slots_without_superblock (slots_of_pairs_in_order (empty ++ q ∷ [])) ≡ slots_without_superblock q.content.slots
+entries_on : (empty : List Pair) (q : Pair) → all_slots empty ≡ [] → entry_slots (all_slots (empty ++ q ∷ [])) ≡ entry_slots q.content.slots
 entries_on empty q none =
-    ap slots_without_superblock (flat_map-append (λ (p : Pair). p.content.slots) empty (q ∷ []))
-    ∙ filter-append (λ (s : Slot). not (is_superblock s)) (slots_of_pairs_in_order empty) (slots_of_pairs_in_order (q ∷ []))
-    ∙ ap₂ (λ x y. slots_without_superblock x ++ slots_without_superblock y) none (append-nil q.content.slots)
+    ap entry_slots (flat_map-append (λ (p : Pair). p.content.slots) empty (q ∷ []))
+    ∙ filter-append (λ (s : Slot). not (is_superblock s)) (all_slots empty) (all_slots (q ∷ []))
+    ∙ ap₂ (λ x y. entry_slots x ++ entry_slots y) none (append-nil q.content.slots)
 
 nothing_behind : (slots left right : List Slot) → slots ≡ left ++ right → length slots ≤ length left → right ≡ []
 nothing_behind slots left [] e l = refl
@@ -173,9 +173,9 @@ pub record HasLess (by : NameOrder) (run : List Pair) (first : ℕ) (name : Name
   pub number : first + length left ≡ at
   pub next : at + 1 + length empty ≡ low
   pub count : length pair.content.slots ≡ id
-  pub less : AllByRecursion (λ s. name_cmp by s.name name ≡ Less) (slots_without_superblock pair.content.slots)
-  pub not_before : (left ≡ []) ⊎ (slots_without_superblock pair.content.slots ≢ [])
-  pub none : slots_of_pairs_in_order empty ≡ []
+  pub less : AllByRecursion (λ s. name_cmp by s.name name ≡ Less) (entry_slots pair.content.slots)
+  pub not_before : (left ≡ []) ⊎ (entry_slots pair.content.slots ≢ [])
+  pub none : all_slots empty ≡ []
 
 pub data IsLow (by : NameOrder) (run : List Pair) (first : ℕ) (name : Name) (at id low : ℕ) : Type 0 where
   begun : low ≡ first → at ≡ first → id ≡ 0 → IsLow by run first name at id low
@@ -188,22 +188,22 @@ pub record HasGreater (by : NameOrder) (run : List Pair) (first : ℕ) (name : N
   pub behind : List Pair
   pub parts : run ≡ before ++ pair ∷ behind
   pub number : first + length before ≡ high
-  pub above : HasFirstSlotGreaterName by name (slots_without_superblock pair.content.slots)
-  pub fronted : starts_with_superblock pair.content.slots ≡ false
+  pub above : FirstIsGreater by name (entry_slots pair.content.slots)
+  pub fronted : starts_superblock pair.content.slots ≡ false
 
 pub data IsHigh (by : NameOrder) (run : List Pair) (first : ℕ) (name : Name) (high : ℕ) : Type 0 where
   ends : high ≡ first + length run → IsHigh by run first name high
   starts : HasGreater by run first name high → IsHigh by run first name high
 
-module _ (by : NameOrder) (ps : List Pair) (first : ℕ) (name : Name) (index : ℕ) (q : Pair) (a : IsAt (hard_tail_joined_pairs (drop first ps)) first index q) where
+module _ (by : NameOrder) (ps : List Pair) (first : ℕ) (name : Name) (index : ℕ) (q : Pair) (a : IsAt (joined_pairs (drop first ps)) first index q) where
   abbrev run : List Pair
-  run = hard_tail_joined_pairs (drop first ps)
+  run = joined_pairs (drop first ps)
 
   joined_here : AllByRecursion HasHardTail a.before
   joined_here = (chain_left a.before q a.behind (subst Chained a.parts (run_chained (drop first ps)))).0
 
   -- the name stands here
-  pub stands_at : (below : first < length ps) (id : ℕ) (entry : FileOrDirectory) (s : HasEntryOfNameAtId q.content.slots name id) → IsEntryOfStruct entry s.slot.struct → (t : IsPlaceOfNameInDirectory ps first name index id) × IsEntryOfStruct entry t.stands.slot.struct
+  pub stands_at : (below : first < length ps) (id : ℕ) (entry : FileOrDirectory) (s : HasName q.content.slots name id) → IsStructEntry entry s.slot.struct → (t : IsPlaceOf ps first name index id) × IsStructEntry entry t.stands.slot.struct
   stands_at below id entry s shows = (
     record {
       pair = q;
@@ -222,7 +222,7 @@ module _ (by : NameOrder) (ps : List Pair) (first : ℕ) (name : Name) (index : 
   )
 
   -- all its names are less
-  pub passes : (plain : ArePairsWithoutSuperblock (drop (first + 1) ps)) (id : ℕ) → IsIdWhereNameBelongs by q.content.slots name id → (index ≡ first) ⊎ (0 < id) → length q.content.slots ≤ id → HasLess by run first name index id (index + 1)
+  pub passes : (plain : AreEntryPairs (drop (first + 1) ps)) (id : ℕ) → BelongsAtId by q.content.slots name id → (index ≡ first) ⊎ (0 < id) → length q.content.slots ≤ id → HasLess by run first name index id (index + 1)
   passes plain id pl why all =
       let none = nothing_behind q.content.slots pl.left pl.right pl.held (let n = pl.number in omega arith) in
       let is : q.content.slots ≡ pl.left = pl.held ∙ ap (λ z. pl.left ++ z) none ∙ append-nil pl.left in
@@ -235,7 +235,7 @@ module _ (by : NameOrder) (ps : List Pair) (first : ℕ) (name : Name) (index : 
         number = a.number;
         next = omega arith;
         count = ap length is ∙ pl.number;
-        less = subst (λ z. AllByRecursion (λ s. name_cmp by s.name name ≡ Less) (slots_without_superblock z)) (sym is) pl.less;
+        less = subst (λ z. AllByRecursion (λ s. name_cmp by s.name name ≡ Less) (entry_slots z)) (sym is) pl.less;
         not_before = go is (not_before_here ps first index q a plain pl.left pl.right pl.held (some why));
         none = refl;
       }
@@ -244,12 +244,12 @@ module _ (by : NameOrder) (ps : List Pair) (first : ℕ) (name : Name) (index : 
       some (inl e) = inl e
       some (inr l) = inr (let n = pl.number in omega arith)
 
-      go : {A : Type 0} → q.content.slots ≡ pl.left → A ⊎ (slots_without_superblock pl.left ≢ []) → A ⊎ (slots_without_superblock q.content.slots ≢ [])
+      go : {A : Type 0} → q.content.slots ≡ pl.left → A ⊎ (entry_slots pl.left ≢ []) → A ⊎ (entry_slots q.content.slots ≢ [])
       go e (inl x) = inl x
-      go e (inr n) = inr (subst (λ z. slots_without_superblock z ≢ []) (sym e) n)
+      go e (inr n) = inr (subst (λ z. entry_slots z ≢ []) (sym e) n)
 
   -- all its names are greater
-  pub exceeds : (id : ℕ) → IsIdWhereNameBelongs by q.content.slots name id → id ≤ 0 → 0 < length q.content.slots → HasGreater by run first name index
+  pub exceeds : (id : ℕ) → BelongsAtId by q.content.slots name id → id ≤ 0 → 0 < length q.content.slots → HasGreater by run first name index
   exceeds id pl none some = record {
     before = a.before;
     pair = q;
@@ -257,7 +257,7 @@ module _ (by : NameOrder) (ps : List Pair) (first : ℕ) (name : Name) (index : 
     parts = a.parts;
     number = a.number;
     above = go pl.greater;
-    fronted = subst (λ z. starts_with_superblock z ≡ false) (sym is) pl.fronted;
+    fronted = subst (λ z. starts_superblock z ≡ false) (sym is) pl.fronted;
   }
     where
       whole : (left : List Slot) → q.content.slots ≡ left ++ pl.right → length left ≡ id → q.content.slots ≡ pl.right
@@ -267,12 +267,12 @@ module _ (by : NameOrder) (ps : List Pair) (first : ℕ) (name : Name) (index : 
       is : q.content.slots ≡ pl.right
       is = whole pl.left pl.held pl.number
 
-      go : (pl.right ≡ []) ⊎ HasFirstSlotGreaterName by name (slots_without_superblock pl.right) → HasFirstSlotGreaterName by name (slots_without_superblock q.content.slots)
+      go : (pl.right ≡ []) ⊎ FirstIsGreater by name (entry_slots pl.right) → FirstIsGreater by name (entry_slots q.content.slots)
       go (inl e) = absurd (let k = ap length (is ∙ e) in omega arith)
-      go (inr b) = subst (λ z. HasFirstSlotGreaterName by name (slots_without_superblock z)) (sym is) b
+      go (inr b) = subst (λ z. FirstIsGreater by name (entry_slots z)) (sym is) b
 
   -- the name belongs here, before one of its slots
-  pub belongs_inside : (below : first < length ps) (plain : ArePairsWithoutSuperblock (drop (first + 1) ps)) (id : ℕ) → IsIdWhereNameBelongs by q.content.slots name id → (index ≡ first) ⊎ (0 < id) → id < length q.content.slots → IsPlaceWhereNameBelongs by ps first name index id
+  pub belongs_inside : (below : first < length ps) (plain : AreEntryPairs (drop (first + 1) ps)) (id : ℕ) → BelongsAtId by q.content.slots name id → (index ≡ first) ⊎ (0 < id) → id < length q.content.slots → BelongsAt by ps first name index id
   belongs_inside below plain id pl why some = record {
     pair = q;
     later = [];
@@ -300,9 +300,9 @@ module _ (by : NameOrder) (ps : List Pair) (first : ℕ) (name : Name) (index : 
       go (inl e) = inl e
       go (inr l) = inr (let n = pl.number in omega arith)
 
-      above : (pl.right ≡ []) ⊎ HasFirstSlotGreaterName by name (slots_without_superblock pl.right) → HasFirstSlotGreaterName by name (slots_without_superblock (pl.right ++ []))
+      above : (pl.right ≡ []) ⊎ FirstIsGreater by name (entry_slots pl.right) → FirstIsGreater by name (entry_slots (pl.right ++ []))
       above (inl e) = absurd (let k = ap length pl.held in let m = length-append pl.left pl.right in let r = ap length e in let n = pl.number in omega arith)
-      above (inr b) = subst (λ z. HasFirstSlotGreaterName by name (slots_without_superblock z)) (sym (append-nil pl.right)) b
+      above (inr b) = subst (λ z. FirstIsGreater by name (entry_slots z)) (sym (append-nil pl.right)) b
 
   -- a pair without slots is passed
   pub passes_empty : (at id : ℕ) → HasLess by run first name at id index → length q.content.slots ≤ 0 → HasLess by run first name at id (index + 1)
@@ -329,15 +329,15 @@ module _ (by : NameOrder) (ps : List Pair) (first : ℕ) (name : Name) (index : 
 
 -- ---- where they meet
 
-module _ (by : NameOrder) (ps : List Pair) (first : ℕ) (name : Name) (below : first < length ps) (soft : EndsWithoutHardTail (hard_tail_joined_pairs (drop first ps))) where
+module _ (by : NameOrder) (ps : List Pair) (first : ℕ) (name : Name) (below : first < length ps) (soft : EndsWithoutTail (joined_pairs (drop first ps))) where
   abbrev whole_run : List Pair
-  whole_run = hard_tail_joined_pairs (drop first ps)
+  whole_run = joined_pairs (drop first ps)
 
   chained : Chained whole_run
   chained = run_chained (drop first ps)
 
   -- it belongs before all
-  at_front : (high : ℕ) → HasGreater by whole_run first name high → high ≡ first → IsPlaceWhereNameBelongs by ps first name first 0
+  at_front : (high : ℕ) → HasGreater by whole_run first name high → high ≡ first → BelongsAt by ps first name first 0
   at_front high h e =
       let none = empty_list h.before (let n = h.number in omega arith) in
       let is : whole_run ≡ h.pair ∷ h.behind = h.parts ∙ ap (λ z. z ++ h.pair ∷ h.behind) none in
@@ -361,17 +361,17 @@ module _ (by : NameOrder) (ps : List Pair) (first : ℕ) (name : Name) (below : 
         less = tt;
         fronted = h.fronted;
         not_before = inl refl;
-        not_behind = inl (subst (λ z. HasFirstSlotGreaterName by name (slots_without_superblock z)) (sym (append-nil h.pair.content.slots)) h.above);
+        not_behind = inl (subst (λ z. FirstIsGreater by name (entry_slots z)) (sym (append-nil h.pair.content.slots)) h.above);
       }
 
   -- behind a pair, where no entry is left
-  at_end : (at id low : ℕ) → HasLess by whole_run first name at id low → low ≡ first + length whole_run → IsPlaceWhereNameBelongs by ps first name at id
+  at_end : (at id low : ℕ) → HasLess by whole_run first name at id low → low ≡ first + length whole_run → BelongsAt by ps first name at id
   at_end at id low h e =
       let none : h.more ≡ [] = empty_list h.more (let k = ap length h.parts in let l = length-append h.left (h.pair ∷ (h.empty ++ h.more)) in let m = length-append h.empty h.more in let n = h.next in let b = h.number in omega arith) in
       let parts = h.parts in
       let c = chain_left h.left h.pair (h.empty ++ h.more) (subst Chained h.parts chained) in
-      let last : last_pair_has_hard_tail h.pair h.empty ≡ false =
-      ap (last_pair_has_hard_tail h.pair) (sym (ap (λ z. h.empty ++ z) none ∙ append-nil h.empty)) ∙ soft_end h.left h.pair (h.empty ++ h.more) (subst EndsWithoutHardTail h.parts soft) in
+      let last : last_joins h.pair h.empty ≡ false =
+      ap (last_joins h.pair) (sym (ap (λ z. h.empty ++ z) none ∙ append-nil h.empty)) ∙ soft_end h.left h.pair (h.empty ++ h.more) (subst EndsWithoutTail h.parts soft) in
       record {
         pair = h.pair;
         later = h.empty;
@@ -392,11 +392,11 @@ module _ (by : NameOrder) (ps : List Pair) (first : ℕ) (name : Name) (below : 
         less = h.less;
         fronted = refl;
         not_before = h.not_before;
-        not_behind = inr (ap slots_without_superblock h.none, last);
+        not_behind = inr (ap entry_slots h.none, last);
       }
 
   -- behind a pair, where a greater name comes first
-  at_seam : (at id low high : ℕ) → HasLess by whole_run first name at id low → (g : HasGreater by whole_run first name high) → low ≡ high → IsPlaceWhereNameBelongs by ps first name at id
+  at_seam : (at id low high : ℕ) → HasLess by whole_run first name at id low → (g : HasGreater by whole_run first name high) → low ≡ high → BelongsAt by ps first name at id
   at_seam at id low high h g e =
       let counts : length (h.left ++ h.pair ∷ h.empty) ≡ length g.before = (let l = length-append h.left (h.pair ∷ h.empty) in let n = h.next in let m = h.number in let k = g.number in omega arith) in
       let is : h.more ≡ g.pair ∷ g.behind = same_behind (h.left ++ h.pair ∷ h.empty) h.more g.before (g.pair ∷ g.behind) (append_assoc h.left (h.pair ∷ h.empty) h.more ∙ sym h.parts ∙ g.parts) counts in
@@ -423,12 +423,12 @@ module _ (by : NameOrder) (ps : List Pair) (first : ℕ) (name : Name) (below : 
         less = h.less;
         fronted = refl;
         not_before = h.not_before;
-        not_behind = inl (subst (HasFirstSlotGreaterName by name) (sym (entries_on h.empty g.pair h.none)) g.above);
+        not_behind = inl (subst (FirstIsGreater by name) (sym (entries_on h.empty g.pair h.none)) g.above);
       }
 
-  pub belongs_between : (at id low high : ℕ) → IsLow by whole_run first name at id low → IsHigh by whole_run first name high → low ≡ high → IsPlaceWhereNameBelongs by ps first name at id
+  pub belongs_between : (at id low high : ℕ) → IsLow by whole_run first name at id low → IsHigh by whole_run first name high → low ≡ high → BelongsAt by ps first name at id
   belongs_between at id low high (begun e f g) (ends k) m = absurd (let some = run_some ps first below in let n = run_count (drop first ps) in omega arith)
   belongs_between at id low high (begun e f g) (starts h) m =
-      subst (λ (n : ℕ). IsPlaceWhereNameBelongs by ps first name n id) (sym f) (subst (λ (n : ℕ). IsPlaceWhereNameBelongs by ps first name first n) (sym g) (at_front high h (sym m ∙ e)))
+      subst (λ (n : ℕ). BelongsAt by ps first name n id) (sym f) (subst (λ (n : ℕ). BelongsAt by ps first name first n) (sym g) (at_front high h (sym m ∙ e)))
   belongs_between at id low high (passed h) (ends k) m = at_end at id low h (m ∙ k)
   belongs_between at id low high (passed h) (starts g) m = at_seam at id low high h g m

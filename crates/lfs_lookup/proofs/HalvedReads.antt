@@ -4,12 +4,12 @@ use Rattle.std.specs.Prelude.{OnOk}
 use Rattle.std.specs.List.{AllByRecursion}
 use Rattle.std.proofs.Math.Nat.{mul-div-le, lt-div-mul-add, pow-succ'}
 use Rattle.lfs_device.specs.declared.error.Error.{Error}
-use Rattle.lfs_model.specs.Thread.{Pair}
+use Rattle.lfs_model.specs.format.Thread.{Pair}
 use Rattle.lfs_model.proofs.Counts.{each_right}
 use Rattle.lfs_pair.specs.Pair.{active_block_at}
 use Rattle.lfs_thread.specs.Kept.{ThreadView}
-use Rattle.lfs_lookup.specs.CachedPairs.{AreLogBlocksOfPairsCached, ReadsNothingAndKeepsPairsWhereAllCached, IsBlockMovedToCacheFront}
-use Rattle.lfs_lookup.specs.Halves.{HasSlotInEachPair, halvings_within_steps, halvings_until_zero}
+use Rattle.lfs_lookup.specs.CachedPairs.{ArePairsCached, ReadsNothingAndKeepsPairsWhereAllCached, IsMovedToFront}
+use Rattle.lfs_lookup.specs.Halves.{HasSlotPerPair, halvings_within, all_halvings}
 use Rattle.lfs_lookup.proofs.Halved.{IsAt}
 use Rattle.lfs_lookup.proofs.RecentBlocks.{HasBrought, HasKept, Passes, kept_none, loads_to_here, on_ok}
 
@@ -22,19 +22,19 @@ halves_of n = (mul-div-le n 2, (let k = lt-div-mul-add {a = n} {b = 2} (omega ar
 twice : (k : ℕ) → 2 ^ suc k ≡ 2 * 2 ^ k
 twice k = pow-succ' 2 k
 
-halved_power : (steps n : ℕ) → n ≤ steps → n < 2 ^ halvings_within_steps steps n
+halved_power : (steps n : ℕ) → n ≤ steps → n < 2 ^ halvings_within steps n
 halved_power zero zero l = omega arith
 halved_power zero (suc n) l = absurd (omega arith)
 halved_power (suc steps) zero l = omega arith
 halved_power (suc steps) (suc n) l =
     let h = halves_of (suc n) in
     let k = halved_power steps (suc n / 2) (omega (arith, h.0)) in
-    let t = twice (halvings_within_steps steps (suc n / 2)) in
-    let one : 1 + halvings_within_steps steps (suc n / 2) ≡ suc (halvings_within_steps steps (suc n / 2)) = omega arith in
+    let t = twice (halvings_within steps (suc n / 2)) in
+    let one : 1 + halvings_within steps (suc n / 2) ≡ suc (halvings_within steps (suc n / 2)) = omega arith in
     let p = ap (λ (e : ℕ). 2 ^ e) one in
     omega (arith, h.1, k, t, p)
 
-pub power_of_halvings : (n : ℕ) → n < 2 ^ halvings_until_zero n
+pub power_of_halvings : (n : ℕ) → n < 2 ^ all_halvings n
 power_of_halvings n = halved_power n n (omega arith)
 
 -- So many pairs are left, and they can be halved so often that the reads until then and these are no more than allowed.
@@ -43,8 +43,8 @@ pub record HasHalved (allowed before now size : ℕ) : Type 0 where
   pub fits : size < 2 ^ left
   pub spent : now + left ≤ before + allowed
 
-pub halved_none : (before n : ℕ) → HasHalved (halvings_until_zero n) before before n
-halved_none before n = record { left = halvings_until_zero n; fits = power_of_halvings n; spent = omega arith }
+pub halved_none : (before n : ℕ) → HasHalved (all_halvings n) before before n
+halved_none before n = record { left = all_halvings n; fits = power_of_halvings n; spent = omega arith }
 
 pub halved_on : (allowed before now later size half : ℕ) → HasHalved allowed before now size → 0 < size → half ≤ size / 2 → later ≤ now + 1 → HasHalved allowed before later half
 halved_on allowed before now later size half h some small once = go h.left h.fits h.spent
@@ -76,15 +76,15 @@ pub middle_below : (low high : ℕ) → low < high → low + (high - low) / 2 < 
 middle_below low high l = let h = halves_of (high - low) in omega (arith, h.0)
 
 -- a pair of a directory whose pairs all have slots
-pub has_slot : (run : List Pair) (first index : ℕ) (q : Pair) → IsAt run first index q → HasSlotInEachPair run → 0 < length q.content.slots
-has_slot run first index q a slots = (each_right (λ (p : Pair). 0 < length p.content.slots) a.before (q ∷ a.behind) (subst HasSlotInEachPair a.parts slots)).0
+pub has_slot : (run : List Pair) (first index : ℕ) (q : Pair) → IsAt run first index q → HasSlotPerPair run → 0 < length q.content.slots
+has_slot run first index q a slots = (each_right (λ (p : Pair). 0 < length p.content.slots) a.before (q ∷ a.behind) (subst HasSlotPerPair a.parts slots)).0
 
 -- ---- what is cached
 
 -- A directory of one pair is still to be looked at, or its pair is loaded.
 pub data IsLone (run : List Pair) (first low high : ℕ) (old now : ThreadView) : Type 0 where
   waits : low ≡ first → first < high → now.cache ≡ old.cache → IsLone run first low high old now
-  done : high ≤ low → AllByRecursion (λ p. IsBlockMovedToCacheFront (active_block_at old.kept.disk p.at) old.cache now.cache) run → IsLone run first low high old now
+  done : high ≤ low → AllByRecursion (λ p. IsMovedToFront (active_block_at old.kept.disk p.at) old.cache now.cache) run → IsLone run first low high old now
 
 pub record HasLoaded (run : List Pair) (first low high : ℕ) (old now : ThreadView) : Type 0 where
   pub kept : HasKept run run old now
@@ -102,7 +102,7 @@ module _ {X : Type 0} (run : List Pair) (first low high index : ℕ) (q : Pair) 
       disk = h.kept.disk;
       none = h.kept.none;
       stay = h.kept.stay;
-      left = λ there. ((each_right _ a.before (q ∷ a.behind) (subst (AreLogBlocksOfPairsCached old) a.parts there)).0, tt);
+      left = λ there. ((each_right _ a.before (q ∷ a.behind) (subst (ArePairsCached old) a.parts there)).0, tt);
     };
     begun = λ e. (same (h.lone e), sym (alone e));
   }
@@ -154,6 +154,6 @@ loads_all {X = X} run first low high old now s x is h none = record {
     back : (P : Type 0) → P → OnOk s P
     back P p = subst (λ (z : Result X Error). OnOk z P) (sym is) p
 
-    go : IsLone run first low high old now → AllByRecursion (λ p. IsBlockMovedToCacheFront (active_block_at old.kept.disk p.at) old.cache now.cache) run
+    go : IsLone run first low high old now → AllByRecursion (λ p. IsMovedToFront (active_block_at old.kept.disk p.at) old.cache now.cache) run
     go (waits e f k) = absurd (omega arith)
     go (done l k) = k

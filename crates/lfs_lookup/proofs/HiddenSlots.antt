@@ -3,23 +3,23 @@ use Rattle.std.proofs.Common.{ℕ, zero, suc, ◌≡◌, ◌+◌, ◌==◌, ◌&
 use Rattle.std.specs.List.{AllByRecursion, IsDistinct}
 use Rattle.std.proofs.lemmas.Option.{same_Some}
 use Rattle.std.proofs.lemmas.Bool.{ne_eqb, false_from_ne_true}
-use Rattle.lfs_model.specs.InDirectory.{IsPairAtAddress}
-use Rattle.lfs_model.specs.Slots.{Gstate, same_pair}
-use Rattle.lfs_model.specs.Thread.{Pair, blocks_of_pairs, id_of_moved_slot_in_pair}
+use Rattle.lfs_model.specs.session.InDirectory.{IsPairAt}
+use Rattle.lfs_model.specs.format.Slots.{Gstate, same_pair}
+use Rattle.lfs_model.specs.format.Thread.{Pair, blocks_of_pairs, moved_id}
 use Rattle.lfs_model.proofs.Pairs.{pair_back, pair_on}
 use Rattle.lfs_model.proofs.Searches.{same_number}
-use Rattle.lfs_lookup.specs.Search.{HidesMovedSlotInPairsFromIndex, skipped_id_in_pair}
+use Rattle.lfs_lookup.specs.NameSearch.{HidesFrom, skipped_id}
 use Rattle.lfs_lookup.specs.declared.search.SlotPosition.{SlotPosition}
 use Rattle.lfs_lookup.proofs.NamedSlots.{same_id}
 
-hides_from : (g : Gstate) (moved : Option SlotPosition) (i : ℕ) (ps : List Pair) → ((k : ℕ) (p : Pair) → slice_get ps k ≡ Some p → skipped_id_in_pair moved (i + k) ≡ id_of_moved_slot_in_pair g p) → HidesMovedSlotInPairsFromIndex g moved i ps
+hides_from : (g : Gstate) (moved : Option SlotPosition) (i : ℕ) (ps : List Pair) → ((k : ℕ) (p : Pair) → slice_get ps k ≡ Some p → skipped_id moved (i + k) ≡ moved_id g p) → HidesFrom g moved i ps
 hides_from g moved i [] h = tt
 hides_from g moved i (p ∷ ps) h = (
-  (let e : i + 0 ≡ i = omega arith in subst (λ (n : ℕ). skipped_id_in_pair moved n ≡ id_of_moved_slot_in_pair g p) e (h 0 p refl)),
-  hides_from g moved (i + 1) ps (λ k q at. let e : i + suc k ≡ i + 1 + k = omega arith in subst (λ (n : ℕ). skipped_id_in_pair moved n ≡ id_of_moved_slot_in_pair g q) e (h (suc k) q at)),
+  (let e : i + 0 ≡ i = omega arith in subst (λ (n : ℕ). skipped_id moved n ≡ moved_id g p) e (h 0 p refl)),
+  hides_from g moved (i + 1) ps (λ k q at. let e : i + suc k ≡ i + 1 + k = omega arith in subst (λ (n : ℕ). skipped_id moved n ≡ moved_id g q) e (h (suc k) q at)),
 )
 
-pub hides_nothing : (g : Gstate) (ps : List Pair) → (g.kind == 0x4ff) ≡ false → HidesMovedSlotInPairsFromIndex g None 0 ps
+pub hides_nothing : (g : Gstate) (ps : List Pair) → (g.kind == 0x4ff) ≡ false → HidesFrom g None 0 ps
 hides_nothing g ps e = hides_from g None 0 ps (λ k p at. sym (ap (λ b. cond (b && same_pair g.pair p.at) (Some g.id) None) e))
 
 each_get : (P : Pair → Type 0) (ps : List Pair) (k : ℕ) (p : Pair) → AllByRecursion P ps → slice_get ps k ≡ Some p → P p
@@ -31,19 +31,19 @@ both_false : (a b : Bool) → b ≡ false → (a && b) ≡ false
 both_false true b e = e
 both_false false b e = refl
 
-pub hides_nowhere : (g : Gstate) (ps : List Pair) → AllByRecursion (λ p. same_pair p.at g.pair ≡ false) ps → HidesMovedSlotInPairsFromIndex g None 0 ps
+pub hides_nowhere : (g : Gstate) (ps : List Pair) → AllByRecursion (λ p. same_pair p.at g.pair ≡ false) ps → HidesFrom g None 0 ps
 hides_nowhere g ps h = hides_from g None 0 ps (λ k p at.
     let not_here = each_get (λ q. same_pair q.at g.pair ≡ false) ps k p h at in
     let other : same_pair g.pair p.at ≡ false = false_from_ne_true (same_pair g.pair p.at) (λ s. absurd (let b = pair_back g.pair p.at s in cc)) in
     sym (ap (λ b. cond b (Some g.id) None) (both_false (g.kind == 0x4ff) (same_pair g.pair p.at) other)))
 
-pub hides_there : (g : Gstate) (ps : List Pair) (spot : SlotPosition) → (g.kind == 0x4ff) ≡ true → spot.id ≡ g.id → IsDistinct nat_eq (blocks_of_pairs ps) → IsPairAtAddress ps g.pair spot.pair → HidesMovedSlotInPairsFromIndex g (Some spot) 0 ps
-hides_there g ps spot kind id distinct begins = hides_from g (Some spot) 0 ps (λ k p at. (let e : 0 + k ≡ k = omega arith in ap (skipped_id_in_pair (Some spot)) e) ∙ go k p at (same_pair g.pair p.at) refl)
+pub hides_there : (g : Gstate) (ps : List Pair) (spot : SlotPosition) → (g.kind == 0x4ff) ≡ true → spot.id ≡ g.id → IsDistinct nat_eq (blocks_of_pairs ps) → IsPairAt ps g.pair spot.pair → HidesFrom g (Some spot) 0 ps
+hides_there g ps spot kind id distinct begins = hides_from g (Some spot) 0 ps (λ k p at. (let e : 0 + k ≡ k = omega arith in ap (skipped_id (Some spot)) e) ∙ go k p at (same_pair g.pair p.at) refl)
   where
-    set : (p : Pair) (b : Bool) → same_pair g.pair p.at ≡ b → id_of_moved_slot_in_pair g p ≡ cond b (Some g.id) None
+    set : (p : Pair) (b : Bool) → same_pair g.pair p.at ≡ b → moved_id g p ≡ cond b (Some g.id) None
     set p b e = ap₂ (λ x y. cond (x && y) (Some g.id) None) kind e
 
-    go : (k : ℕ) (p : Pair) → slice_get ps k ≡ Some p → (b : Bool) → same_pair g.pair p.at ≡ b → skipped_id_in_pair (Some spot) k ≡ id_of_moved_slot_in_pair g p
+    go : (k : ℕ) (p : Pair) → slice_get ps k ≡ Some p → (b : Bool) → same_pair g.pair p.at ≡ b → skipped_id (Some spot) k ≡ moved_id g p
     go k p at true e =
         let n : spot.pair ≡ k = same_number ps spot.pair k begins.pair p distinct begins.there at (pair_on begins.pair.at g.pair p.at begins.same e) in
         ap (λ b. cond b (Some spot.id) None) (ap (λ (i : ℕ). spot.pair == i) (sym n) ∙ same_id spot.pair) ∙ ap Some id ∙ sym (set p true e)

@@ -5,13 +5,13 @@ use Rattle.std.specs.List.{remove}
 use Rattle.std.proofs.lemmas.Bool.{leb-true}
 use Rattle.std.proofs.lemmas.List.Elements.{recursion_from_All}
 use Rattle.lfs_model.specs.declared.limits.AcceptedVersions.{AcceptedVersions}
-use Rattle.lfs_model.specs.Disk.{Disk}
-use Rattle.lfs_model.specs.Names.{is_path_component, name_limit}
-use Rattle.lfs_model.specs.Slots.{Gstate, Slot, is_superblock, same_pair}
-use Rattle.lfs_model.specs.Thread.{Pair, gstate_of_pairs, pair_count_before_root, slots_not_moved, entries_not_moved}
-use Rattle.lfs_model.specs.Tree.{Path}
-use Rattle.lfs_model.specs.View.{IsAcceptedImage, IsFileOrDirectoryEntry, HasSuperblockIfAnySlot}
-use Rattle.lfs_model.specs.Shown.{IsPathToDirectory, entries_by_directory_in_thread}
+use Rattle.lfs_model.specs.format.Disk.{Disk}
+use Rattle.lfs_model.specs.format.Names.{is_component, name_limit}
+use Rattle.lfs_model.specs.format.Slots.{Gstate, Slot, is_superblock, same_pair}
+use Rattle.lfs_model.specs.format.Thread.{Pair, pairs_gstate, pair_count_before_root, slots_not_moved, unmoved_entries}
+use Rattle.lfs_model.specs.tree.Tree.{Path}
+use Rattle.lfs_model.specs.tree.View.{IsAccepted, IsTreeEntry, BeginsWithSuperblock}
+use Rattle.lfs_model.specs.tree.Shown.{LeadsTo, all_entries}
 use Rattle.lfs_model.proofs.Counts.{Each, each_weaker}
 use Rattle.lfs_lookup.proofs.Visits.{each_visible}
 
@@ -26,13 +26,13 @@ right : (a b : Bool) → (a && b) ≡ true → b ≡ true
 right true b e = e
 right false b e = absurd (cc)
 
-entry_fits : (s : Slot) → IsFileOrDirectoryEntry s → may_fit s
-entry_fits s h k = leb-true (length s.name) name_limit (right (is_path_component s.name) (nat_le (length s.name) name_limit) h.name)
+entry_fits : (s : Slot) → IsTreeEntry s → may_fit s
+entry_fits s h k = leb-true (length s.name) name_limit (right (is_component s.name) (nat_le (length s.name) name_limit) h.name)
 
-entries_fit : (slots : List Slot) → All IsFileOrDirectoryEntry slots → Each may_fit slots
-entries_fit slots h = each_weaker IsFileOrDirectoryEntry may_fit entry_fits slots (recursion_from_All IsFileOrDirectoryEntry slots h)
+entries_fit : (slots : List Slot) → All IsTreeEntry slots → Each may_fit slots
+entries_fit slots h = each_weaker IsTreeEntry may_fit entry_fits slots (recursion_from_All IsTreeEntry slots h)
 
-headed_fit : (versions : AcceptedVersions) (bytes : List ℕ) (slots : List Slot) → HasSuperblockIfAnySlot versions bytes slots → Each may_fit slots
+headed_fit : (versions : AcceptedVersions) (bytes : List ℕ) (slots : List Slot) → BeginsWithSuperblock versions bytes slots → Each may_fit slots
 headed_fit versions bytes [] h = tt
 headed_fit versions bytes (s ∷ slots) h = ((λ k. let e = h.0 in absurd (cc)), entries_fit slots h.2)
 
@@ -43,15 +43,15 @@ each_parted P zero ps h k = k
 each_parted P (suc n) [] h k = tt
 each_parted P (suc n) (p ∷ ps) h k = (h.0, each_parted P n ps h.1 k)
 
-pairs_fit : (disk : Disk) (ps : List Pair) → IsAcceptedImage disk ps → Each (λ p. Each may_fit p.content.slots) ps
+pairs_fit : (disk : Disk) (ps : List Pair) → IsAccepted disk ps → Each (λ p. Each may_fit p.content.slots) ps
 pairs_fit disk ps ok =
     let n = pair_count_before_root ps + 1 in
     let s = ok.superblock in
     each_parted (λ p. Each may_fit p.content.slots) n ps
-    (each_weaker (λ (p : Pair). HasSuperblockIfAnySlot disk.profile.versions s.0 p.content.slots) (λ (p : Pair). Each may_fit p.content.slots) (λ p h. headed_fit disk.profile.versions s.0 p.content.slots h) (take n ps)
-    (recursion_from_All (λ (p : Pair). HasSuperblockIfAnySlot disk.profile.versions s.0 p.content.slots) (take n ps) s.1.1))
-    (each_weaker (λ (p : Pair). All IsFileOrDirectoryEntry p.content.slots) (λ (p : Pair). Each may_fit p.content.slots) (λ p h. entries_fit p.content.slots h) (drop n ps)
-    (recursion_from_All (λ (p : Pair). All IsFileOrDirectoryEntry p.content.slots) (drop n ps) ok.slots))
+    (each_weaker (λ (p : Pair). BeginsWithSuperblock disk.profile.versions s.0 p.content.slots) (λ (p : Pair). Each may_fit p.content.slots) (λ p h. headed_fit disk.profile.versions s.0 p.content.slots h) (take n ps)
+    (recursion_from_All (λ (p : Pair). BeginsWithSuperblock disk.profile.versions s.0 p.content.slots) (take n ps) s.1.1))
+    (each_weaker (λ (p : Pair). All IsTreeEntry p.content.slots) (λ (p : Pair). Each may_fit p.content.slots) (λ p h. entries_fit p.content.slots h) (drop n ps)
+    (recursion_from_All (λ (p : Pair). All IsTreeEntry p.content.slots) (drop n ps) ok.slots))
 
 -- ---- what they show
 
@@ -78,8 +78,8 @@ fit_shown (s ∷ slots) h = go (is_superblock s) refl (fit_shown slots h.1)
     go false e rest = (h.0 e, rest)
 
 -- each entry of a directory has a short name
-pub fitting_names : (disk : Disk) (ps : List Pair) (path : Path) (at : ℕ × ℕ) → IsAcceptedImage disk ps → IsPathToDirectory ps path at → Each name_fits (entries_by_directory_in_thread ps at)
+pub fitting_names : (disk : Disk) (ps : List Pair) (path : Path) (at : ℕ × ℕ) → IsAccepted disk ps → LeadsTo ps path at → Each name_fits (all_entries ps at)
 fitting_names disk ps path at ok leads =
     each_visible name_fits disk ps path at ok leads
-    (each_weaker (λ (p : Pair). Each may_fit p.content.slots) (λ (p : Pair). Each name_fits (entries_not_moved (gstate_of_pairs ps) p))
-    (λ p h. fit_shown (slots_not_moved (gstate_of_pairs ps) p) (fit_unmoved (gstate_of_pairs ps) p h)) ps (pairs_fit disk ps ok))
+    (each_weaker (λ (p : Pair). Each may_fit p.content.slots) (λ (p : Pair). Each name_fits (unmoved_entries (pairs_gstate ps) p))
+    (λ p h. fit_shown (slots_not_moved (pairs_gstate ps) p) (fit_unmoved (pairs_gstate ps) p h)) ps (pairs_fit disk ps ok))

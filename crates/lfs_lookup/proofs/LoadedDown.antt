@@ -5,22 +5,22 @@ use Rattle.std.specs.List.{AllByRecursion}
 use Rattle.std.specs.Option.{option_map_or}
 use Rattle.std.proofs.lemmas.List.{length-map}
 use Rattle.lfs_device.specs.declared.error.Error.{Error}
-use Rattle.lfs_model.specs.Cache.{CachedBlocks, cached_block_limit}
-use Rattle.lfs_model.specs.Frame.{pairs_of_directory, pair_count_of_directory_at, ancestor_paths_of_path}
-use Rattle.lfs_model.specs.Disk.{Disk}
-use Rattle.lfs_model.specs.History.{read_count_of_history}
-use Rattle.lfs_model.specs.Names.{Name}
-use Rattle.lfs_model.specs.Shown.{entries_by_directory_in_thread}
-use Rattle.lfs_model.specs.Thread.{Pair, root_directory_address_of_pairs}
-use Rattle.lfs_model.specs.Tree.{Path, directory_address_at_path}
-use Rattle.lfs_model.specs.View.{IsAcceptedImage}
+use Rattle.lfs_model.specs.layers.Cache.{CachedBlocks, cache_limit}
+use Rattle.lfs_model.specs.crash.Frame.{directory_pairs, pair_count_at, ancestor_paths}
+use Rattle.lfs_model.specs.format.Disk.{Disk}
+use Rattle.lfs_model.specs.session.History.{read_count}
+use Rattle.lfs_model.specs.format.Names.{Name}
+use Rattle.lfs_model.specs.tree.Shown.{all_entries}
+use Rattle.lfs_model.specs.format.Thread.{Pair, root_address}
+use Rattle.lfs_model.specs.tree.Tree.{Path, address_at_path}
+use Rattle.lfs_model.specs.tree.View.{IsAccepted}
 use Rattle.lfs_model.proofs.Counts.{each_append, each_left, each_right, each_weaker}
 use Rattle.lfs_pair.specs.Pair.{active_block_at}
 use Rattle.lfs_thread.specs.Kept.{KeptThread, ThreadView}
-use Rattle.lfs_thread.specs.Steps.{IsThreadOnlyRead}
-use Rattle.lfs_lookup.specs.CachedPairs.{AreLogBlocksOfPairsCached, AreDirectoriesAtThesePathsCached, AreLogBlocksOfPairsAmongLastUsed, AreDirectoriesAtThesePathsAmongLastUsed, AreFewDirectoriesOfOnePairEach, ReadsNothingAndKeepsPairsWhereAllCached, ReadsNothingAndKeepsDirectoriesWhereAllCached, IsBlockMovedToCacheFront, IsAmongLastUsedBlocks, CachedBlocksStayCached, pairs_of_directory_at_path}
-use Rattle.lfs_lookup.specs.Listed.{hard_tail_joined_pairs, hard_tail_joined_pairs_from}
-use Rattle.lfs_lookup.specs.Paths.{PathLeadsToFirstPair}
+use Rattle.lfs_thread.specs.ThreadSteps.{OnlyReadsThread}
+use Rattle.lfs_lookup.specs.CachedPairs.{ArePairsCached, AreDirectoriesCached, AreLastUsed, AreAllLastUsed, AreFewSmall, ReadsNothingAndKeepsPairsWhereAllCached, ReadsNothingAndKeepsDirectoriesWhereAllCached, IsMovedToFront, IsLastUsed, StayCached, pairs_at}
+use Rattle.lfs_lookup.specs.Listed.{joined_pairs, joined_pairs_from}
+use Rattle.lfs_lookup.specs.LookupPaths.{LeadsToPair}
 use Rattle.lfs_lookup.proofs.Descended.{parents_on, take_on, take_whole}
 use Rattle.lfs_lookup.proofs.Directories.{own_pairs}
 use Rattle.lfs_lookup.proofs.RecentBlocks.{Passes, after, wider}
@@ -30,73 +30,73 @@ use Rattle.lfs_lookup.proofs.ShownFindings.{IsFirstAt}
 
 abbrev many_at : List Pair → Option (ℕ × ℕ) → ℕ
 many_at ps None = 0
-many_at ps (Some at) = length (pairs_of_directory ps at)
+many_at ps (Some at) = length (directory_pairs ps at)
 
-pub length-pairs_on : (ps : List Pair) (path : Path) → length (pairs_of_directory_at_path ps path) ≡ pair_count_of_directory_at ps path
-length-pairs_on ps path = go (directory_address_at_path (entries_by_directory_in_thread ps) (root_directory_address_of_pairs ps) path)
+pub length-pairs_on : (ps : List Pair) (path : Path) → length (pairs_at ps path) ≡ pair_count_at ps path
+length-pairs_on ps path = go (address_at_path (all_entries ps) (root_address ps) path)
   where
-    go : (o : Option (ℕ × ℕ)) → length (option_map_or (pairs_of_directory ps) o []) ≡ many_at ps o
+    go : (o : Option (ℕ × ℕ)) → length (option_map_or (directory_pairs ps) o []) ≡ many_at ps o
     go None = refl
     go (Some at) = refl
 
-pub run_on_path : (t : KeptThread) (path : Path) (first : ℕ) → IsAcceptedImage t.disk t.pairs → PathLeadsToFirstPair t.pairs path first → hard_tail_joined_pairs (drop first t.pairs) ≡ pairs_of_directory_at_path t.pairs path
-run_on_path t path first ok on = own_pairs t.disk t.pairs path on.at first ok on.leads on.begins ∙ sym (ap (λ o. option_map_or (pairs_of_directory t.pairs) o []) on.leads)
+pub run_on_path : (t : KeptThread) (path : Path) (first : ℕ) → IsAccepted t.disk t.pairs → LeadsToPair t.pairs path first → joined_pairs (drop first t.pairs) ≡ pairs_at t.pairs path
+run_on_path t path first ok on = own_pairs t.disk t.pairs path on.at first ok on.leads on.begins ∙ sym (ap (λ o. option_map_or (directory_pairs t.pairs) o []) on.leads)
 
 -- and behind calls that only read
-pub run_same : (a b : KeptThread) (path : Path) (first : ℕ) → IsAcceptedImage a.disk a.pairs → IsThreadOnlyRead a b → PathLeadsToFirstPair a.pairs path first → hard_tail_joined_pairs (drop first b.pairs) ≡ pairs_of_directory_at_path a.pairs path
-run_same a b path first ok r on = ap (λ ps. hard_tail_joined_pairs (drop first ps)) r.pairs ∙ run_on_path a path first ok on
+pub run_same : (a b : KeptThread) (path : Path) (first : ℕ) → IsAccepted a.disk a.pairs → OnlyReadsThread a b → LeadsToPair a.pairs path first → joined_pairs (drop first b.pairs) ≡ pairs_at a.pairs path
+run_same a b path first ok r on = ap (λ ps. joined_pairs (drop first ps)) r.pairs ∙ run_on_path a path first ok on
 
 -- ---- the directories above
 
-pub length-ancestor_paths_of_path : (path : Path) → length (ancestor_paths_of_path path) ≡ length path
-length-ancestor_paths_of_path [] = refl
-length-ancestor_paths_of_path (x ∷ path) = ap suc (length-map (ancestor_paths_of_path path) (λ (p : Path). x ∷ p) ∙ length-ancestor_paths_of_path path)
+pub length-ancestor_paths : (path : Path) → length (ancestor_paths path) ≡ length path
+length-ancestor_paths [] = refl
+length-ancestor_paths (x ∷ path) = ap suc (length-map (ancestor_paths path) (λ (p : Path). x ∷ p) ∙ length-ancestor_paths path)
 
 under : (P : Path → Type 0) (x : Name) (qs : List Path) → AllByRecursion P (map (λ q. x ∷ q) qs) → AllByRecursion (λ q. P (x ∷ q)) qs
 under P x [] h = tt
 under P x (q ∷ qs) h = (h.0, under P x qs h.1)
 
-pub parent_at : (P : Path → Type 0) (path : Path) (i : ℕ) (n : Name) → slice_get path i ≡ Some n → AllByRecursion P (ancestor_paths_of_path path) → P (take i path)
+pub parent_at : (P : Path → Type 0) (path : Path) (i : ℕ) (n : Name) → slice_get path i ≡ Some n → AllByRecursion P (ancestor_paths path) → P (take i path)
 parent_at P [] i n e h = absurd (cc)
 parent_at P (x ∷ path) zero n e h = h.0
-parent_at P (x ∷ path) (suc i) n e h = parent_at (λ q. P (x ∷ q)) path i n e (under P x (ancestor_paths_of_path path) h.1)
+parent_at P (x ∷ path) (suc i) n e h = parent_at (λ q. P (x ∷ q)) path i n e (under P x (ancestor_paths path) h.1)
 
 -- ---- one directory more
 
-module _ (disk : Disk) (ps : List Pair) (q : Path) (run : List Pair) (is : run ≡ pairs_of_directory_at_path ps q) (now : ThreadView) (same : now.kept.disk ≡ disk) where
-  pub on_hand : (cache : CachedBlocks) → AreLogBlocksOfPairsAmongLastUsed cached_block_limit disk cache (pairs_of_directory_at_path ps q) → CachedBlocksStayCached cache now.cache → AreLogBlocksOfPairsCached now run
+module _ (disk : Disk) (ps : List Pair) (q : Path) (run : List Pair) (is : run ≡ pairs_at ps q) (now : ThreadView) (same : now.kept.disk ≡ disk) where
+  pub on_hand : (cache : CachedBlocks) → AreLastUsed cache_limit disk cache (pairs_at ps q) → StayCached cache now.cache → ArePairsCached now run
   on_hand cache there stay =
-      subst (AreLogBlocksOfPairsCached now) (sym is) (subst (λ d. AreLogBlocksOfPairsAmongLastUsed cached_block_limit d now.cache (pairs_of_directory_at_path ps q)) (sym same)
-      (each_weaker (λ (p : Pair). IsAmongLastUsedBlocks cached_block_limit cache (active_block_at disk p.at)) (λ (p : Pair). IsAmongLastUsedBlocks cached_block_limit now.cache (active_block_at disk p.at)) (λ p k. stay (active_block_at disk p.at) k) (pairs_of_directory_at_path ps q) there))
+      subst (ArePairsCached now) (sym is) (subst (λ d. AreLastUsed cache_limit d now.cache (pairs_at ps q)) (sym same)
+      (each_weaker (λ (p : Pair). IsLastUsed cache_limit cache (active_block_at disk p.at)) (λ (p : Pair). IsLastUsed cache_limit now.cache (active_block_at disk p.at)) (λ p k. stay (active_block_at disk p.at) k) (pairs_at ps q) there))
 
-  module _ {X : Type 0} (new : ThreadView) (x : X) (b : ReadsNothingAndKeepsPairsWhereAllCached run now new (Ok x)) (n : ℕ) (few : n < cached_block_limit) (small : pair_count_of_directory_at ps q ≡ 1) where
+  module _ {X : Type 0} (new : ThreadView) (x : X) (b : ReadsNothingAndKeepsPairsWhereAllCached run now new (Ok x)) (n : ℕ) (few : n < cache_limit) (small : pair_count_at ps q ≡ 1) where
     one_is : length run ≡ 1
     one_is = ap length is ∙ length-pairs_on ps q ∙ small
 
-    last_of : (qs : List Pair) → length qs ≡ 1 → AllByRecursion (λ p. IsBlockMovedToCacheFront (active_block_at now.kept.disk p.at) now.cache new.cache) qs → AreLogBlocksOfPairsAmongLastUsed (suc n) now.kept.disk new.cache qs
+    last_of : (qs : List Pair) → length qs ≡ 1 → AllByRecursion (λ p. IsMovedToFront (active_block_at now.kept.disk p.at) now.cache new.cache) qs → AreLastUsed (suc n) now.kept.disk new.cache qs
     last_of [] e h = absurd (omega (arith, e))
     last_of (p ∷ []) e h = (wider 1 (suc n) _ new.cache (omega arith) h.0.first, tt)
     last_of (p ∷ (r ∷ qs)) e h = absurd (omega (arith, e))
 
-    further_of : (qs : List Pair) → length qs ≡ 1 → AllByRecursion (λ p. IsBlockMovedToCacheFront (active_block_at now.kept.disk p.at) now.cache new.cache) qs → (c : ℕ) → IsAmongLastUsedBlocks n now.cache c → IsAmongLastUsedBlocks (suc n) new.cache c
+    further_of : (qs : List Pair) → length qs ≡ 1 → AllByRecursion (λ p. IsMovedToFront (active_block_at now.kept.disk p.at) now.cache new.cache) qs → (c : ℕ) → IsLastUsed n now.cache c → IsLastUsed (suc n) new.cache c
     further_of [] e h = absurd (omega (arith, e))
     further_of (p ∷ qs) e h = λ c k. h.0.others n c few k
 
-    pub recent_more : (qs : List Path) → AreDirectoriesAtThesePathsAmongLastUsed n disk now.cache ps qs → AreDirectoriesAtThesePathsAmongLastUsed (suc n) disk new.cache ps (qs ++ q ∷ [])
-    recent_more qs h = each_append (λ (p : Path). AreLogBlocksOfPairsAmongLastUsed (suc n) disk new.cache (pairs_of_directory_at_path ps p)) qs (q ∷ [])
-        (each_weaker (λ (p : Path). AreLogBlocksOfPairsAmongLastUsed n disk now.cache (pairs_of_directory_at_path ps p)) (λ (p : Path). AreLogBlocksOfPairsAmongLastUsed (suc n) disk new.cache (pairs_of_directory_at_path ps p))
-        (λ p k. each_weaker (λ (r : Pair). IsAmongLastUsedBlocks n now.cache (active_block_at disk r.at)) (λ (r : Pair). IsAmongLastUsedBlocks (suc n) new.cache (active_block_at disk r.at))
-        (λ r z. further_of run one_is (b.one one_is) (active_block_at disk r.at) z) (pairs_of_directory_at_path ps p) k) qs h)
-        (subst (λ d. AreLogBlocksOfPairsAmongLastUsed (suc n) d new.cache (pairs_of_directory_at_path ps q)) same (subst (AreLogBlocksOfPairsAmongLastUsed (suc n) now.kept.disk new.cache) is (last_of run one_is (b.one one_is))), tt)
+    pub recent_more : (qs : List Path) → AreAllLastUsed n disk now.cache ps qs → AreAllLastUsed (suc n) disk new.cache ps (qs ++ q ∷ [])
+    recent_more qs h = each_append (λ (p : Path). AreLastUsed (suc n) disk new.cache (pairs_at ps p)) qs (q ∷ [])
+        (each_weaker (λ (p : Path). AreLastUsed n disk now.cache (pairs_at ps p)) (λ (p : Path). AreLastUsed (suc n) disk new.cache (pairs_at ps p))
+        (λ p k. each_weaker (λ (r : Pair). IsLastUsed n now.cache (active_block_at disk r.at)) (λ (r : Pair). IsLastUsed (suc n) new.cache (active_block_at disk r.at))
+        (λ r z. further_of run one_is (b.one one_is) (active_block_at disk r.at) z) (pairs_at ps p) k) qs h)
+        (subst (λ d. AreLastUsed (suc n) d new.cache (pairs_at ps q)) same (subst (AreLastUsed (suc n) now.kept.disk new.cache) is (last_of run one_is (b.one one_is))), tt)
 
 -- ---- on the way
 
 -- the directories above the first i names of a path were searched, in turn
 pub record HasSearched (path : Path) (i : ℕ) (old now : ThreadView) : Type 0 where
   pub disk : now.kept.disk ≡ old.kept.disk
-  pub none : AreDirectoriesAtThesePathsCached old (ancestor_paths_of_path path) → read_count_of_history now.kept.history ≡ read_count_of_history old.kept.history
-  pub stay : AreDirectoriesAtThesePathsCached old (ancestor_paths_of_path path) → CachedBlocksStayCached old.cache now.cache
-  pub recent : AreFewDirectoriesOfOnePairEach old.kept.pairs (ancestor_paths_of_path path) → AreDirectoriesAtThesePathsAmongLastUsed i old.kept.disk now.cache old.kept.pairs (ancestor_paths_of_path (take i path))
+  pub none : AreDirectoriesCached old (ancestor_paths path) → read_count now.kept.history ≡ read_count old.kept.history
+  pub stay : AreDirectoriesCached old (ancestor_paths path) → StayCached old.cache now.cache
+  pub recent : AreFewSmall old.kept.pairs (ancestor_paths path) → AreAllLastUsed i old.kept.disk now.cache old.kept.pairs (ancestor_paths (take i path))
 
 -- what isn't all the way brings no more than that
 abbrev pub StopsShort : {Y : Type 0} → (Y → Type 0) → Result Y Error → Type 1
@@ -106,12 +106,12 @@ pub stops_none : {Y : Type 0} (through : Y → Type 0) (s : Result Y Error) (e :
 stops_none through s e is = λ Q. subst (λ z. IfOk z (λ x. through x → Q)) (sym is) tt
 
 module _ (old now : ThreadView) (path : Path) (i : ℕ) (name : Name) (at : slice_get path i ≡ Some name) (h : HasSearched path i old now)
-    (run : List Pair) (is : run ≡ pairs_of_directory_at_path old.kept.pairs (take i path)) (new : ThreadView) where
-  there_now : AreDirectoriesAtThesePathsCached old (ancestor_paths_of_path path) → AreLogBlocksOfPairsCached now run
+    (run : List Pair) (is : run ≡ pairs_at old.kept.pairs (take i path)) (new : ThreadView) where
+  there_now : AreDirectoriesCached old (ancestor_paths path) → ArePairsCached now run
   there_now there = on_hand old.kept.disk old.kept.pairs (take i path) run is now h.disk old.cache
-      (parent_at (λ p. AreLogBlocksOfPairsAmongLastUsed cached_block_limit old.kept.disk old.cache (pairs_of_directory_at_path old.kept.pairs p)) path i name at there) (h.stay there)
+      (parent_at (λ p. AreLastUsed cache_limit old.kept.disk old.cache (pairs_at old.kept.pairs p)) path i name at there) (h.stay there)
 
-  pub searched_to_here : {X Y : Type 0} (r : Result X Error) (s : Result Y Error) (through : Y → Type 0) → ReadsNothingAndKeepsPairsWhereAllCached run now new r → Passes r s → StopsShort through s → ReadsNothingAndKeepsDirectoriesWhereAllCached through (ancestor_paths_of_path path) old new s
+  pub searched_to_here : {X Y : Type 0} (r : Result X Error) (s : Result Y Error) (through : Y → Type 0) → ReadsNothingAndKeepsPairsWhereAllCached run now new r → Passes r s → StopsShort through s → ReadsNothingAndKeepsDirectoriesWhereAllCached through (ancestor_paths path) old new s
   searched_to_here r s through b pass short = record {
     none = λ there. b.none (there_now there) ∙ h.none there;
     stay = λ there. pass _ (after r (λ st x k. st x (h.stay there x k)) (b.stay (there_now there)));
@@ -124,23 +124,23 @@ module _ (old now : ThreadView) (path : Path) (i : ℕ) (name : Name) (at : slic
     none = λ there. b.none (there_now there) ∙ h.none there;
     stay = λ there c k. b.stay (there_now there) c (h.stay there c k);
     recent = λ small. (
-        let l = length-ancestor_paths_of_path path in
+        let l = length-ancestor_paths path in
         let f = small.few in
         let next : suc i ≡ i + 1 = omega arith in
-        subst (λ n. AreDirectoriesAtThesePathsAmongLastUsed n old.kept.disk new.cache old.kept.pairs (ancestor_paths_of_path (take (i + 1) path))) next
-        (subst (AreDirectoriesAtThesePathsAmongLastUsed (suc i) old.kept.disk new.cache old.kept.pairs) (sym (ap ancestor_paths_of_path (take_on path i name at) ∙ parents_on (take i path) name))
-        (recent_more old.kept.disk old.kept.pairs (take i path) run is now h.disk new x b i (omega (arith, l, f, within)) (parent_at (λ p. pair_count_of_directory_at old.kept.pairs p ≡ 1) path i name at small.small) (ancestor_paths_of_path (take i path)) (h.recent small)))
+        subst (λ n. AreAllLastUsed n old.kept.disk new.cache old.kept.pairs (ancestor_paths (take (i + 1) path))) next
+        (subst (AreAllLastUsed (suc i) old.kept.disk new.cache old.kept.pairs) (sym (ap ancestor_paths (take_on path i name at) ∙ parents_on (take i path) name))
+        (recent_more old.kept.disk old.kept.pairs (take i path) run is now h.disk new x b i (omega (arith, l, f, within)) (parent_at (λ p. pair_count_at old.kept.pairs p ≡ 1) path i name at small.small) (ancestor_paths (take i path)) (h.recent small)))
         );
   }
 
-pub searched_all : {Y : Type 0} (old now : ThreadView) (path : Path) (i : ℕ) (y : Y) (through : Y → Type 0) → HasSearched path i old now → length path ≤ i → i ≤ length path → ReadsNothingAndKeepsDirectoriesWhereAllCached through (ancestor_paths_of_path path) old now (Ok y)
+pub searched_all : {Y : Type 0} (old now : ThreadView) (path : Path) (i : ℕ) (y : Y) (through : Y → Type 0) → HasSearched path i old now → length path ≤ i → i ≤ length path → ReadsNothingAndKeepsDirectoriesWhereAllCached through (ancestor_paths path) old now (Ok y)
 searched_all old now path i y through h past within = record {
   none = h.none;
   stay = h.stay;
   recent = λ small all. (
-      let l = length-ancestor_paths_of_path path in
-      let e : i ≡ length (ancestor_paths_of_path path) = omega (arith, l, past, within) in
-      subst (λ n. AreDirectoriesAtThesePathsAmongLastUsed n old.kept.disk now.cache old.kept.pairs (ancestor_paths_of_path path)) e (subst (λ p. AreDirectoriesAtThesePathsAmongLastUsed i old.kept.disk now.cache old.kept.pairs (ancestor_paths_of_path p)) (take_whole i path past) (h.recent small))
+      let l = length-ancestor_paths path in
+      let e : i ≡ length (ancestor_paths path) = omega (arith, l, past, within) in
+      subst (λ n. AreAllLastUsed n old.kept.disk now.cache old.kept.pairs (ancestor_paths path)) e (subst (λ p. AreAllLastUsed i old.kept.disk now.cache old.kept.pairs (ancestor_paths p)) (take_whole i path past) (h.recent small))
       );
 }
 
@@ -148,61 +148,61 @@ searched_all old now path i y through h past within = record {
 
 -- the way ends before the last directory
 pub down_short : {X Y : Type 0} (enters : X → Type 0) (through : Y → Type 0) (old new : ThreadView) (path above : Path) (name : Name) (r : Result X Error) (s : Result Y Error) → path ≡ above ++ name ∷ [] → Passes r s → StopsShort through s
-    → ReadsNothingAndKeepsDirectoriesWhereAllCached enters (ancestor_paths_of_path above) old new r → ReadsNothingAndKeepsDirectoriesWhereAllCached through (ancestor_paths_of_path path) old new s
+    → ReadsNothingAndKeepsDirectoriesWhereAllCached enters (ancestor_paths above) old new r → ReadsNothingAndKeepsDirectoriesWhereAllCached through (ancestor_paths path) old new s
 down_short enters through old new path above name r s is pass short b = record { none = λ there. b.none (upper there); stay = λ there. pass _ (b.stay (upper there)); recent = λ small. short _ }
   where
-    upper : AreDirectoriesAtThesePathsCached old (ancestor_paths_of_path path) → AreDirectoriesAtThesePathsCached old (ancestor_paths_of_path above)
-    upper there = each_left (λ p. AreLogBlocksOfPairsAmongLastUsed cached_block_limit old.kept.disk old.cache (pairs_of_directory_at_path old.kept.pairs p)) (ancestor_paths_of_path above) (above ∷ []) (subst (AreDirectoriesAtThesePathsCached old) (ap ancestor_paths_of_path is ∙ parents_on above name) there)
+    upper : AreDirectoriesCached old (ancestor_paths path) → AreDirectoriesCached old (ancestor_paths above)
+    upper there = each_left (λ p. AreLastUsed cache_limit old.kept.disk old.cache (pairs_at old.kept.pairs p)) (ancestor_paths above) (above ∷ []) (subst (AreDirectoriesCached old) (ap ancestor_paths is ∙ parents_on above name) there)
 
 pub down_last : {X Y : Type 0} (enters : X → Type 0) (through : Y → Type 0) (old mid new : ThreadView) (path above : Path) (name : Name) (x : X) (s : Result Y Error) (run : List Pair) → path ≡ above ++ name ∷ []
-    → ReadsNothingAndKeepsDirectoriesWhereAllCached enters (ancestor_paths_of_path above) old mid (Ok x) → enters x → mid.kept.disk ≡ old.kept.disk → run ≡ pairs_of_directory_at_path old.kept.pairs above → ReadsNothingAndKeepsPairsWhereAllCached run mid new s → ReadsNothingAndKeepsDirectoriesWhereAllCached through (ancestor_paths_of_path path) old new s
+    → ReadsNothingAndKeepsDirectoriesWhereAllCached enters (ancestor_paths above) old mid (Ok x) → enters x → mid.kept.disk ≡ old.kept.disk → run ≡ pairs_at old.kept.pairs above → ReadsNothingAndKeepsPairsWhereAllCached run mid new s → ReadsNothingAndKeepsDirectoriesWhereAllCached through (ancestor_paths path) old new s
 down_last {Y = Y} enters through old mid new path above name x s run is a all same are b = record {
   none = λ there. (let p = parted there in b.none (on_hand old.kept.disk old.kept.pairs above run are mid same old.cache p.1 (a.stay p.0)) ∙ a.none p.0);
   stay = λ there. (let p = parted there in after s (λ st c k. st c (a.stay p.0 c k)) (b.stay (on_hand old.kept.disk old.kept.pairs above run are mid same old.cache p.1 (a.stay p.0))));
   recent = λ small. ended small s b;
 }
   where
-    parents_are : ancestor_paths_of_path path ≡ ancestor_paths_of_path above ++ above ∷ []
-    parents_are = ap ancestor_paths_of_path is ∙ parents_on above name
+    parents_are : ancestor_paths path ≡ ancestor_paths above ++ above ∷ []
+    parents_are = ap ancestor_paths is ∙ parents_on above name
 
-    parted : AreDirectoriesAtThesePathsCached old (ancestor_paths_of_path path) → AreDirectoriesAtThesePathsCached old (ancestor_paths_of_path above) × AreLogBlocksOfPairsAmongLastUsed cached_block_limit old.kept.disk old.cache (pairs_of_directory_at_path old.kept.pairs above)
+    parted : AreDirectoriesCached old (ancestor_paths path) → AreDirectoriesCached old (ancestor_paths above) × AreLastUsed cache_limit old.kept.disk old.cache (pairs_at old.kept.pairs above)
     parted there =
-        let k = subst (AreDirectoriesAtThesePathsCached old) parents_are there in
-        let P : Path → Type 0 = λ p. AreLogBlocksOfPairsAmongLastUsed cached_block_limit old.kept.disk old.cache (pairs_of_directory_at_path old.kept.pairs p) in
-        (each_left P (ancestor_paths_of_path above) (above ∷ []) k, (each_right P (ancestor_paths_of_path above) (above ∷ []) k).0)
+        let k = subst (AreDirectoriesCached old) parents_are there in
+        let P : Path → Type 0 = λ p. AreLastUsed cache_limit old.kept.disk old.cache (pairs_at old.kept.pairs p) in
+        (each_left P (ancestor_paths above) (above ∷ []) k, (each_right P (ancestor_paths above) (above ∷ []) k).0)
 
-    ended : AreFewDirectoriesOfOnePairEach old.kept.pairs (ancestor_paths_of_path path) → (s : Result Y Error) → ReadsNothingAndKeepsPairsWhereAllCached run mid new s → IfOk s (λ y. through y → AreDirectoriesAtThesePathsAmongLastUsed (length (ancestor_paths_of_path path)) old.kept.disk new.cache old.kept.pairs (ancestor_paths_of_path path))
+    ended : AreFewSmall old.kept.pairs (ancestor_paths path) → (s : Result Y Error) → ReadsNothingAndKeepsPairsWhereAllCached run mid new s → IfOk s (λ y. through y → AreAllLastUsed (length (ancestor_paths path)) old.kept.disk new.cache old.kept.pairs (ancestor_paths path))
     ended small (Err e) b = tt
     ended small (Ok y) b = λ ends.
-        let n = ap length parents_are ∙ length-append (ancestor_paths_of_path above) (above ∷ []) in
+        let n = ap length parents_are ∙ length-append (ancestor_paths above) (above ∷ []) in
         let f = small.few in
-        let k = subst (AllByRecursion (λ p. pair_count_of_directory_at old.kept.pairs p ≡ 1)) parents_are small.small in
-        let Q : Path → Type 0 = λ p. pair_count_of_directory_at old.kept.pairs p ≡ 1 in
-        let first = a.recent (record { few = omega (arith, n, f); small = each_left Q (ancestor_paths_of_path above) (above ∷ []) k }) all in
-        let e : suc (length (ancestor_paths_of_path above)) ≡ length (ancestor_paths_of_path path) = omega (arith, n) in
-        subst (λ m. AreDirectoriesAtThesePathsAmongLastUsed m old.kept.disk new.cache old.kept.pairs (ancestor_paths_of_path path)) e
-        (subst (AreDirectoriesAtThesePathsAmongLastUsed (suc (length (ancestor_paths_of_path above))) old.kept.disk new.cache old.kept.pairs) (sym parents_are)
-        (recent_more old.kept.disk old.kept.pairs above run are mid same new y b (length (ancestor_paths_of_path above)) (omega (arith, n, f)) (each_right Q (ancestor_paths_of_path above) (above ∷ []) k).0 (ancestor_paths_of_path above) first))
+        let k = subst (AllByRecursion (λ p. pair_count_at old.kept.pairs p ≡ 1)) parents_are small.small in
+        let Q : Path → Type 0 = λ p. pair_count_at old.kept.pairs p ≡ 1 in
+        let first = a.recent (record { few = omega (arith, n, f); small = each_left Q (ancestor_paths above) (above ∷ []) k }) all in
+        let e : suc (length (ancestor_paths above)) ≡ length (ancestor_paths path) = omega (arith, n) in
+        subst (λ m. AreAllLastUsed m old.kept.disk new.cache old.kept.pairs (ancestor_paths path)) e
+        (subst (AreAllLastUsed (suc (length (ancestor_paths above))) old.kept.disk new.cache old.kept.pairs) (sym parents_are)
+        (recent_more old.kept.disk old.kept.pairs above run are mid same new y b (length (ancestor_paths above)) (omega (arith, n, f)) (each_right Q (ancestor_paths above) (above ∷ []) k).0 (ancestor_paths above) first))
 
 -- ---- a directory's own pairs
 
-pub on_hand_above : (t : ThreadView) (path : Path) → AreDirectoriesAtThesePathsCached t (ancestor_paths_of_path path ++ path ∷ []) → AreDirectoriesAtThesePathsCached t (ancestor_paths_of_path path)
-on_hand_above t path there = each_left (λ p. AreLogBlocksOfPairsAmongLastUsed cached_block_limit t.kept.disk t.cache (pairs_of_directory_at_path t.kept.pairs p)) (ancestor_paths_of_path path) (path ∷ []) there
+pub on_hand_above : (t : ThreadView) (path : Path) → AreDirectoriesCached t (ancestor_paths path ++ path ∷ []) → AreDirectoriesCached t (ancestor_paths path)
+on_hand_above t path there = each_left (λ p. AreLastUsed cache_limit t.kept.disk t.cache (pairs_at t.kept.pairs p)) (ancestor_paths path) (path ∷ []) there
 
-pub first_on_hand : (old mid : ThreadView) (path : Path) → IsAcceptedImage old.kept.disk old.kept.pairs → IsThreadOnlyRead old.kept mid.kept → (from : Option ℕ) → IsFirstAt old.kept path from → CachedBlocksStayCached old.cache mid.cache
-    → AreDirectoriesAtThesePathsCached old (ancestor_paths_of_path path ++ path ∷ []) → AreLogBlocksOfPairsCached mid (hard_tail_joined_pairs_from mid.kept.pairs from)
+pub first_on_hand : (old mid : ThreadView) (path : Path) → IsAccepted old.kept.disk old.kept.pairs → OnlyReadsThread old.kept mid.kept → (from : Option ℕ) → IsFirstAt old.kept path from → StayCached old.cache mid.cache
+    → AreDirectoriesCached old (ancestor_paths path ++ path ∷ []) → ArePairsCached mid (joined_pairs_from mid.kept.pairs from)
 first_on_hand old mid path ok r None at stay there = tt
 first_on_hand old mid path ok r (Some first) at stay there =
-    on_hand old.kept.disk old.kept.pairs path (hard_tail_joined_pairs (drop first mid.kept.pairs)) (run_same old.kept mid.kept path first ok r at) mid r.disk old.cache
-    (each_right (λ p. AreLogBlocksOfPairsAmongLastUsed cached_block_limit old.kept.disk old.cache (pairs_of_directory_at_path old.kept.pairs p)) (ancestor_paths_of_path path) (path ∷ []) there).0 stay
+    on_hand old.kept.disk old.kept.pairs path (joined_pairs (drop first mid.kept.pairs)) (run_same old.kept mid.kept path first ok r at) mid r.disk old.cache
+    (each_right (λ p. AreLastUsed cache_limit old.kept.disk old.cache (pairs_at old.kept.pairs p)) (ancestor_paths path) (path ∷ []) there).0 stay
 
 -- ---- at the end
 
-pub hand_after : {X : Type 0} (a b : ThreadView) (through : X → Type 0) (paths : List Path) (r : Result X Error) → ReadsNothingAndKeepsDirectoriesWhereAllCached through paths a b r → IsThreadOnlyRead a.kept b.kept → AreFewDirectoriesOfOnePairEach a.kept.pairs paths
-    → IfOk r (λ x. through x → AreDirectoriesAtThesePathsAmongLastUsed cached_block_limit b.kept.disk b.cache b.kept.pairs paths)
+pub hand_after : {X : Type 0} (a b : ThreadView) (through : X → Type 0) (paths : List Path) (r : Result X Error) → ReadsNothingAndKeepsDirectoriesWhereAllCached through paths a b r → OnlyReadsThread a.kept b.kept → AreFewSmall a.kept.pairs paths
+    → IfOk r (λ x. through x → AreAllLastUsed cache_limit b.kept.disk b.cache b.kept.pairs paths)
 hand_after a b through paths (Err e) d only small = tt
 hand_after a b through paths (Ok x) d only small = λ ends.
-    subst (λ ps. AreDirectoriesAtThesePathsAmongLastUsed cached_block_limit b.kept.disk b.cache ps paths) (sym only.pairs) (subst (λ disk. AreDirectoriesAtThesePathsAmongLastUsed cached_block_limit disk b.cache a.kept.pairs paths) (sym only.disk)
-    (each_weaker (λ (p : Path). AreLogBlocksOfPairsAmongLastUsed (length paths) a.kept.disk b.cache (pairs_of_directory_at_path a.kept.pairs p)) (λ (p : Path). AreLogBlocksOfPairsAmongLastUsed cached_block_limit a.kept.disk b.cache (pairs_of_directory_at_path a.kept.pairs p))
-    (λ p k. each_weaker (λ (q : Pair). IsAmongLastUsedBlocks (length paths) b.cache (active_block_at a.kept.disk q.at)) (λ (q : Pair). IsAmongLastUsedBlocks cached_block_limit b.cache (active_block_at a.kept.disk q.at))
-    (λ q z. wider (length paths) cached_block_limit _ b.cache small.few z) (pairs_of_directory_at_path a.kept.pairs p) k) paths (d.recent small ends)))
+    subst (λ ps. AreAllLastUsed cache_limit b.kept.disk b.cache ps paths) (sym only.pairs) (subst (λ disk. AreAllLastUsed cache_limit disk b.cache a.kept.pairs paths) (sym only.disk)
+    (each_weaker (λ (p : Path). AreLastUsed (length paths) a.kept.disk b.cache (pairs_at a.kept.pairs p)) (λ (p : Path). AreLastUsed cache_limit a.kept.disk b.cache (pairs_at a.kept.pairs p))
+    (λ p k. each_weaker (λ (q : Pair). IsLastUsed (length paths) b.cache (active_block_at a.kept.disk q.at)) (λ (q : Pair). IsLastUsed cache_limit b.cache (active_block_at a.kept.disk q.at))
+    (λ q z. wider (length paths) cache_limit _ b.cache small.few z) (pairs_at a.kept.pairs p) k) paths (d.recent small ends)))

@@ -9,45 +9,45 @@ use Rattle.std.proofs.lemmas.Bool.{ne_eqb}
 use Rattle.std.proofs.lemmas.Option.{same_Some}
 use Rattle.lfs_model.proofs.Orders.{name_order, same_by}
 use Rattle.lfs_model.specs.declared.order.NameOrder.{NameOrder}
-use Rattle.lfs_model.specs.Names.{Name, name_cmp, same_name, is_equal_ordering, is_less_ordering}
-use Rattle.lfs_model.specs.Slots.{Slot, PairContent, is_superblock, is_superblock_kind}
-use Rattle.lfs_model.specs.Content.{RawSlot, RawPairContent, pair_content_if_slots_complete, slot_if_name_and_struct_present, slots_if_names_and_structs_present, slot_of_id, kind_of_name_type, struct_of_type_and_bytes}
-use Rattle.lfs_model.specs.EntryTypes.{file_name_type, directory_name_type, superblock_name_type}
-use Rattle.lfs_model.specs.Thread.{starts_with_superblock}
-use Rattle.lfs_model.specs.LoggedContent.{IsNameOrStructTheFormatAllows, IsNameOrStructTheFormatAllowsIfSome, IsWellFormedRawSlot, AreWellFormedRawSlots, IsWellFormedRawPairContent}
-use Rattle.lfs_model.specs.Lookup.{name_of_slot_unless_superblock, is_name_at_id_passing_test_unless_skipped, is_name_after, IsLeastIdOfName, IsIdForNewName}
+use Rattle.lfs_model.specs.format.Names.{Name, name_cmp, same_name, is_equal, is_less}
+use Rattle.lfs_model.specs.format.Slots.{Slot, PairContent, is_superblock, names_superblock}
+use Rattle.lfs_model.specs.format.Content.{RawSlot, RawContent, complete_content, complete_slot, complete_slots, slot_of_id, kind_of_type, read_struct}
+use Rattle.lfs_model.specs.format.EntryTypes.{file_name_type, directory_name_type, superblock_name_type}
+use Rattle.lfs_model.specs.format.Thread.{starts_superblock}
+use Rattle.lfs_model.specs.layers.LoggedContent.{IsAllowed, AllowsIfSome, IsSlotWellFormed, AreWellFormed, IsWellFormed}
+use Rattle.lfs_model.specs.layers.Lookup.{entry_name, passes_name_test, comes_after, IsLeastId, IsNewId}
 use Rattle.lfs_model.proofs.Completed.{complete_parts, completed_parts}
 use Rattle.lfs_model.proofs.Paths.{name_from_same, same_itself}
 use Rattle.lfs_model.proofs.FirstEntries.{superblock_type}
-use Rattle.lfs_model.specs.InDirectory.{slots_without_superblock, HasEntryOfNameAtId, HasFirstSlotGreaterName, IsIdWhereNameBelongs}
-use Rattle.lfs_lookup.specs.Search.{IsNameAbsentExceptAtId}
-use Rattle.lfs_tag.specs.ContentView.{name_or_struct_view}
+use Rattle.lfs_model.specs.session.InDirectory.{entry_slots, HasName, FirstIsGreater, BelongsAtId}
+use Rattle.lfs_lookup.specs.NameSearch.{IsAbsentExcept}
+use Rattle.lfs_tag.specs.ContentView.{data_view}
 use Rattle.lfs_tag.specs.declared.content.NameOrStruct.{NameOrStruct}
 
 -- ---- one slot
 
-pub entry_is : (s : RawSlot) (t : Slot) → IsWellFormedRawSlot s → slot_if_name_and_struct_present s ≡ Some t → name_of_slot_unless_superblock s ≡ cond (is_superblock t) None (Some t.name)
+pub entry_is : (s : RawSlot) (t : Slot) → IsSlotWellFormed s → complete_slot s ≡ Some t → entry_name s ≡ cond (is_superblock t) None (Some t.name)
 entry_is s t h e = go s.name s.struct h.name e
   where
-    go : (n p : Option (ℕ × List ℕ)) → IsNameOrStructTheFormatAllowsIfSome 0 n →
-        option_and_then (λ name. option_map (λ struct. record { kind = kind_of_name_type name.0; name = name.1; struct = struct_of_type_and_bytes struct.0 struct.1; attributes = s.attributes }) p) n ≡ Some t →
+    go : (n p : Option (ℕ × List ℕ)) → AllowsIfSome 0 n →
+        option_and_then (λ name. option_map (λ struct. record { kind = kind_of_type name.0; name = name.1; struct = read_struct struct.0 struct.1; attributes = s.attributes }) p) n ≡ Some t →
         option_and_then (λ name. cond (name.0 == superblock_name_type) None (Some name.1)) n ≡ cond (is_superblock t) None (Some t.name)
     go None p k f = absurd (cc)
     go (Some n) None k f = absurd (cc)
     go (Some n) (Some p) k f = by_type (n.0 == file_name_type) (n.0 == directory_name_type) refl refl
-        ∙ ap (λ (x : Slot). cond (is_superblock x) None (Some x.name)) (same_Some (record { kind = kind_of_name_type n.0; name = n.1; struct = struct_of_type_and_bytes p.0 p.1; attributes = s.attributes }) t f)
+        ∙ ap (λ (x : Slot). cond (is_superblock x) None (Some x.name)) (same_Some (record { kind = kind_of_type n.0; name = n.1; struct = read_struct p.0 p.1; attributes = s.attributes }) t f)
       where
         by_type : (a b : Bool) → (n.0 == file_name_type) ≡ a → (n.0 == directory_name_type) ≡ b →
-            cond (n.0 == superblock_name_type) None (Some n.1) ≡ cond (is_superblock_kind (kind_of_name_type n.0)) None (Some n.1)
+            cond (n.0 == superblock_name_type) None (Some n.1) ≡ cond (names_superblock (kind_of_type n.0)) None (Some n.1)
         by_type true b ea eb =
             let is = eqb-true n.0 file_name_type ea in
-            ap (λ x. cond (x == superblock_name_type) None (Some n.1)) is ∙ sym (ap (λ x. cond (is_superblock_kind (kind_of_name_type x)) None (Some n.1)) is)
+            ap (λ x. cond (x == superblock_name_type) None (Some n.1)) is ∙ sym (ap (λ x. cond (names_superblock (kind_of_type x)) None (Some n.1)) is)
         by_type false true ea eb =
             let is = eqb-true n.0 directory_name_type eb in
-            ap (λ x. cond (x == superblock_name_type) None (Some n.1)) is ∙ sym (ap (λ x. cond (is_superblock_kind (kind_of_name_type x)) None (Some n.1)) is)
+            ap (λ x. cond (x == superblock_name_type) None (Some n.1)) is ∙ sym (ap (λ x. cond (names_superblock (kind_of_type x)) None (Some n.1)) is)
         by_type false false ea eb =
             let is = superblock_type n.0 n.1 k ea eb in
-            ap (λ x. cond (x == superblock_name_type) None (Some n.1)) is ∙ sym (ap (λ x. cond (is_superblock_kind (kind_of_name_type x)) None (Some n.1)) is)
+            ap (λ x. cond (x == superblock_name_type) None (Some n.1)) is ∙ sym (ap (λ x. cond (names_superblock (kind_of_type x)) None (Some n.1)) is)
 
 -- ---- a test of the slot at an id
 
@@ -59,8 +59,8 @@ and_true : (b : Bool) → (b && true) ≡ b
 and_true true = refl
 and_true false = refl
 
-named_first : (passes : Name → Bool) (s : RawSlot) (rest : List RawSlot) (t : Slot) → IsWellFormedRawSlot s → slot_if_name_and_struct_present s ≡ Some t → is_name_at_id_passing_test_unless_skipped passes None (s ∷ rest) 0 ≡ passing passes t
-named_first passes s rest t h e = and_true (option_map_or passes (name_of_slot_unless_superblock s) false) ∙ ap (λ o. option_map_or passes o false) (entry_is s t h e) ∙ go (is_superblock t)
+named_first : (passes : Name → Bool) (s : RawSlot) (rest : List RawSlot) (t : Slot) → IsSlotWellFormed s → complete_slot s ≡ Some t → passes_name_test passes None (s ∷ rest) 0 ≡ passing passes t
+named_first passes s rest t h e = and_true (option_map_or passes (entry_name s) false) ∙ ap (λ o. option_map_or passes o false) (entry_is s t h e) ∙ go (is_superblock t)
   where
     go : (b : Bool) → option_map_or passes (cond b None (Some t.name)) false ≡ cond b false (passes t.name)
     go true = refl
@@ -82,7 +82,7 @@ not_passed passes t h e = sym (ap (λ b. cond b false (passes t.name)) e) ∙ h
 
 -- ---- found
 
-pub stands : (name : Name) (raw : List RawSlot) (slots : List Slot) (id : ℕ) → AreWellFormedRawSlots raw → slots_if_names_and_structs_present raw ≡ Some slots → is_name_at_id_passing_test_unless_skipped (same_name name) None raw id ≡ true → HasEntryOfNameAtId slots name id
+pub stands : (name : Name) (raw : List RawSlot) (slots : List Slot) (id : ℕ) → AreWellFormed raw → complete_slots raw ≡ Some slots → passes_name_test (same_name name) None raw id ≡ true → HasName slots name id
 stands name [] slots id h e k = absurd (cc)
 stands name (s ∷ raw) slots zero h e k =
     let p = complete_parts s raw slots e in
@@ -95,47 +95,47 @@ stands name (s ∷ raw) slots (suc id) h e k =
 
 -- ---- a place
 
-is_greater : (o : Ordering) → is_equal_ordering o ≡ false → is_less_ordering o ≡ false → o ≡ Greater
+is_greater : (o : Ordering) → is_equal o ≡ false → is_less o ≡ false → o ≡ Greater
 is_greater Less e f = absurd (cc)
 is_greater Equal e f = absurd (cc)
 is_greater Greater e f = refl
 
-is_below : (o : Ordering) → is_less_ordering o ≡ true → o ≡ Less
+is_below : (o : Ordering) → is_less o ≡ true → o ≡ Less
 is_below Less e = refl
 is_below Equal e = absurd (cc)
 is_below Greater e = absurd (cc)
 
-less_first : (by : NameOrder) (name : Name) (t : Slot) (slots : List Slot) → passing (same_name name) t ≡ false → passing (is_name_after by name) t ≡ false
-    → AllByRecursion (λ s. name_cmp by s.name name ≡ Less) (slots_without_superblock slots) → AllByRecursion (λ s. name_cmp by s.name name ≡ Less) (slots_without_superblock (t ∷ slots))
+less_first : (by : NameOrder) (name : Name) (t : Slot) (slots : List Slot) → passing (same_name name) t ≡ false → passing (comes_after by name) t ≡ false
+    → AllByRecursion (λ s. name_cmp by s.name name ≡ Less) (entry_slots slots) → AllByRecursion (λ s. name_cmp by s.name name ≡ Less) (entry_slots (t ∷ slots))
 less_first by name t slots same behind rest = go (is_superblock t) refl
   where
-    go : (b : Bool) → is_superblock t ≡ b → AllByRecursion (λ s. name_cmp by s.name name ≡ Less) (cond (not b) (t ∷ slots_without_superblock slots) (slots_without_superblock slots))
+    go : (b : Bool) → is_superblock t ≡ b → AllByRecursion (λ s. name_cmp by s.name name ≡ Less) (cond (not b) (t ∷ entry_slots slots) (entry_slots slots))
     go true e = rest
     go false e =
-        let g = is_greater (name_cmp by name t.name) (same_by by name t.name ∙ not_passed (same_name name) t same e) (not_passed (is_name_after by name) t behind e) in
+        let g = is_greater (name_cmp by name t.name) (same_by by name t.name ∙ not_passed (same_name name) t same e) (not_passed (comes_after by name) t behind e) in
         ((name_order by).antisymm t.name name ∙ ap ordering_reverse g, rest)
 
-pub belongs : {by : NameOrder} (name : Name) (raw : List RawSlot) (slots : List Slot) (id : ℕ) → AreWellFormedRawSlots raw → slots_if_names_and_structs_present raw ≡ Some slots → IsIdForNewName by name None raw id → IsIdWhereNameBelongs by slots name id
+pub belongs : {by : NameOrder} (name : Name) (raw : List RawSlot) (slots : List Slot) (id : ℕ) → AreWellFormed raw → complete_slots raw ≡ Some slots → IsNewId by name None raw id → BelongsAtId by slots name id
 belongs {by} name raw slots zero h e p = record { left = []; right = slots; held = refl; number = refl; less = tt; greater = go raw slots h e p.greater; fronted = plain raw slots h e p.greater }
   where
-    go : (raw : List RawSlot) (slots : List Slot) → AreWellFormedRawSlots raw → slots_if_names_and_structs_present raw ≡ Some slots → (0 < length raw → is_name_at_id_passing_test_unless_skipped (is_name_after by name) None raw 0 ≡ true) → (slots ≡ []) ⊎ HasFirstSlotGreaterName by name (slots_without_superblock slots)
+    go : (raw : List RawSlot) (slots : List Slot) → AreWellFormed raw → complete_slots raw ≡ Some slots → (0 < length raw → passes_name_test (comes_after by name) None raw 0 ≡ true) → (slots ≡ []) ⊎ FirstIsGreater by name (entry_slots slots)
     go [] slots h e k = inl (sym (same_Some [] slots e))
     go (s ∷ raw) slots h e k =
         let p = complete_parts s raw slots e in
-        let ok = passed (is_name_after by name) p.first (sym (named_first (is_name_after by name) s raw p.first h.0 p.is_first) ∙ k (omega arith)) in
+        let ok = passed (comes_after by name) p.first (sym (named_first (comes_after by name) s raw p.first h.0 p.is_first) ∙ k (omega arith)) in
         inr (record {
           first = p.first;
-          rest = slots_without_superblock p.others;
-          are = ap slots_without_superblock p.all_are ∙ ap (λ b. cond (not b) (p.first ∷ slots_without_superblock p.others) (slots_without_superblock p.others)) ok.entry;
+          rest = entry_slots p.others;
+          are = ap entry_slots p.all_are ∙ ap (λ b. cond (not b) (p.first ∷ entry_slots p.others) (entry_slots p.others)) ok.entry;
           above = is_below (name_cmp by name p.first.name) ok.named;
         })
 
-    plain : (raw : List RawSlot) (slots : List Slot) → AreWellFormedRawSlots raw → slots_if_names_and_structs_present raw ≡ Some slots → (0 < length raw → is_name_at_id_passing_test_unless_skipped (is_name_after by name) None raw 0 ≡ true) → starts_with_superblock slots ≡ false
-    plain [] slots h e k = ap starts_with_superblock (sym (same_Some [] slots e))
+    plain : (raw : List RawSlot) (slots : List Slot) → AreWellFormed raw → complete_slots raw ≡ Some slots → (0 < length raw → passes_name_test (comes_after by name) None raw 0 ≡ true) → starts_superblock slots ≡ false
+    plain [] slots h e k = ap starts_superblock (sym (same_Some [] slots e))
     plain (s ∷ raw) slots h e k =
         let p = complete_parts s raw slots e in
-        let ok = passed (is_name_after by name) p.first (sym (named_first (is_name_after by name) s raw p.first h.0 p.is_first) ∙ k (omega arith)) in
-        ap starts_with_superblock p.all_are ∙ ok.entry
+        let ok = passed (comes_after by name) p.first (sym (named_first (comes_after by name) s raw p.first h.0 p.is_first) ∙ k (omega arith)) in
+        ap starts_superblock p.all_are ∙ ok.entry
 belongs {by} name [] slots (suc id) h e p = absurd (let w = p.within in omega arith)
 belongs {by} name (s ∷ raw) slots (suc id) h e p =
     let c = complete_parts s raw slots e in
@@ -150,7 +150,7 @@ belongs {by} name (s ∷ raw) slots (suc id) h e p =
       right = r.right;
       held = c.all_are ∙ ap (λ z. c.first ∷ z) r.held;
       number = ap suc r.number;
-      less = less_first by name c.first r.left (sym (named_first (same_name name) s raw c.first h.0 c.is_first) ∙ p.absent 0) (sym (named_first (is_name_after by name) s raw c.first h.0 c.is_first) ∙ p.least 0 (omega arith)) r.less;
+      less = less_first by name c.first r.left (sym (named_first (same_name name) s raw c.first h.0 c.is_first) ∙ p.absent 0) (sym (named_first (comes_after by name) s raw c.first h.0 c.is_first) ∙ p.least 0 (omega arith)) r.less;
       greater = r.greater;
       fronted = r.fronted;
     }
@@ -161,24 +161,24 @@ belongs {by} name (s ∷ raw) slots (suc id) h e p =
 pub record IsReadAt (raw : List RawSlot) (id : ℕ) (t : Slot) : Type 0 where
   pub part : ℕ × List ℕ
   pub is : (slot_of_id raw id).struct ≡ Some part
-  pub is_part : IsNameOrStructTheFormatAllows 2 part
-  pub struct : t.struct ≡ struct_of_type_and_bytes part.0 part.1
+  pub is_part : IsAllowed 2 part
+  pub struct : t.struct ≡ read_struct part.0 part.1
 
-read_first : (s : RawSlot) (raw : List RawSlot) (t : Slot) → IsWellFormedRawSlot s → slot_if_name_and_struct_present s ≡ Some t → IsReadAt (s ∷ raw) 0 t
+read_first : (s : RawSlot) (raw : List RawSlot) (t : Slot) → IsSlotWellFormed s → complete_slot s ≡ Some t → IsReadAt (s ∷ raw) 0 t
 read_first s raw t h e = go s.name s.struct refl h.struct e
   where
-    go : (n p : Option (ℕ × List ℕ)) → s.struct ≡ p → IsNameOrStructTheFormatAllowsIfSome 2 p
-        → option_and_then (λ name. option_map (λ struct. record { kind = kind_of_name_type name.0; name = name.1; struct = struct_of_type_and_bytes struct.0 struct.1; attributes = s.attributes }) p) n ≡ Some t → IsReadAt (s ∷ raw) 0 t
+    go : (n p : Option (ℕ × List ℕ)) → s.struct ≡ p → AllowsIfSome 2 p
+        → option_and_then (λ name. option_map (λ struct. record { kind = kind_of_type name.0; name = name.1; struct = read_struct struct.0 struct.1; attributes = s.attributes }) p) n ≡ Some t → IsReadAt (s ∷ raw) 0 t
     go None p is k f = absurd (cc)
     go (Some n) None is k f = absurd (cc)
     go (Some n) (Some p) is k f = record {
       part = p;
       is = is;
       is_part = k;
-      struct = ap (λ (x : Slot). x.struct) (sym (same_Some (record { kind = kind_of_name_type n.0; name = n.1; struct = struct_of_type_and_bytes p.0 p.1; attributes = s.attributes }) t f));
+      struct = ap (λ (x : Slot). x.struct) (sym (same_Some (record { kind = kind_of_type n.0; name = n.1; struct = read_struct p.0 p.1; attributes = s.attributes }) t f));
     }
 
-pub read_at : (raw : List RawSlot) (slots left : List Slot) (t : Slot) (right : List Slot) → AreWellFormedRawSlots raw → slots_if_names_and_structs_present raw ≡ Some slots → slots ≡ left ++ t ∷ right → IsReadAt raw (length left) t
+pub read_at : (raw : List RawSlot) (slots left : List Slot) (t : Slot) (right : List Slot) → AreWellFormed raw → complete_slots raw ≡ Some slots → slots ≡ left ++ t ∷ right → IsReadAt raw (length left) t
 read_at [] slots left t right h e is = absurd (let k = ap length (same_Some [] slots e ∙ is) in let l = length-append left (t ∷ right) in omega (arith, k, l))
 read_at (s ∷ raw) slots [] t right h e is =
     let p = complete_parts s raw slots e in
@@ -193,7 +193,7 @@ read_at (s ∷ raw) slots (x ∷ left) t right h e is =
 -- ---- the answer of a search
 
 -- the name by which a slot can be looked up
-name_at_id : (raw : List RawSlot) (slots : List Slot) (id : ℕ) (t : Slot) → AreWellFormedRawSlots raw → slots_if_names_and_structs_present raw ≡ Some slots → slice_get slots id ≡ Some t → name_of_slot_unless_superblock (slot_of_id raw id) ≡ cond (is_superblock t) None (Some t.name)
+name_at_id : (raw : List RawSlot) (slots : List Slot) (id : ℕ) (t : Slot) → AreWellFormed raw → complete_slots raw ≡ Some slots → slice_get slots id ≡ Some t → entry_name (slot_of_id raw id) ≡ cond (is_superblock t) None (Some t.name)
 name_at_id [] slots id t h e is = absurd (let k : slots ≡ [] = sym (same_Some [] slots e) in let m = ap (λ z. slice_get z id) k in cc)
 name_at_id (s ∷ raw) slots zero t h e is =
     let p = complete_parts s raw slots e in
@@ -227,37 +227,37 @@ skip_false : (skip : Option ℕ) (id : ℕ) → (skip ≡ Some id → ⊥) → o
 skip_false None id h = refl
 skip_false (Some k) id h = ne_eqb k id (λ e. h (ap Some e))
 
-module _ (by : NameOrder) (content : PairContent) (name : Name) (skip : Option ℕ) (raw : RawPairContent) (logged : IsWellFormedRawPairContent raw) (slot_if_name_and_struct_present : pair_content_if_slots_complete raw ≡ Some content) where
-  pub stands_in : (id : ℕ) → IsLeastIdOfName name skip raw.slots id → HasEntryOfNameAtId content.slots name id
+module _ (by : NameOrder) (content : PairContent) (name : Name) (skip : Option ℕ) (raw : RawContent) (logged : IsWellFormed raw) (complete_slot : complete_content raw ≡ Some content) where
+  pub stands_in : (id : ℕ) → IsLeastId name skip raw.slots id → HasName content.slots name id
   stands_in id found =
-      let k = kept_from (option_map_or (same_name name) (name_of_slot_unless_superblock (slot_of_id raw.slots id)) false) (option_map_or (λ k. k == id) skip false) found.named in
-      stands name raw.slots content.slots id logged.slots (completed_parts raw content slot_if_name_and_struct_present).slots (and_true (option_map_or (same_name name) (name_of_slot_unless_superblock (slot_of_id raw.slots id)) false) ∙ k.named)
+      let k = kept_from (option_map_or (same_name name) (entry_name (slot_of_id raw.slots id)) false) (option_map_or (λ k. k == id) skip false) found.named in
+      stands name raw.slots content.slots id logged.slots (completed_parts raw content complete_slot).slots (and_true (option_map_or (same_name name) (entry_name (slot_of_id raw.slots id)) false) ∙ k.named)
 
-  pub kept_in : (id : ℕ) → IsLeastIdOfName name skip raw.slots id → skip ≡ Some id → ⊥
+  pub kept_in : (id : ℕ) → IsLeastId name skip raw.slots id → skip ≡ Some id → ⊥
   kept_in id found is =
-      let k = kept_from (option_map_or (same_name name) (name_of_slot_unless_superblock (slot_of_id raw.slots id)) false) (option_map_or (λ k. k == id) skip false) found.named in
+      let k = kept_from (option_map_or (same_name name) (entry_name (slot_of_id raw.slots id)) false) (option_map_or (λ k. k == id) skip false) found.named in
       not_skipped skip id k.kept is
 
-  pub belongs_in : (id : ℕ) → IsIdForNewName by name skip raw.slots id → skip ≡ None → IsIdWhereNameBelongs by content.slots name id
-  belongs_in id place none = belongs name raw.slots content.slots id logged.slots (completed_parts raw content slot_if_name_and_struct_present).slots (subst (λ o. IsIdForNewName by name o raw.slots id) none place)
+  pub belongs_in : (id : ℕ) → IsNewId by name skip raw.slots id → skip ≡ None → BelongsAtId by content.slots name id
+  belongs_in id place none = belongs name raw.slots content.slots id logged.slots (completed_parts raw content complete_slot).slots (subst (λ o. IsNewId by name o raw.slots id) none place)
 
-  pub absent_in : (id : ℕ) → IsIdForNewName by name skip raw.slots id → IsNameAbsentExceptAtId skip content.slots name
+  pub absent_in : (id : ℕ) → IsNewId by name skip raw.slots id → IsAbsentExcept skip content.slots name
   absent_in id place other s at entry not_passed same =
-      let n = name_at_id raw.slots content.slots other s logged.slots (completed_parts raw content slot_if_name_and_struct_present).slots at in
+      let n = name_at_id raw.slots content.slots other s logged.slots (completed_parts raw content complete_slot).slots at in
       let m = ap (λ b. option_map_or (same_name name) (cond b None (Some s.name)) false) entry in
       let w = ap (same_name name) same ∙ same_itself name in
       let f = skip_false skip other not_passed in
       absurd (let k = sym (ap₂ (λ o b. option_map_or (same_name name) o false && not b) n f) ∙ place.absent other in
       let j = sym (ap (λ x. x && true) (m ∙ w)) ∙ k in cc)
 
-  pub read_there : (id : ℕ) (s : HasEntryOfNameAtId content.slots name id) → IsReadAt raw.slots id s.slot
-  read_there id s = subst (λ (i : ℕ). IsReadAt raw.slots i s.slot) s.number (read_at raw.slots content.slots s.left s.slot s.right logged.slots (completed_parts raw content slot_if_name_and_struct_present).slots s.held)
+  pub read_there : (id : ℕ) (s : HasName content.slots name id) → IsReadAt raw.slots id s.slot
+  read_there id s = subst (λ (i : ℕ). IsReadAt raw.slots i s.slot) s.number (read_at raw.slots content.slots s.left s.slot s.right logged.slots (completed_parts raw content complete_slot).slots s.held)
 
 -- ---- a part that is read
 
-pub some_part : (o : Option NameOrStruct) (held : Option (ℕ × List ℕ)) (part : ℕ × List ℕ) → option_map name_or_struct_view o ≡ held → held ≡ Some part → IsSome o
+pub some_part : (o : Option NameOrStruct) (held : Option (ℕ × List ℕ)) (part : ℕ × List ℕ) → option_map data_view o ≡ held → held ≡ Some part → IsSome o
 some_part None held part e f = absurd (let k = e ∙ f in cc)
 some_part (Some p) held part e f = search rules
 
-pub part_is : (o : Option NameOrStruct) (p : NameOrStruct) (held : Option (ℕ × List ℕ)) (part : ℕ × List ℕ) → o ≡ Some p → option_map name_or_struct_view o ≡ held → held ≡ Some part → name_or_struct_view p ≡ part
-part_is o p held part is e f = same_Some (name_or_struct_view p) part (sym (ap (option_map name_or_struct_view) is) ∙ e ∙ f)
+pub part_is : (o : Option NameOrStruct) (p : NameOrStruct) (held : Option (ℕ × List ℕ)) (part : ℕ × List ℕ) → o ≡ Some p → option_map data_view o ≡ held → held ≡ Some part → data_view p ≡ part
+part_is o p held part is e f = same_Some (data_view p) part (sym (ap (option_map data_view) is) ∙ e ∙ f)

@@ -4,46 +4,46 @@ use Rattle.std.specs.Prelude.{IfNone, IsSome}
 use Rattle.std.specs.List.{AllByRecursion, IsDistinct}
 use Rattle.std.proofs.lemmas.List.{take_more}
 use Rattle.std.proofs.lemmas.Option.{same_Some, slice_get-map}
-use Rattle.lfs_model.specs.InDirectory.{IsPairAtAddress}
-use Rattle.lfs_model.specs.Slots.{same_pair}
-use Rattle.lfs_model.specs.Thread.{Pair, blocks_of_pairs}
-use Rattle.lfs_model.proofs.Counts.{occurrence_count_of_number, distinct_from_once, once_from_distinct}
-use Rattle.lfs_thread.specs.Places.{IsSamePairAddressAtIndex, blocks_of_pair_addresses}
-use Rattle.lfs_lookup.specs.Walk.{addresses_of_thread_pairs}
+use Rattle.lfs_model.specs.session.InDirectory.{IsPairAt}
+use Rattle.lfs_model.specs.format.Slots.{same_pair}
+use Rattle.lfs_model.specs.format.Thread.{Pair, blocks_of_pairs}
+use Rattle.lfs_model.proofs.Counts.{number_count, distinct_from_once, once_from_distinct}
+use Rattle.lfs_thread.specs.PairPlaces.{SameAddressAt, blocks_of_addresses}
+use Rattle.lfs_lookup.specs.TreeWalk.{pairs_addresses}
 
 -- ---- no two pairs have a block in common
 
-addresses_append : (xs ys : List Pair) → addresses_of_thread_pairs (xs ++ ys) ≡ addresses_of_thread_pairs xs ++ addresses_of_thread_pairs ys
+addresses_append : (xs ys : List Pair) → pairs_addresses (xs ++ ys) ≡ pairs_addresses xs ++ pairs_addresses ys
 addresses_append [] ys = refl
 addresses_append (x ∷ xs) ys = ap (λ zs. x.at ∷ zs) (addresses_append xs ys)
 
-pub next_added : (ps : List Pair) (index : ℕ) (d : Pair) → index < length ps → addresses_of_thread_pairs (take index ps) ++ (get_or ps index d).at ∷ [] ≡ addresses_of_thread_pairs (take (index + 1) ps)
-next_added ps index d below = sym (ap addresses_of_thread_pairs (take_more ps index d below) ∙ addresses_append (take index ps) (get_or ps index d ∷ []))
+pub next_added : (ps : List Pair) (index : ℕ) (d : Pair) → index < length ps → pairs_addresses (take index ps) ++ (get_or ps index d).at ∷ [] ≡ pairs_addresses (take (index + 1) ps)
+next_added ps index d below = sym (ap pairs_addresses (take_more ps index d below) ∙ addresses_append (take index ps) (get_or ps index d ∷ []))
 
-first_count : (b n : ℕ) (ps : List Pair) → occurrence_count_of_number b (blocks_of_pair_addresses (addresses_of_thread_pairs (take n ps))) ≤ occurrence_count_of_number b (blocks_of_pairs ps)
+first_count : (b n : ℕ) (ps : List Pair) → number_count b (blocks_of_addresses (pairs_addresses (take n ps))) ≤ number_count b (blocks_of_pairs ps)
 first_count b zero ps = omega arith
 first_count b (suc n) [] = omega arith
 first_count b (suc n) (p ∷ ps) = let rest = first_count b n ps in omega arith
 
-pub next_apart : (ps : List Pair) (index : ℕ) (d : Pair) → index < length ps → IsDistinct nat_eq (blocks_of_pairs ps) → IsDistinct nat_eq (blocks_of_pair_addresses (addresses_of_thread_pairs (take index ps) ++ (get_or ps index d).at ∷ []))
+pub next_apart : (ps : List Pair) (index : ℕ) (d : Pair) → index < length ps → IsDistinct nat_eq (blocks_of_pairs ps) → IsDistinct nat_eq (blocks_of_addresses (pairs_addresses (take index ps) ++ (get_or ps index d).at ∷ []))
 next_apart ps index d below distinct =
-    subst (λ xs. IsDistinct nat_eq (blocks_of_pair_addresses xs)) (sym (next_added ps index d below))
-    (distinct_from_once (blocks_of_pair_addresses (addresses_of_thread_pairs (take (index + 1) ps))) (λ b. let o = once_from_distinct (blocks_of_pairs ps) distinct b in let n = first_count b (index + 1) ps in omega arith))
+    subst (λ xs. IsDistinct nat_eq (blocks_of_addresses xs)) (sym (next_added ps index d below))
+    (distinct_from_once (blocks_of_addresses (pairs_addresses (take (index + 1) ps))) (λ b. let o = once_from_distinct (blocks_of_pairs ps) distinct b in let n = first_count b (index + 1) ps in omega arith))
 
 -- ---- the place of an address is the number of its pair
 
-begins_from : (ps : List Pair) (at a : ℕ × ℕ) (i : ℕ) (o : Option Pair) → slice_get ps i ≡ o → option_map (λ (p : Pair). p.at) o ≡ Some a → same_pair a at ≡ true → IsPairAtAddress ps at i
+begins_from : (ps : List Pair) (at a : ℕ × ℕ) (i : ℕ) (o : Option Pair) → slice_get ps i ≡ o → option_map (λ (p : Pair). p.at) o ≡ Some a → same_pair a at ≡ true → IsPairAt ps at i
 begins_from ps at a i None is f same = absurd (cc)
 begins_from ps at a i (Some p) is f same = record { pair = p; there = is; same = subst (λ x. same_pair x at ≡ true) (sym (same_Some p.at a f)) same }
 
-pub place_begins : (ps : List Pair) (at : ℕ × ℕ) (i : ℕ) → IsSamePairAddressAtIndex (addresses_of_thread_pairs ps) at i → IsPairAtAddress ps at i
+pub place_begins : (ps : List Pair) (at : ℕ × ℕ) (i : ℕ) → SameAddressAt (pairs_addresses ps) at i → IsPairAt ps at i
 place_begins ps at i s = begins_from ps at s.address i (slice_get ps i) refl (sym (slice_get-map (λ (p : Pair). p.at) ps i) ∙ s.there) s.same
 
-none_begins : (ps : List Pair) (at : ℕ × ℕ) (i : ℕ) (p : Pair) → AllByRecursion (λ a. same_pair a at ≡ false) (addresses_of_thread_pairs ps) → slice_get ps i ≡ Some p → same_pair p.at at ≡ true → ⊥
+none_begins : (ps : List Pair) (at : ℕ × ℕ) (i : ℕ) (p : Pair) → AllByRecursion (λ a. same_pair a at ≡ false) (pairs_addresses ps) → slice_get ps i ≡ Some p → same_pair p.at at ≡ true → ⊥
 none_begins [] at i p none there same = absurd (cc)
 none_begins (q ∷ ps) at zero p none there same = true≢false (sym same ∙ ap (λ (x : Pair). same_pair x.at at) (sym (same_Some q p there)) ∙ none.0)
 none_begins (q ∷ ps) at (suc i) p none there same = none_begins ps at i p none.1 there same
 
-pub place_there : (ps : List Pair) (at : ℕ × ℕ) (i : ℕ) (place : Option ℕ) → IsPairAtAddress ps at i → IfNone place (AllByRecursion (λ a. same_pair a at ≡ false) (addresses_of_thread_pairs ps)) → IsSome place
+pub place_there : (ps : List Pair) (at : ℕ × ℕ) (i : ℕ) (place : Option ℕ) → IsPairAt ps at i → IfNone place (AllByRecursion (λ a. same_pair a at ≡ false) (pairs_addresses ps)) → IsSome place
 place_there ps at i None b nowhere = absurd (none_begins ps at i b.pair nowhere b.there b.same)
 place_there ps at i (Some k) b nowhere = refl

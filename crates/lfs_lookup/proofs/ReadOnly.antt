@@ -3,16 +3,16 @@ use Rattle.std.proofs.Common.{[], refl, ◌≡◌, ◌⊎◌, Result, Err, sym, 
 use Rattle.std.specs.Prelude.{IfErr}
 use Rattle.lfs_device.specs.declared.error.Error.{Error}
 use Rattle.lfs_device.specs.declared.error.Error.TheVariants.{Io, NoMemory}
-use Rattle.lfs_model.specs.Disk.{Disk}
-use Rattle.lfs_model.specs.History.{fault_count_of_history}
-use Rattle.lfs_model.proofs.Histories.{AreCallsSinceOnlyReads-trans}
+use Rattle.lfs_model.specs.format.Disk.{Disk}
+use Rattle.lfs_model.specs.session.History.{fault_count}
+use Rattle.lfs_model.proofs.Histories.{OnlyReadsSince-trans}
 use Rattle.lfs_thread.specs.Kept.{KeptThread}
-use Rattle.lfs_thread.specs.Steps.{IoMeantFaultNoMemoryWroteNothing, IsThreadOnlyRead}
+use Rattle.lfs_thread.specs.ThreadSteps.{IoMeantFaultNoMemoryWroteNothing, OnlyReadsThread}
 
-pub only_read : (a b c : KeptThread) → IsThreadOnlyRead a b → IsThreadOnlyRead b c → IsThreadOnlyRead a c
+pub only_read : (a b c : KeptThread) → OnlyReadsThread a b → OnlyReadsThread b c → OnlyReadsThread a c
 only_read a b c r s = record {
   disk = s.disk ∙ r.disk;
-  reads = AreCallsSinceOnlyReads-trans r.reads s.reads (ap (λ (d : Disk). d.blocks) r.disk);
+  reads = OnlyReadsSince-trans r.reads s.reads (ap (λ (d : Disk). d.blocks) r.disk);
   pairs = s.pairs ∙ r.pairs;
   map = s.map ∙ r.map;
 }
@@ -21,7 +21,7 @@ same_error : (X : Type 0) (e f : Error) → (let r : Result X Error = Err e in r
 same_error X e f h = cc
 
 -- the error of the last of them is passed on
-pub reported_on : {X Y : Type 0} (a b c : KeptThread) (first : Result X Error) (second : Result Y Error) (e f : Error) → IsThreadOnlyRead a c → fault_count_of_history b.history ≡ fault_count_of_history a.history → IoMeantFaultNoMemoryWroteNothing b c first
+pub reported_on : {X Y : Type 0} (a b c : KeptThread) (first : Result X Error) (second : Result Y Error) (e f : Error) → OnlyReadsThread a c → fault_count b.history ≡ fault_count a.history → IoMeantFaultNoMemoryWroteNothing b c first
     → first ≡ Err e → second ≡ Err f → f ≡ e → IoMeantFaultNoMemoryWroteNothing a c second
 reported_on {X = X} {Y = Y} a b c first second e f r same t is now passed = record {
   errors = subst (λ (r : Result Y Error). IfErr r (λ e. (e ≡ Io) ⊎ (e ≡ NoMemory))) (sym (now ∙ ap Err passed)) (subst (λ (r : Result X Error). IfErr r (λ e. (e ≡ Io) ⊎ (e ≡ NoMemory))) is t.errors);
@@ -31,7 +31,7 @@ reported_on {X = X} {Y = Y} a b c first second e f r same t is now passed = reco
 }
 
 -- the last of them tells the same of all
-pub reported_behind : {X : Type 0} (a b c : KeptThread) (result : Result X Error) → IsThreadOnlyRead a b → fault_count_of_history b.history ≡ fault_count_of_history a.history → IsThreadOnlyRead b c → IoMeantFaultNoMemoryWroteNothing b c result → IoMeantFaultNoMemoryWroteNothing a c result
+pub reported_behind : {X : Type 0} (a b c : KeptThread) (result : Result X Error) → OnlyReadsThread a b → fault_count b.history ≡ fault_count a.history → OnlyReadsThread b c → IoMeantFaultNoMemoryWroteNothing b c result → IoMeantFaultNoMemoryWroteNothing a c result
 reported_behind a b c result r same s t = record {
   errors = t.errors;
   fault = λ gives. let k = t.fault gives in omega (arith, k, same);
@@ -40,5 +40,5 @@ reported_behind a b c result r same s t = record {
 }
 
 -- no call at all
-pub only_itself : (a : KeptThread) → IsThreadOnlyRead a a
+pub only_itself : (a : KeptThread) → OnlyReadsThread a a
 only_itself a = record { disk = refl; reads = record { events = []; extends = refl; each = tt }; pairs = refl; map = refl }

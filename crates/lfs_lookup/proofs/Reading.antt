@@ -3,17 +3,17 @@ use Rattle.std.proofs.Common.{◌≡◌, ◌⊎◌, inr, false, Result, Ok, Err,
 use Rattle.std.specs.Prelude.{IfErr}
 use Rattle.lfs_device.specs.declared.error.Error.{Error}
 use Rattle.lfs_device.specs.declared.error.Error.TheVariants.{Io, NoMemory}
-use Rattle.lfs_model.specs.History.{fault_count_of_history}
+use Rattle.lfs_model.specs.session.History.{fault_count}
 use Rattle.lfs_thread.specs.Kept.{ThreadView}
-use Rattle.lfs_thread.specs.Steps.{IsThreadOnlyRead}
-use Rattle.lfs_lookup.specs.Reading.{OnlyReadsThreadAndReportsErrors}
+use Rattle.lfs_thread.specs.ThreadSteps.{OnlyReadsThread}
+use Rattle.lfs_lookup.specs.LookupReading.{OnlyReadsThreadAndReportsErrors}
 use Rattle.lfs_lookup.proofs.ReadOnly.{only_itself, only_read}
 
 -- calls that answered
 pub record HasRead (old new : ThreadView) : Type 0 where
-  pub only : IsThreadOnlyRead old.kept new.kept
+  pub only : OnlyReadsThread old.kept new.kept
   pub works : new.failed ≡ false
-  pub same : fault_count_of_history new.kept.history ≡ fault_count_of_history old.kept.history
+  pub same : fault_count new.kept.history ≡ fault_count old.kept.history
 
 pub answered : {X : Type 0} (a b : ThreadView) (r : Result X Error) (x : X) → r ≡ Ok x → OnlyReadsThreadAndReportsErrors a b r → HasRead a b
 answered a b r x e h = record { only = h.only; works = h.works; same = h.reported.no_fault (λ k. let z = sym e ∙ k in absurd (cc)) }

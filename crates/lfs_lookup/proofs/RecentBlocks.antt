@@ -4,21 +4,21 @@ use Rattle.std.specs.Prelude.{IsSome, OnOk}
 use Rattle.std.specs.List.{AllByRecursion}
 use Rattle.std.proofs.lemmas.List.{take-take}
 use Rattle.lfs_device.specs.declared.error.Error.{Error}
-use Rattle.lfs_model.specs.Cache.{CachedBlocks, cached_block_limit, cached_bytes_of_block, cache_with_block_first, cache_without_block}
-use Rattle.lfs_model.specs.Disk.{block_bytes_on_disk}
-use Rattle.lfs_model.specs.History.{read_count_of_history}
-use Rattle.lfs_model.specs.Thread.{Pair}
+use Rattle.lfs_model.specs.layers.Cache.{CachedBlocks, cache_limit, cached_bytes, cache_with_block, cache_without_block}
+use Rattle.lfs_model.specs.format.Disk.{disk_block}
+use Rattle.lfs_model.specs.session.History.{read_count}
+use Rattle.lfs_model.specs.format.Thread.{Pair}
 use Rattle.lfs_pair.specs.Pair.{active_block_at}
 use Rattle.lfs_thread.specs.Kept.{KeptThread, ThreadView}
-use Rattle.lfs_thread.specs.CachedLog.{cached_log, cache_after_load as loaded_in}
-use Rattle.lfs_thread.specs.Steps.{thread_pair_at_index}
-use Rattle.lfs_lookup.specs.CachedPairs.{AreLogBlocksOfPairsCached, ReadsNothingAndKeepsPairsWhereAllCached, IsBlockMovedToCacheFront, IsAmongLastUsedBlocks, CachedBlocksStayCached}
+use Rattle.lfs_thread.specs.CachedLog.{cached_log, loaded_cache as loaded_in}
+use Rattle.lfs_thread.specs.ThreadSteps.{thread_pair_at}
+use Rattle.lfs_lookup.specs.CachedPairs.{ArePairsCached, ReadsNothingAndKeepsPairsWhereAllCached, IsMovedToFront, IsLastUsed, StayCached}
 
 same : (b : ℕ) → nat_eq b b ≡ true
 same b = search arith
 
 -- no block is one of none
-in_none : (b : ℕ) → IsAmongLastUsedBlocks 0 [] b → ⊥
+in_none : (b : ℕ) → IsLastUsed 0 [] b → ⊥
 in_none b h = absurd (cc)
 
 here : (t : Bool) (bytes : List ℕ) (o : Option (List ℕ)) → t ≡ true → IsSome (cond t (Some bytes) o)
@@ -32,23 +32,23 @@ elsewhere : (t : Bool) (bytes : List ℕ) (o : Option (List ℕ)) → t ≡ fals
 elsewhere t bytes o e h = subst (λ z. IsSome (cond z (Some bytes) o)) e h
 
 -- one of so many is one of more
-pub wider : (m n c : ℕ) (cache : CachedBlocks) → m ≤ n → IsAmongLastUsedBlocks m cache c → IsAmongLastUsedBlocks n cache c
+pub wider : (m n c : ℕ) (cache : CachedBlocks) → m ≤ n → IsLastUsed m cache c → IsLastUsed n cache c
 wider zero n c cache l h = absurd (in_none c h)
 wider (suc m) zero c cache l h = absurd (omega arith)
 wider (suc m) (suc n) c [] l h = absurd (in_none c h)
 wider (suc m) (suc n) c (e ∷ es) l h = go (nat_eq c e.0) (wider m n c es (omega arith)) h
   where
-    go : (t : Bool) → (IsAmongLastUsedBlocks m es c → IsAmongLastUsedBlocks n es c) → IsSome (cond t (Some e.1) (cached_bytes_of_block (take m es) c)) → IsSome (cond t (Some e.1) (cached_bytes_of_block (take n es) c))
+    go : (t : Bool) → (IsLastUsed m es c → IsLastUsed n es c) → IsSome (cond t (Some e.1) (cached_bytes (take m es) c)) → IsSome (cond t (Some e.1) (cached_bytes (take n es) c))
     go true next k = refl
     go false next k = next k
 
 -- and is cached
-pub is_cached : (n c : ℕ) (cache : CachedBlocks) → IsAmongLastUsedBlocks n cache c → IsSome (cached_bytes_of_block cache c)
+pub is_cached : (n c : ℕ) (cache : CachedBlocks) → IsLastUsed n cache c → IsSome (cached_bytes cache c)
 is_cached zero c cache h = absurd (in_none c h)
 is_cached (suc n) c [] h = absurd (in_none c h)
 is_cached (suc n) c (e ∷ es) h = go (nat_eq c e.0) (is_cached n c es) h
   where
-    go : (t : Bool) → (IsAmongLastUsedBlocks n es c → IsSome (cached_bytes_of_block es c)) → IsSome (cond t (Some e.1) (cached_bytes_of_block (take n es) c)) → IsSome (cond t (Some e.1) (cached_bytes_of_block es c))
+    go : (t : Bool) → (IsLastUsed n es c → IsSome (cached_bytes es c)) → IsSome (cond t (Some e.1) (cached_bytes (take n es) c)) → IsSome (cond t (Some e.1) (cached_bytes es c))
     go true next k = refl
     go false next k = next k
 
@@ -57,53 +57,53 @@ module _ (b c : ℕ) (other : nat_eq c b ≡ false) where
   not_here k is = ap (λ z. nat_eq c z) (sym (eqb-true b k is)) ∙ other
 
   -- another block goes
-  past : (n : ℕ) (cache : CachedBlocks) → IsAmongLastUsedBlocks n cache c → IsAmongLastUsedBlocks n (cache_without_block cache b) c
+  past : (n : ℕ) (cache : CachedBlocks) → IsLastUsed n cache c → IsLastUsed n (cache_without_block cache b) c
   past zero cache h = absurd (in_none c h)
   past (suc n) [] h = absurd (in_none c h)
   past (suc n) (e ∷ es) h = go (nat_eq b e.0) refl (past n es)
     where
-      behind : (t : Bool) → (IsAmongLastUsedBlocks n es c → IsAmongLastUsedBlocks n (cache_without_block es b) c) → IsSome (cond t (Some e.1) (cached_bytes_of_block (take n es) c)) → IsSome (cond t (Some e.1) (cached_bytes_of_block (take n (cache_without_block es b)) c))
+      behind : (t : Bool) → (IsLastUsed n es c → IsLastUsed n (cache_without_block es b) c) → IsSome (cond t (Some e.1) (cached_bytes (take n es) c)) → IsSome (cond t (Some e.1) (cached_bytes (take n (cache_without_block es b)) c))
       behind true next k = refl
       behind false next k = next k
 
-      go : (t : Bool) → nat_eq b e.0 ≡ t → (IsAmongLastUsedBlocks n es c → IsAmongLastUsedBlocks n (cache_without_block es b) c) → IsAmongLastUsedBlocks (suc n) (cond (not t) (e ∷ cache_without_block es b) (cache_without_block es b)) c
-      go true is next = wider n (suc n) c (cache_without_block es b) (omega arith) (next (elsewhere (nat_eq c e.0) e.1 (cached_bytes_of_block (take n es) c) (not_here e.0 is) h))
+      go : (t : Bool) → nat_eq b e.0 ≡ t → (IsLastUsed n es c → IsLastUsed n (cache_without_block es b) c) → IsLastUsed (suc n) (cond (not t) (e ∷ cache_without_block es b) (cache_without_block es b)) c
+      go true is next = wider n (suc n) c (cache_without_block es b) (omega arith) (next (elsewhere (nat_eq c e.0) e.1 (cached_bytes (take n es) c) (not_here e.0 is) h))
       go false is next = behind (nat_eq c e.0) next h
 
   -- where the one that goes is as recent, there is one fewer
-  closer : (cache : CachedBlocks) (n : ℕ) → IsAmongLastUsedBlocks (suc n) cache b → IsAmongLastUsedBlocks (suc n) cache c → IsAmongLastUsedBlocks n (cache_without_block cache b) c
+  closer : (cache : CachedBlocks) (n : ℕ) → IsLastUsed (suc n) cache b → IsLastUsed (suc n) cache c → IsLastUsed n (cache_without_block cache b) c
   closer [] n g h = absurd (in_none c h)
   closer (e ∷ es) n g h = go (nat_eq b e.0) refl (closer es) g
     where
-      deeper : (n : ℕ) → ((m : ℕ) → IsAmongLastUsedBlocks (suc m) es b → IsAmongLastUsedBlocks (suc m) es c → IsAmongLastUsedBlocks m (cache_without_block es b) c) → IsAmongLastUsedBlocks n es b → IsAmongLastUsedBlocks (suc n) (e ∷ es) c → IsAmongLastUsedBlocks n (e ∷ cache_without_block es b) c
+      deeper : (n : ℕ) → ((m : ℕ) → IsLastUsed (suc m) es b → IsLastUsed (suc m) es c → IsLastUsed m (cache_without_block es b) c) → IsLastUsed n es b → IsLastUsed (suc n) (e ∷ es) c → IsLastUsed n (e ∷ cache_without_block es b) c
       deeper zero next k h = absurd (in_none b k)
       deeper (suc n) next k h = by (nat_eq c e.0) h
         where
-          by : (t : Bool) → IsSome (cond t (Some e.1) (cached_bytes_of_block (take (suc n) es) c)) → IsSome (cond t (Some e.1) (cached_bytes_of_block (take n (cache_without_block es b)) c))
+          by : (t : Bool) → IsSome (cond t (Some e.1) (cached_bytes (take (suc n) es) c)) → IsSome (cond t (Some e.1) (cached_bytes (take n (cache_without_block es b)) c))
           by true z = refl
           by false z = next n k z
 
-      go : (t : Bool) → nat_eq b e.0 ≡ t → ((m : ℕ) → IsAmongLastUsedBlocks (suc m) es b → IsAmongLastUsedBlocks (suc m) es c → IsAmongLastUsedBlocks m (cache_without_block es b) c) → IsSome (cond t (Some e.1) (cached_bytes_of_block (take n es) b))
-          → IsAmongLastUsedBlocks n (cond (not t) (e ∷ cache_without_block es b) (cache_without_block es b)) c
-      go true is next k = past n es (elsewhere (nat_eq c e.0) e.1 (cached_bytes_of_block (take n es) c) (not_here e.0 is) h)
+      go : (t : Bool) → nat_eq b e.0 ≡ t → ((m : ℕ) → IsLastUsed (suc m) es b → IsLastUsed (suc m) es c → IsLastUsed m (cache_without_block es b) c) → IsSome (cond t (Some e.1) (cached_bytes (take n es) b))
+          → IsLastUsed n (cond (not t) (e ∷ cache_without_block es b) (cache_without_block es b)) c
+      go true is next k = past n es (elsewhere (nat_eq c e.0) e.1 (cached_bytes (take n es) c) (not_here e.0 is) h)
       go false is next k = deeper n next k h
 
 module _ (cache : CachedBlocks) (b : ℕ) (bytes : List ℕ) where
   -- those in front of the others
-  front : (n c : ℕ) → n < cached_block_limit → (nat_eq c b ≡ false → IsAmongLastUsedBlocks n (cache_without_block cache b) c) → IsAmongLastUsedBlocks (suc n) (cache_with_block_first cache b bytes) c
+  front : (n c : ℕ) → n < cache_limit → (nat_eq c b ≡ false → IsLastUsed n (cache_without_block cache b) c) → IsLastUsed (suc n) (cache_with_block cache b bytes) c
   front n c few h = go (nat_eq c b) refl
     where
-      go : (t : Bool) → nat_eq c b ≡ t → IsSome (cond t (Some bytes) (cached_bytes_of_block (take n (take 7 (cache_without_block cache b))) c))
+      go : (t : Bool) → nat_eq c b ≡ t → IsSome (cond t (Some bytes) (cached_bytes (take n (take 7 (cache_without_block cache b))) c))
       go true is = refl
-      go false is = subst (λ es. IsSome (cached_bytes_of_block es c)) (sym (take-take n 7 (cache_without_block cache b) (omega (arith, few)))) (h is)
+      go false is = subst (λ es. IsSome (cached_bytes es c)) (sym (take-take n 7 (cache_without_block cache b) (omega (arith, few)))) (h is)
 
-  pub brought : IsBlockMovedToCacheFront b cache (cache_with_block_first cache b bytes)
+  pub brought : IsMovedToFront b cache (cache_with_block cache b bytes)
   brought = record {
     first = here (nat_eq b b) bytes None (same b);
     others = λ n c few h. front n c few (λ other. past b c other n cache h);
   }
 
-  pub stay_loaded : IsAmongLastUsedBlocks cached_block_limit cache b → CachedBlocksStayCached cache (cache_with_block_first cache b bytes)
+  pub stay_loaded : IsLastUsed cache_limit cache b → StayCached cache (cache_with_block cache b bytes)
   stay_loaded there c h = front 7 c (omega arith) (λ other. closer b c other cache 7 there h)
 
 -- ---- along the pairs of a directory
@@ -134,22 +134,22 @@ along_as ps old new r s pass b = record { none = b.none; stay = λ there. pass _
 
 -- a pair is brought without a call where it is cached
 pub loads_one : {X : Type 0} (old new : ThreadView) (index : ℕ) (s : Result X Error) → (IsSome (cached_log old index) → new.kept ≡ old.kept)
-    → OnOk s (new.cache ≡ loaded_in old index) → ReadsNothingAndKeepsPairsWhereAllCached (thread_pair_at_index old.kept index ∷ []) old new s
+    → OnOk s (new.cache ≡ loaded_in old index) → ReadsNothingAndKeepsPairsWhereAllCached (thread_pair_at old.kept index ∷ []) old new s
 loads_one old new index s no_call was = record {
-  none = λ there. ap (λ (t : KeptThread). read_count_of_history t.history) (no_call (is_cached cached_block_limit b old.cache there.0));
-  stay = λ there. after s (λ e. subst (CachedBlocksStayCached old.cache) (sym e) (stay_loaded old.cache b (block_bytes_on_disk old.kept.disk b) there.0)) was;
-  one = λ e. after s (λ e. (subst (IsBlockMovedToCacheFront b old.cache) (sym e) (brought old.cache b (block_bytes_on_disk old.kept.disk b)), tt)) was;
+  none = λ there. ap (λ (t : KeptThread). read_count t.history) (no_call (is_cached cache_limit b old.cache there.0));
+  stay = λ there. after s (λ e. subst (StayCached old.cache) (sym e) (stay_loaded old.cache b (disk_block old.kept.disk b) there.0)) was;
+  one = λ e. after s (λ e. (subst (IsMovedToFront b old.cache) (sym e) (brought old.cache b (disk_block old.kept.disk b)), tt)) was;
 }
   where
     b : ℕ
-    b = active_block_at old.kept.disk (thread_pair_at_index old.kept index).at
+    b = active_block_at old.kept.disk (thread_pair_at old.kept index).at
 
 -- The pairs of a run up to the rest were brought: where all are cached nothing was read.
 pub record HasKept (run rest : List Pair) (old now : ThreadView) : Type 0 where
   pub disk : now.kept.disk ≡ old.kept.disk
-  pub none : AreLogBlocksOfPairsCached old run → read_count_of_history now.kept.history ≡ read_count_of_history old.kept.history
-  pub stay : AreLogBlocksOfPairsCached old run → CachedBlocksStayCached old.cache now.cache
-  pub left : AreLogBlocksOfPairsCached old run → AreLogBlocksOfPairsCached old rest
+  pub none : ArePairsCached old run → read_count now.kept.history ≡ read_count old.kept.history
+  pub stay : ArePairsCached old run → StayCached old.cache now.cache
+  pub left : ArePairsCached old run → ArePairsCached old rest
 
 -- and where there is one alone it is still to be brought
 pub record HasBrought (run rest : List Pair) (old now : ThreadView) : Type 0 where
@@ -164,23 +164,23 @@ loaded_none run old = record { kept = kept_none run old; begun = λ e. (refl, re
 
 module _ {X : Type 0} (run rest more : List Pair) (p : Pair) (old now new : ThreadView) (r : Result X Error) (h : HasKept run rest old now) (is : rest ≡ p ∷ more)
     (b : ReadsNothingAndKeepsPairsWhereAllCached (p ∷ []) now new r) where
-  here_is_cached : AreLogBlocksOfPairsCached old run → AreLogBlocksOfPairsCached now (p ∷ [])
+  here_is_cached : ArePairsCached old run → ArePairsCached now (p ∷ [])
   here_is_cached there =
-      let k = subst (AreLogBlocksOfPairsCached old) is (h.left there) in
-      (subst (λ d. IsAmongLastUsedBlocks cached_block_limit now.cache (active_block_at d p.at)) (sym h.disk) (h.stay there _ k.0), tt)
+      let k = subst (ArePairsCached old) is (h.left there) in
+      (subst (λ d. IsLastUsed cache_limit now.cache (active_block_at d p.at)) (sym h.disk) (h.stay there _ k.0), tt)
 
-  pub none_on : AreLogBlocksOfPairsCached old run → read_count_of_history new.kept.history ≡ read_count_of_history old.kept.history
+  pub none_on : ArePairsCached old run → read_count new.kept.history ≡ read_count old.kept.history
   none_on there = b.none (here_is_cached there) ∙ h.none there
 
-  pub stay_on : AreLogBlocksOfPairsCached old run → OnOk r (CachedBlocksStayCached old.cache new.cache)
+  pub stay_on : ArePairsCached old run → OnOk r (StayCached old.cache new.cache)
   stay_on there = after r (λ st x k. st x (h.stay there x k)) (b.stay (here_is_cached there))
 
   pub keeps_on : (x : X) → r ≡ Ok x → new.kept.disk ≡ now.kept.disk → HasKept run more old new
   keeps_on x ok same = record {
     disk = same ∙ h.disk;
     none = none_on;
-    stay = λ there. on_ok r x (CachedBlocksStayCached old.cache new.cache) ok (stay_on there);
-    left = λ there. (subst (AreLogBlocksOfPairsCached old) is (h.left there)).1;
+    stay = λ there. on_ok r x (StayCached old.cache new.cache) ok (stay_on there);
+    left = λ there. (subst (ArePairsCached old) is (h.left there)).1;
   }
 
 module _ {X : Type 0} (run rest more : List Pair) (p : Pair) (old now new : ThreadView) (r : Result X Error) (h : HasBrought run rest old now) (is : rest ≡ p ∷ more)
@@ -191,9 +191,9 @@ module _ {X : Type 0} (run rest more : List Pair) (p : Pair) (old now new : Thre
     none = none_on run rest more p old now new r h.kept is b;
     stay = λ there. pass _ (stay_on run rest more p old now new r h.kept is b there);
     one = λ e. let g = h.begun e in let are = sym g.1 ∙ is in let one = ap length are in
-        pass _ (subst (λ qs. OnOk r (AllByRecursion (λ q. IsBlockMovedToCacheFront (active_block_at old.kept.disk q.at) old.cache new.cache) qs)) (sym (are ∙ ap (λ qs. p ∷ qs) (no_more more (omega (arith, one, e)))))
-        (subst (λ c. OnOk r (AllByRecursion (λ q. IsBlockMovedToCacheFront (active_block_at old.kept.disk q.at) c new.cache) (p ∷ []))) g.0
-        (subst (λ d. OnOk r (AllByRecursion (λ q. IsBlockMovedToCacheFront (active_block_at d q.at) now.cache new.cache) (p ∷ []))) h.kept.disk (b.one refl))));
+        pass _ (subst (λ qs. OnOk r (AllByRecursion (λ q. IsMovedToFront (active_block_at old.kept.disk q.at) old.cache new.cache) qs)) (sym (are ∙ ap (λ qs. p ∷ qs) (no_more more (omega (arith, one, e)))))
+        (subst (λ c. OnOk r (AllByRecursion (λ q. IsMovedToFront (active_block_at old.kept.disk q.at) c new.cache) (p ∷ []))) g.0
+        (subst (λ d. OnOk r (AllByRecursion (λ q. IsMovedToFront (active_block_at d q.at) now.cache new.cache) (p ∷ []))) h.kept.disk (b.one refl))));
   }
     where
       no_more : (qs : List Pair) → length qs ≡ 0 → qs ≡ []

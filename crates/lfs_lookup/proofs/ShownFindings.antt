@@ -3,36 +3,36 @@ use Rattle.std.proofs.Common.{ℕ, ◌≡◌, ◌<◌, ◌≤◌, ◌+◌, ◌�
 use Rattle.std.specs.Prelude.{IfOk, IfSome, Result, sum_by}
 use Rattle.std.proofs.lemmas.List.{length-map}
 use Rattle.std.proofs.lemmas.List.Sums.{sum_by-append, sum_by-cons}
-use Rattle.lfs_device.specs.Bytes.{AreAllBlockElementsBelow256}
+use Rattle.lfs_device.specs.Bytes.{HoldBytes}
 use Rattle.lfs_device.specs.declared.error.Error.{Error}
 use Rattle.lfs_model.proofs.Orders.{length_in_order}
-use Rattle.lfs_model.specs.Names.{names_sorted_in_order}
+use Rattle.lfs_model.specs.format.Names.{sorted_names}
 use Rattle.lfs_model.specs.declared.order.NameOrder.TheVariants.{ShorterFirst}
-use Rattle.lfs_model.specs.Frame.{pair_count_of_directory_at, ancestor_paths_of_path}
-use Rattle.lfs_model.specs.Effects.{directory_items_at_path, file_size_of_node}
-use Rattle.lfs_model.specs.InDirectory.{hard_tail_joined_pair_count}
-use Rattle.lfs_model.specs.Names.{Name}
-use Rattle.lfs_model.specs.Operations as ops
-use Rattle.lfs_model.specs.Session.{refusal_unless_parents_are_directories}
-use Rattle.lfs_model.specs.SlotEdits.{slot_of_path}
-use Rattle.lfs_model.specs.Slots.{Gstate, Slot, Struct}
-use Rattle.lfs_model.specs.Thread.{Pair, gstate_of_pairs, pair_count_before_root}
-use Rattle.lfs_model.specs.Tree.{Path, names_of_directory_at_address, node_of_struct_and_attributes}
-use Rattle.lfs_model.specs.TreeEdits.{names_of_directory_node}
-use Rattle.lfs_model.specs.View.{IsAcceptedImage}
-use Rattle.lfs_model.specs.Shown.{skip_list_bytes_on_disk, entries_by_directory_in_thread, tree_on_disk}
+use Rattle.lfs_model.specs.crash.Frame.{pair_count_at, ancestor_paths}
+use Rattle.lfs_model.specs.session.Effects.{items_at, node_file_size}
+use Rattle.lfs_model.specs.session.InDirectory.{joined_count}
+use Rattle.lfs_model.specs.format.Names.{Name}
+use Rattle.lfs_model.specs.session.Operations as ops
+use Rattle.lfs_model.specs.session.Session.{parents_refusal}
+use Rattle.lfs_model.specs.session.SlotEdits.{slot_of}
+use Rattle.lfs_model.specs.format.Slots.{Gstate, Slot, Struct}
+use Rattle.lfs_model.specs.format.Thread.{Pair, pairs_gstate, pair_count_before_root}
+use Rattle.lfs_model.specs.tree.Tree.{Path, names_at, struct_node}
+use Rattle.lfs_model.specs.session.TreeEdits.{directory_names}
+use Rattle.lfs_model.specs.tree.View.{IsAccepted}
+use Rattle.lfs_model.specs.tree.Shown.{struct_list_bytes, all_entries, tree_on_disk}
 use Rattle.lfs_model.proofs.Searches.{run_length_is}
 use Rattle.lfs_thread.specs.Kept.{KeptThread}
-use Rattle.lfs_lookup.specs.AtPath.{IsInlineFileShorterThanTagLengthIfFound, IsLookupResultAtPathHidingMovedSlot, node_and_parent_refusal_of_lookup_result, first_pair_of_found_directory, directory_from_pair_has_entries}
-use Rattle.lfs_lookup.specs.Entry.{IsStorageOfStruct}
-use Rattle.lfs_lookup.specs.Finds.{IsFoundNodeAtPath, has_entry_beneath_path}
+use Rattle.lfs_lookup.specs.AtPath.{FoundInlineFits, IsResult, node_or_refusal, found_pair, has_entries_from}
+use Rattle.lfs_lookup.specs.Entry.{IsStorage}
+use Rattle.lfs_lookup.specs.Finds.{IsFoundNode, has_entry_beneath}
 use Rattle.std.specs.List.Sorted.{IsPermutation}
-use Rattle.lfs_lookup.specs.ByName.{AreSameEntriesSortedShorterNameFirst}
-use Rattle.lfs_lookup.specs.Items.{NameAndStruct, name_and_struct_of_slot}
-use Rattle.lfs_lookup.specs.ListAt.{AreEntriesInNameAndInlineLimits, listed_item_of_entry}
-use Rattle.lfs_lookup.specs.Listed.{hard_tail_joined_pair_count_from, entries_of_directory_from_pair}
-use Rattle.lfs_lookup.specs.Paths.{PathLeadsToFirstPair, IsLookupResultWithSlotHidden}
-use Rattle.lfs_lookup.specs.Search.{HidesMovedSlotInPairsFromIndex}
+use Rattle.lfs_lookup.specs.ByName.{AreShorterFirst}
+use Rattle.lfs_lookup.specs.Items.{NamedStruct, named_struct}
+use Rattle.lfs_lookup.specs.ListAt.{AreInLimits, listed_item}
+use Rattle.lfs_lookup.specs.Listed.{joined_count_from, pair_entries_from}
+use Rattle.lfs_lookup.specs.LookupPaths.{LeadsToPair, IsHiddenResult}
+use Rattle.lfs_lookup.specs.NameSearch.{HidesFrom}
 use Rattle.lfs_lookup.specs.declared.entry.FileStorage.{FileStorage}
 use Rattle.lfs_lookup.specs.declared.entry.FileStorage.TheVariants as contents
 use Rattle.lfs_lookup.specs.declared.found_entries.FoundNode.{FoundNode}
@@ -48,24 +48,24 @@ use Rattle.lfs_lookup.proofs.RootPairs.{root_leads}
 
 -- the directory at a path begins with that pair; where there is none, nothing stands beneath the path
 abbrev pub IsFirstAt : KeptThread → Path → Option ℕ → Type 0
-IsFirstAt t path (Some first) = PathLeadsToFirstPair t.pairs path first
-IsFirstAt t path None = names_of_directory_node (tree_on_disk t.disk t.pairs path) ≡ []
+IsFirstAt t path (Some first) = LeadsToPair t.pairs path first
+IsFirstAt t path None = directory_names (tree_on_disk t.disk t.pairs path) ≡ []
 
 -- the directories above a path, and its own
-pub few_own : (f : Path → ℕ) (path : Path) → sum_by f (ancestor_paths_of_path path ++ path ∷ []) ≡ sum_by f (ancestor_paths_of_path path) + f path
-few_own f path = let a = sum_by-append f (ancestor_paths_of_path path) (path ∷ []) in let b = sum_by-cons f path [] in omega (arith, a, b)
+pub few_own : (f : Path → ℕ) (path : Path) → sum_by f (ancestor_paths path ++ path ∷ []) ≡ sum_by f (ancestor_paths path) + f path
+few_own f path = let a = sum_by-append f (ancestor_paths path) (path ∷ []) in let b = sum_by-cons f path [] in omega (arith, a, b)
 
 -- what is shown where that slot counts as deleted which the global state names
-pub shows_at : (t : KeptThread) (names path : Path) (g : Gstate) (moved : Option SlotPosition) (r : Result VisiblePathLookup Error) → names ≡ path → g ≡ gstate_of_pairs t.pairs → HidesMovedSlotInPairsFromIndex g moved 0 t.pairs → IfOk r (IsLookupResultWithSlotHidden t moved names) → IfOk r (IsLookupResultAtPathHidingMovedSlot t path)
+pub shows_at : (t : KeptThread) (names path : Path) (g : Gstate) (moved : Option SlotPosition) (r : Result VisiblePathLookup Error) → names ≡ path → g ≡ pairs_gstate t.pairs → HidesFrom g moved 0 t.pairs → IfOk r (IsHiddenResult t moved names) → IfOk r (IsResult t path)
 shows_at t names path g moved (Ok x) e is hides shows = record {
   moved = moved;
-  hides = subst (λ (z : Gstate). HidesMovedSlotInPairsFromIndex z moved 0 t.pairs) is hides;
-  shows = subst (λ p. IsLookupResultWithSlotHidden t moved p x) e shows;
+  hides = subst (λ (z : Gstate). HidesFrom z moved 0 t.pairs) is hides;
+  shows = subst (λ p. IsHiddenResult t moved p x) e shows;
 }
 shows_at t names path g moved (Err x) e is hides shows = tt
 
 -- inline bytes stand in the entry
-pub in_entry : (t : KeptThread) (path : Path) (s : VisiblePathLookup) → IsLookupResultAtPathHidingMovedSlot t path s → IsInlineFileShorterThanTagLengthIfFound s
+pub in_entry : (t : KeptThread) (path : Path) (s : VisiblePathLookup) → IsResult t path s → FoundInlineFits s
 in_entry t path shown.Root h = tt
 in_entry t path (shown.Directory spot first) h = tt
 in_entry t path (shown.File spot (contents.Inline len)) h = let (fault, (s, (bytes, (is, (l, short))))) = h.shows in short
@@ -74,43 +74,43 @@ in_entry t path shown.Nothing h = tt
 in_entry t path shown.ParentIsFile h = tt
 in_entry t path shown.ParentIsMissing h = tt
 
-module _ (t : KeptThread) (path : Path) (ok : IsAcceptedImage t.disk t.pairs) where
+module _ (t : KeptThread) (path : Path) (ok : IsAccepted t.disk t.pairs) where
   -- ---- what is found
 
-  found_begun : (first : ℕ) (f : FoundNode) → PathLeadsToFirstPair t.pairs path first → refusal_unless_parents_are_directories (tree_on_disk t.disk t.pairs) [] path ≡ None → f ≡ record { fault = None; node = node.Directory } → IsFoundNodeAtPath (tree_on_disk t.disk t.pairs) path f
+  found_begun : (first : ℕ) (f : FoundNode) → LeadsToPair t.pairs path first → parents_refusal (tree_on_disk t.disk t.pairs) [] path ≡ None → f ≡ record { fault = None; node = node.Directory } → IsFoundNode (tree_on_disk t.disk t.pairs) path f
   found_begun first f on h k =
       let d = directory_at_path t.disk t.pairs path on.at on.leads in
-      subst (λ z. IsFoundNodeAtPath (tree_on_disk t.disk t.pairs) path z) (sym k) (finds_directory (tree_on_disk t.disk t.pairs) path d.attributes (names_sorted_in_order ShorterFirst (names_of_directory_at_address (entries_by_directory_in_thread t.pairs) on.at)) d.is h)
+      subst (λ z. IsFoundNode (tree_on_disk t.disk t.pairs) path z) (sym k) (finds_directory (tree_on_disk t.disk t.pairs) path d.attributes (sorted_names ShorterFirst (names_at (all_entries t.pairs) on.at)) d.is h)
 
-  pub found_shown : (root : ℕ) (s : VisiblePathLookup) (f : FoundNode) → root ≡ pair_count_before_root t.pairs → SizedLists t.disk → IsLookupResultAtPathHidingMovedSlot t path s → f ≡ node_and_parent_refusal_of_lookup_result s → IsFoundNodeAtPath (tree_on_disk t.disk t.pairs) path f
+  pub found_shown : (root : ℕ) (s : VisiblePathLookup) (f : FoundNode) → root ≡ pair_count_before_root t.pairs → SizedLists t.disk → IsResult t path s → f ≡ node_or_refusal s → IsFoundNode (tree_on_disk t.disk t.pairs) path f
   found_shown root shown.Root f r sized s k =
-      found_begun root f (subst (λ (p : Path). PathLeadsToFirstPair t.pairs p root) (sym s.shows) (root_leads t.disk t.pairs root ok r)) (ap (refusal_unless_parents_are_directories (tree_on_disk t.disk t.pairs) []) s.shows) k
+      found_begun root f (subst (λ (p : Path). LeadsToPair t.pairs p root) (sym s.shows) (root_leads t.disk t.pairs root ok r)) (ap (parents_refusal (tree_on_disk t.disk t.pairs) []) s.shows) k
   found_shown root (shown.Directory spot first) f r sized s k = found_begun first f s.shows.1.1 s.shows.0 k
   found_shown root (shown.File spot contents) f r sized s k = file_at t path ok s.moved spot contents f s.shows sized k
   found_shown root shown.Nothing f r sized s k =
-      subst (λ z. IsFoundNodeAtPath (tree_on_disk t.disk t.pairs) path z) (sym k) (finds_nothing (tree_on_disk t.disk t.pairs) path None (nothing_at t.disk t.pairs path s.shows.1) s.shows.0)
+      subst (λ z. IsFoundNode (tree_on_disk t.disk t.pairs) path z) (sym k) (finds_nothing (tree_on_disk t.disk t.pairs) path None (nothing_at t.disk t.pairs path s.shows.1) s.shows.0)
   found_shown root shown.ParentIsFile f r sized s k = refused_at t path ok ops.NotDir f s.shows k
   found_shown root shown.ParentIsMissing f r sized s k = refused_at t path ok ops.NoEnt f s.shows k
 
   -- ---- the first pair of a directory
 
-  nameless : (x : Slot) (c : FileStorage) → slot_of_path t.pairs path ≡ Some x → IsStorageOfStruct c x.struct → names_of_directory_node (tree_on_disk t.disk t.pairs path) ≡ []
+  nameless : (x : Slot) (c : FileStorage) → slot_of t.pairs path ≡ Some x → IsStorage c x.struct → directory_names (tree_on_disk t.disk t.pairs path) ≡ []
   nameless x (contents.Inline len) e k =
-      ap (λ o. names_of_directory_node (option_map (λ (f : Slot). node_of_struct_and_attributes (skip_list_bytes_on_disk t.disk) (entries_by_directory_in_thread t.pairs) f.attributes f.struct) o)) e
-      ∙ ap (λ (z : Struct). names_of_directory_node (Some (node_of_struct_and_attributes (skip_list_bytes_on_disk t.disk) (entries_by_directory_in_thread t.pairs) x.attributes z))) k.1.0
+      ap (λ o. directory_names (option_map (λ (f : Slot). struct_node (struct_list_bytes t.disk) (all_entries t.pairs) f.attributes f.struct) o)) e
+      ∙ ap (λ (z : Struct). directory_names (Some (struct_node (struct_list_bytes t.disk) (all_entries t.pairs) x.attributes z))) k.1.0
   nameless x (contents.List head size) e k =
-      ap (λ o. names_of_directory_node (option_map (λ (f : Slot). node_of_struct_and_attributes (skip_list_bytes_on_disk t.disk) (entries_by_directory_in_thread t.pairs) f.attributes f.struct) o)) e
-      ∙ ap (λ (z : Struct). names_of_directory_node (Some (node_of_struct_and_attributes (skip_list_bytes_on_disk t.disk) (entries_by_directory_in_thread t.pairs) x.attributes z))) k
+      ap (λ o. directory_names (option_map (λ (f : Slot). struct_node (struct_list_bytes t.disk) (all_entries t.pairs) f.attributes f.struct) o)) e
+      ∙ ap (λ (z : Struct). directory_names (Some (struct_node (struct_list_bytes t.disk) (all_entries t.pairs) x.attributes z))) k
 
-  first_is : (root : ℕ) (s : VisiblePathLookup) → root ≡ pair_count_before_root t.pairs → IsLookupResultAtPathHidingMovedSlot t path s → IsFirstAt t path (first_pair_of_found_directory root s)
-  first_is root shown.Root r s = subst (λ (p : Path). PathLeadsToFirstPair t.pairs p root) (sym s.shows) (root_leads t.disk t.pairs root ok r)
+  first_is : (root : ℕ) (s : VisiblePathLookup) → root ≡ pair_count_before_root t.pairs → IsResult t path s → IsFirstAt t path (found_pair root s)
+  first_is root shown.Root r s = subst (λ (p : Path). LeadsToPair t.pairs p root) (sym s.shows) (root_leads t.disk t.pairs root ok r)
   first_is root (shown.Directory spot first) r s = s.shows.1.1
   first_is root (shown.File spot contents) r s = let (h, (at, k)) = s.shows in nameless at.stands.stands.slot contents at.slot k
-  first_is root shown.Nothing r s = ap names_of_directory_node (nothing_at t.disk t.pairs path s.shows.1)
-  first_is root shown.ParentIsFile r s = ap names_of_directory_node (nothing_at t.disk t.pairs path (refused_none t.disk t.pairs path [] ops.NotDir s.shows))
-  first_is root shown.ParentIsMissing r s = ap names_of_directory_node (nothing_at t.disk t.pairs path (refused_none t.disk t.pairs path [] ops.NoEnt s.shows))
+  first_is root shown.Nothing r s = ap directory_names (nothing_at t.disk t.pairs path s.shows.1)
+  first_is root shown.ParentIsFile r s = ap directory_names (nothing_at t.disk t.pairs path (refused_none t.disk t.pairs path [] ops.NotDir s.shows))
+  first_is root shown.ParentIsMissing r s = ap directory_names (nothing_at t.disk t.pairs path (refused_none t.disk t.pairs path [] ops.NoEnt s.shows))
 
-  pub first_at : (root : ℕ) (s : VisiblePathLookup) (from : Option ℕ) → root ≡ pair_count_before_root t.pairs → IsLookupResultAtPathHidingMovedSlot t path s → from ≡ first_pair_of_found_directory root s → IsFirstAt t path from
+  pub first_at : (root : ℕ) (s : VisiblePathLookup) (from : Option ℕ) → root ≡ pair_count_before_root t.pairs → IsResult t path s → from ≡ found_pair root s → IsFirstAt t path from
   first_at root s from r h e = subst (IsFirstAt t path) (sym e) (first_is root s r h)
 
   pub first_within : (now : List Pair) (from : Option ℕ) → now ≡ t.pairs → IsFirstAt t path from → IfSome from (λ first. first < length now)
@@ -118,33 +118,33 @@ module _ (t : KeptThread) (path : Path) (ok : IsAcceptedImage t.disk t.pairs) wh
   first_within now (Some first) e on = subst (λ ps. first < length ps) (sym e) (within t.pairs on.at first on.begins)
 
   -- its pairs are those of the path's directory
-  pub few_from : (now : List Pair) (from : Option ℕ) → now ≡ t.pairs → IsFirstAt t path from → hard_tail_joined_pair_count_from now from ≤ pair_count_of_directory_at t.pairs path
+  pub few_from : (now : List Pair) (from : Option ℕ) → now ≡ t.pairs → IsFirstAt t path from → joined_count_from now from ≤ pair_count_at t.pairs path
   few_from now None e h = omega arith
   few_from now (Some first) e on =
-      let k = ap (λ ps. hard_tail_joined_pair_count (drop first ps)) e ∙ run_length_is t.disk t.pairs path on.at first ok on.leads on.begins in
+      let k = ap (λ ps. joined_count (drop first ps)) e ∙ run_length_is t.disk t.pairs path on.at first ok on.leads on.begins in
       omega (arith, k)
 
   -- ---- what stands there
 
-  pub has_beneath : (now : List Pair) (from : Option ℕ) (has : Bool) → now ≡ t.pairs → IsFirstAt t path from → has ≡ directory_from_pair_has_entries now from → has ≡ has_entry_beneath_path (tree_on_disk t.disk t.pairs) path
+  pub has_beneath : (now : List Pair) (from : Option ℕ) (has : Bool) → now ≡ t.pairs → IsFirstAt t path from → has ≡ has_entries_from now from → has ≡ has_entry_beneath (tree_on_disk t.disk t.pairs) path
   has_beneath now None has e h k = k ∙ ap (λ (z : List Name). nat_lt 0 (length z)) (sym h)
   has_beneath now (Some first) has e on k =
       let d = directory_at_path t.disk t.pairs path on.at on.leads in
-      k ∙ ap (λ ps. directory_from_pair_has_entries ps (Some first)) e
-      ∙ ap (λ (n : ℕ). nat_lt 0 n) (ap length (own_shapes t.disk t.pairs path on.at first ok on.leads on.begins) ∙ length-map (entries_by_directory_in_thread t.pairs on.at) name_and_struct_of_slot ∙ sym (length-map (entries_by_directory_in_thread t.pairs on.at) (λ (s : Slot). s.name)) ∙ sym (length_in_order ShorterFirst (names_of_directory_at_address (entries_by_directory_in_thread t.pairs) on.at)))
-      ∙ ap (λ z. nat_lt 0 (length (names_of_directory_node z))) (sym d.is)
+      k ∙ ap (λ ps. has_entries_from ps (Some first)) e
+      ∙ ap (λ (n : ℕ). nat_lt 0 n) (ap length (own_shapes t.disk t.pairs path on.at first ok on.leads on.begins) ∙ length-map (all_entries t.pairs on.at) named_struct ∙ sym (length-map (all_entries t.pairs on.at) (λ (s : Slot). s.name)) ∙ sym (length_in_order ShorterFirst (names_at (all_entries t.pairs) on.at)))
+      ∙ ap (λ z. nat_lt 0 (length (directory_names z))) (sym d.is)
 
-  none_by_name : (found shapes : List NameAndStruct) → found ≡ [] → AreSameEntriesSortedShorterNameFirst found shapes → shapes ≡ []
-  none_by_name found shapes are by_name = nothing_moved shapes (subst (λ (z : List NameAndStruct). IsPermutation z shapes) are by_name.permutation)
+  none_by_name : (found shapes : List NamedStruct) → found ≡ [] → AreShorterFirst found shapes → shapes ≡ []
+  none_by_name found shapes are by_name = nothing_moved shapes (subst (λ (z : List NamedStruct). IsPermutation z shapes) are by_name.permutation)
 
-  pub short_from : (now : List Pair) (from : Option ℕ) (found shapes : List NameAndStruct) → now ≡ t.pairs → IsFirstAt t path from → found ≡ entries_of_directory_from_pair now from → AreSameEntriesSortedShorterNameFirst found shapes
-      → AreAllBlockElementsBelow256 t.disk.blocks → AreEntriesInNameAndInlineLimits shapes
-  short_from now None found shapes e h are by_name bytes = subst AreEntriesInNameAndInlineLimits (sym (none_by_name found shapes are by_name)) tt
+  pub short_from : (now : List Pair) (from : Option ℕ) (found shapes : List NamedStruct) → now ≡ t.pairs → IsFirstAt t path from → found ≡ pair_entries_from now from → AreShorterFirst found shapes
+      → HoldBytes t.disk.blocks → AreInLimits shapes
+  short_from now None found shapes e h are by_name bytes = subst AreInLimits (sym (none_by_name found shapes are by_name)) tt
   short_from now (Some first) found shapes e on are by_name bytes = short_there t path ok now first found shapes e on are by_name bytes
 
-  pub listed_from : (now : List Pair) (from : Option ℕ) (found shapes : List NameAndStruct) (listed : List ops.ListedEntry) → now ≡ t.pairs → IsFirstAt t path from → found ≡ entries_of_directory_from_pair now from
-      → AreSameEntriesSortedShorterNameFirst found shapes → SizedLists t.disk → listed ≡ map listed_item_of_entry shapes → listed ≡ directory_items_at_path (tree_on_disk t.disk t.pairs) path
+  pub listed_from : (now : List Pair) (from : Option ℕ) (found shapes : List NamedStruct) (listed : List ops.ListedEntry) → now ≡ t.pairs → IsFirstAt t path from → found ≡ pair_entries_from now from
+      → AreShorterFirst found shapes → SizedLists t.disk → listed ≡ map listed_item shapes → listed ≡ items_at (tree_on_disk t.disk t.pairs) path
   listed_from now None found shapes listed e h are by_name lists k =
-      k ∙ ap (map listed_item_of_entry) (none_by_name found shapes are by_name)
-      ∙ sym (ap (map (λ name. let item : ops.ListedEntry = record { name = name; size = file_size_of_node (tree_on_disk t.disk t.pairs (path ++ name ∷ [])) } in item)) h)
+      k ∙ ap (map listed_item) (none_by_name found shapes are by_name)
+      ∙ sym (ap (map (λ name. let item : ops.ListedEntry = record { name = name; size = node_file_size (tree_on_disk t.disk t.pairs (path ++ name ∷ [])) } in item)) h)
   listed_from now (Some first) found shapes listed e on are by_name lists k = listed_there t path ok now first found shapes e on are by_name listed lists k

@@ -3,15 +3,15 @@ use Rattle.std.proofs.Common.{ℕ, zero, suc, ◌≡◌, ◌+◌, ◌==◌, ◌&
 use Rattle.std.specs.List.{IsDistinct}
 use Rattle.std.specs.Option.{option_and_then}
 use Rattle.std.proofs.lemmas.Option.{same_Some}
-use Rattle.lfs_model.specs.Disk.{Disk}
-use Rattle.lfs_model.specs.InDirectory.{IsPairAtAddress, IsPairOfDirectory}
-use Rattle.lfs_model.specs.Names.{Name}
-use Rattle.lfs_model.specs.SlotEdits.{slot_of_path}
-use Rattle.lfs_model.specs.Slots.{Slot, Gstate, is_superblock, same_pair}
-use Rattle.lfs_model.specs.Thread.{Pair, gstate_of_pairs, entries_not_moved, blocks_of_pairs, directories_of_pairs, pairs_from_root_directory_on, entries_of_directory, root_directory_address_of_pairs, pair_count_before_root, id_of_moved_slot_in_pair}
-use Rattle.lfs_model.specs.Tree.{Path, entry_of_name, root_slot}
-use Rattle.lfs_model.specs.View.{IsAcceptedImage}
-use Rattle.lfs_model.specs.Shown.{IsPathToDirectory, entries_by_directory_in_thread}
+use Rattle.lfs_model.specs.format.Disk.{Disk}
+use Rattle.lfs_model.specs.session.InDirectory.{IsPairAt, IsPairOfDirectory}
+use Rattle.lfs_model.specs.format.Names.{Name}
+use Rattle.lfs_model.specs.session.SlotEdits.{slot_of}
+use Rattle.lfs_model.specs.format.Slots.{Slot, Gstate, is_superblock, same_pair}
+use Rattle.lfs_model.specs.format.Thread.{Pair, pairs_gstate, unmoved_entries, blocks_of_pairs, pair_directories, pairs_from_root, directory_slots, root_address, pair_count_before_root, moved_id}
+use Rattle.lfs_model.specs.tree.Tree.{Path, entry_named, root_slot}
+use Rattle.lfs_model.specs.tree.View.{IsAccepted}
+use Rattle.lfs_model.specs.tree.Shown.{LeadsTo, all_entries}
 use Rattle.lfs_model.proofs.Counts.{Each, each_append}
 use Rattle.lfs_model.proofs.Listings.{listing, IsRun, run_directories, Apart, distinct_apart, distinct_right, entries_own}
 use Rattle.lfs_model.proofs.OneCommit.{slot_there}
@@ -22,7 +22,7 @@ use Rattle.lfs_model.proofs.Found.{HasDirectory, chain_of_thread}
 use Rattle.lfs_model.proofs.Sites.{Site, dirs_at, thread_at, IsSite, begin_of, shown_at, site_directories}
 use Rattle.lfs_model.proofs.Superblocks.{pairs_behind}
 use Rattle.lfs_model.proofs.Walks.{walk_below}
-use Rattle.lfs_lookup.specs.Search.{HidesMovedSlotInPairsFromIndex, IsNameAbsentAlongHardTails, IsNameAbsentExceptAtId, IsUnhiddenNameAtSpot, skipped_id_in_pair}
+use Rattle.lfs_lookup.specs.NameSearch.{HidesFrom, IsAbsent, IsAbsentExcept, IsNameAt, skipped_id}
 use Rattle.lfs_lookup.specs.declared.entry.FileOrDirectory.{FileOrDirectory}
 use Rattle.lfs_lookup.specs.declared.search.SlotPosition.{SlotPosition}
 
@@ -83,7 +83,7 @@ each_kept P (x ∷ xs) h = go (is_superblock x) refl (each_kept P xs (λ i. h (s
 
 -- ---- in one pair
 
-visible_has : (g : Gstate) (p : Pair) (u : Slot) (id : ℕ) → slice_get p.content.slots id ≡ Some u → is_superblock u ≡ false → (id_of_moved_slot_in_pair g p ≡ Some id → ⊥) → Has (entries_not_moved g p) u
+visible_has : (g : Gstate) (p : Pair) (u : Slot) (id : ℕ) → slice_get p.content.slots id ≡ Some u → is_superblock u ≡ false → (moved_id g p ≡ Some id → ⊥) → Has (unmoved_entries g p) u
 visible_has g p u id e entry kept = go (g.kind == 0x4ff && same_pair g.pair p.at) refl
   where
     other : (xs : List Slot) (i : ℕ) → slice_get xs i ≡ Some u → Has (filter (λ s. not (is_superblock s)) xs) u
@@ -98,7 +98,7 @@ visible_has g p u id e entry kept = go (g.kind == 0x4ff && same_pair g.pair p.at
 abbrev IsOther : Name → Slot → Type 0
 IsOther name s = s.name ≡ name → ⊥
 
-visible_absent : (g : Gstate) (p : Pair) (name : Name) → IsNameAbsentExceptAtId (id_of_moved_slot_in_pair g p) p.content.slots name → Each (IsOther name) (entries_not_moved g p)
+visible_absent : (g : Gstate) (p : Pair) (name : Name) → IsAbsentExcept (moved_id g p) p.content.slots name → Each (IsOther name) (unmoved_entries g p)
 visible_absent g p name h = go (g.kind == 0x4ff && same_pair g.pair p.at) refl
   where
     go : (b : Bool) → (g.kind == 0x4ff && same_pair g.pair p.at) ≡ b → Each (IsOther name) (filter (λ s. not (is_superblock s)) (cond b (remove p.content.slots g.id) p.content.slots))
@@ -108,32 +108,32 @@ visible_absent g p name h = go (g.kind == 0x4ff && same_pair g.pair p.at) refl
 
 -- ---- along the pairs of a directory
 
-hides_behind : (g : Gstate) (moved : Option SlotPosition) (i : ℕ) (xs ys : List Pair) → HidesMovedSlotInPairsFromIndex g moved i (xs ++ ys) → HidesMovedSlotInPairsFromIndex g moved (i + length xs) ys
-hides_behind g moved i [] ys h = let e : i ≡ i + 0 = omega arith in subst (λ (n : ℕ). HidesMovedSlotInPairsFromIndex g moved n ys) e h
-hides_behind g moved i (x ∷ xs) ys h = let e : i + 1 + length xs ≡ i + suc (length xs) = omega arith in subst (λ (n : ℕ). HidesMovedSlotInPairsFromIndex g moved n ys) e (hides_behind g moved (i + 1) xs ys h.1)
+hides_behind : (g : Gstate) (moved : Option SlotPosition) (i : ℕ) (xs ys : List Pair) → HidesFrom g moved i (xs ++ ys) → HidesFrom g moved (i + length xs) ys
+hides_behind g moved i [] ys h = let e : i ≡ i + 0 = omega arith in subst (λ (n : ℕ). HidesFrom g moved n ys) e h
+hides_behind g moved i (x ∷ xs) ys h = let e : i + 1 + length xs ≡ i + suc (length xs) = omega arith in subst (λ (n : ℕ). HidesFrom g moved n ys) e (hides_behind g moved (i + 1) xs ys h.1)
 
-absent_run : (g : Gstate) (moved : Option SlotPosition) (index : ℕ) (p : Pair) (run after : List Pair) (name : Name) → IsRun (p ∷ run) → HidesMovedSlotInPairsFromIndex g moved index (p ∷ (run ++ after))
-    → IsNameAbsentAlongHardTails moved index (p ∷ (run ++ after)) name → Each (IsOther name) (flat_map (entries_not_moved g) (p ∷ run))
+absent_run : (g : Gstate) (moved : Option SlotPosition) (index : ℕ) (p : Pair) (run after : List Pair) (name : Name) → IsRun (p ∷ run) → HidesFrom g moved index (p ∷ (run ++ after))
+    → IsAbsent moved index (p ∷ (run ++ after)) name → Each (IsOther name) (flat_map (unmoved_entries g) (p ∷ run))
 absent_run g moved index p [] after name is hides absent =
-    each_append (IsOther name) (entries_not_moved g p) [] (visible_absent g p name (subst (λ k. IsNameAbsentExceptAtId k p.content.slots name) hides.0 absent.0)) tt
+    each_append (IsOther name) (unmoved_entries g p) [] (visible_absent g p name (subst (λ k. IsAbsentExcept k p.content.slots name) hides.0 absent.0)) tt
 absent_run g moved index p (q ∷ run) after name is hides absent =
-    each_append (IsOther name) (entries_not_moved g p) (flat_map (entries_not_moved g) (q ∷ run)) (visible_absent g p name (subst (λ k. IsNameAbsentExceptAtId k p.content.slots name) hides.0 absent.0))
+    each_append (IsOther name) (unmoved_entries g p) (flat_map (unmoved_entries g) (q ∷ run)) (visible_absent g p name (subst (λ k. IsAbsentExcept k p.content.slots name) hides.0 absent.0))
     (absent_run g moved (index + 1) q run after name is.1 hides.1 (absent.1 is.0))
 
-none_named : (name : Name) (xs : List Slot) → Each (IsOther name) xs → entry_of_name name xs ≡ None
+none_named : (name : Name) (xs : List Slot) → Each (IsOther name) xs → entry_named name xs ≡ None
 none_named name [] h = refl
-none_named name (x ∷ xs) h = ap (λ b. cond b (Some x) (entry_of_name name xs)) (unlike_test name x.name (λ e. h.0 (sym e))) ∙ none_named name xs h.1
+none_named name (x ∷ xs) h = ap (λ b. cond b (Some x) (entry_named name xs)) (unlike_test name x.name (λ e. h.0 (sym e))) ∙ none_named name xs h.1
 
 -- ---- what the directory shows
 
-shows_at : (disk : Disk) (w : Site) (p : Pair) (a : ℕ × ℕ) → IsAcceptedImage disk (thread_at w (p ∷ [])) → IsSite w (p ∷ []) → same_pair (begin_of w (p ∷ [])) a ≡ true →
-    entries_by_directory_in_thread (thread_at w (p ∷ [])) a ≡ shown_at w (gstate_of_pairs (thread_at w (p ∷ []))) (p ∷ [])
+shows_at : (disk : Disk) (w : Site) (p : Pair) (a : ℕ × ℕ) → IsAccepted disk (thread_at w (p ∷ [])) → IsSite w (p ∷ []) → same_pair (begin_of w (p ∷ [])) a ≡ true →
+    all_entries (thread_at w (p ∷ [])) a ≡ shown_at w (pairs_gstate (thread_at w (p ∷ []))) (p ∷ [])
 shows_at disk w p a ok there same =
-    let g = gstate_of_pairs (thread_at w (p ∷ [])) in
+    let g = pairs_gstate (thread_at w (p ∷ [])) in
     let dirs = site_directories g w p [] there.ends there.run in
-    ap (λ z. entries_of_directory (directories_of_pairs g z) a) (pairs_behind w.chain (dirs_at w (p ∷ [])) there.chain)
-    ∙ ap (λ ds. entries_of_directory ds a) dirs
-    ∙ entries_own (directories_of_pairs g w.before) (listing (begin_of w (p ∷ [])) (shown_at w g (p ∷ []))) (directories_of_pairs g w.after) a
+    ap (λ z. directory_slots (pair_directories g z) a) (pairs_behind w.chain (dirs_at w (p ∷ [])) there.chain)
+    ∙ ap (λ ds. directory_slots ds a) dirs
+    ∙ entries_own (pair_directories g w.before) (listing (begin_of w (p ∷ [])) (shown_at w g (p ∷ []))) (pair_directories g w.after) a
     (subst Apart dirs (distinct_apart g (dirs_at w (p ∷ [])) (distinct_right w.chain (dirs_at w (p ∷ [])) ok.thread.distinct))) same
 
 get_at : (xs : List Slot) (u : Slot) (ys : List Slot) → slice_get (xs ++ u ∷ ys) (length xs) ≡ Some u
@@ -141,10 +141,10 @@ get_at [] u ys = refl
 get_at (x ∷ xs) u ys = get_at xs u ys
 
 -- the slot of its path is found
-pub shown_is : (disk : Disk) (ps : List Pair) (path : Path) (a : ℕ × ℕ) (moved : Option SlotPosition) (first : ℕ) (name : Name) (spot : SlotPosition) (entry : FileOrDirectory) → IsAcceptedImage disk ps → HidesMovedSlotInPairsFromIndex (gstate_of_pairs ps) moved 0 ps
-    → IsPathToDirectory ps path a → IsPairAtAddress ps a first → (s : IsUnhiddenNameAtSpot ps moved first name spot entry) → slot_of_path ps (path ++ name ∷ []) ≡ Some s.stands.stands.slot
+pub shown_is : (disk : Disk) (ps : List Pair) (path : Path) (a : ℕ × ℕ) (moved : Option SlotPosition) (first : ℕ) (name : Name) (spot : SlotPosition) (entry : FileOrDirectory) → IsAccepted disk ps → HidesFrom (pairs_gstate ps) moved 0 ps
+    → LeadsTo ps path a → IsPairAt ps a first → (s : IsNameAt ps moved first name spot entry) → slot_of ps (path ++ name ∷ []) ≡ Some s.stands.stands.slot
 shown_is disk ps path a moved first name spot entry ok hides leads begins s =
-    subst (λ z. slot_of_path ps (path ++ z ∷ []) ≡ Some u) s.stands.stands.named (slot_there disk ps path a h.at u ok leads h.is)
+    subst (λ z. slot_of ps (path ++ z ∷ []) ≡ Some u) s.stands.stands.named (slot_there disk ps path a h.at u ok leads h.is)
   where
     pair : Pair
     pair = s.stands.pair
@@ -161,49 +161,49 @@ shown_is disk ps path a moved first name spot entry ok hides leads begins s =
     is : ps ≡ thread_at w (pair ∷ [])
     is = searches.thread_is disk ps path a ok leads first spot.pair s.stands.pair s.stands.rest s.stands.place begins
 
-    hidden : skipped_id_in_pair moved spot.pair ≡ id_of_moved_slot_in_pair (gstate_of_pairs ps) pair
+    hidden : skipped_id moved spot.pair ≡ moved_id (pairs_gstate ps) pair
     hidden =
         let whole : ps ≡ (b.front ++ b.left) ++ pair ∷ s.stands.rest = b.parts ∙ sym (append_assoc b.front b.left (pair ∷ s.stands.rest)) in
-        let behind = hides_behind (gstate_of_pairs ps) moved 0 (b.front ++ b.left) (pair ∷ s.stands.rest) (subst (HidesMovedSlotInPairsFromIndex (gstate_of_pairs ps) moved 0) whole hides) in
+        let behind = hides_behind (pairs_gstate ps) moved 0 (b.front ++ b.left) (pair ∷ s.stands.rest) (subst (HidesFrom (pairs_gstate ps) moved 0) whole hides) in
         let n = b.number in
         let l = length-append b.front b.left in
         let count : 0 + length (b.front ++ b.left) ≡ spot.pair = omega (arith, n, l) in
-        subst (λ (i : ℕ). skipped_id_in_pair moved i ≡ id_of_moved_slot_in_pair (gstate_of_pairs ps) pair) count behind.0
+        subst (λ (i : ℕ). skipped_id moved i ≡ moved_id (pairs_gstate ps) pair) count behind.0
 
-    here : Has (entries_not_moved (gstate_of_pairs ps) pair) u
+    here : Has (unmoved_entries (pairs_gstate ps) pair) u
     here =
         let at : slice_get pair.content.slots spot.id ≡ Some u = ap₂ (λ z (i : ℕ). slice_get z i) s.stands.stands.held (sym s.stands.stands.number) ∙ get_at s.stands.stands.left u s.stands.stands.right in
-        visible_has (gstate_of_pairs ps) pair u spot.id at s.stands.stands.entry (λ e. s.kept (hidden ∙ e))
+        visible_has (pairs_gstate ps) pair u spot.id at s.stands.stands.entry (λ e. s.kept (hidden ∙ e))
 
-    shows : entries_by_directory_in_thread ps a ≡ shown_at w (gstate_of_pairs ps) (pair ∷ [])
-    shows = ap (λ z. entries_by_directory_in_thread z a) is
-        ∙ shows_at disk w pair a (subst (IsAcceptedImage disk) is ok) (searches.is_site disk ps path a ok leads first spot.pair s.stands.pair s.stands.rest s.stands.place begins)
+    shows : all_entries ps a ≡ shown_at w (pairs_gstate ps) (pair ∷ [])
+    shows = ap (λ z. all_entries z a) is
+        ∙ shows_at disk w pair a (subst (IsAccepted disk) is ok) (searches.is_site disk ps path a ok leads first spot.pair s.stands.pair s.stands.rest s.stands.place begins)
         (searches.same disk ps path a ok leads first spot.pair s.stands.pair s.stands.rest s.stands.place begins)
-        ∙ ap (λ z. shown_at w (gstate_of_pairs z) (pair ∷ [])) (sym is)
+        ∙ ap (λ z. shown_at w (pairs_gstate z) (pair ∷ [])) (sym is)
 
-    h : Has (entries_by_directory_in_thread ps a) u
+    h : Has (all_entries ps a) u
     h =
-        let one = has_left (entries_not_moved (gstate_of_pairs ps) pair) [] u here.at here.is in
-        let two = has_left (flat_map (entries_not_moved (gstate_of_pairs ps)) (pair ∷ [])) (flat_map (entries_not_moved (gstate_of_pairs ps)) w.right) u here.at one in
-        subst (λ z. Has z u) (sym shows) (has_right (flat_map (entries_not_moved (gstate_of_pairs ps)) w.left) (flat_map (entries_not_moved (gstate_of_pairs ps)) (pair ∷ []) ++ flat_map (entries_not_moved (gstate_of_pairs ps)) w.right) u here.at two)
+        let one = has_left (unmoved_entries (pairs_gstate ps) pair) [] u here.at here.is in
+        let two = has_left (flat_map (unmoved_entries (pairs_gstate ps)) (pair ∷ [])) (flat_map (unmoved_entries (pairs_gstate ps)) w.right) u here.at one in
+        subst (λ z. Has z u) (sym shows) (has_right (flat_map (unmoved_entries (pairs_gstate ps)) w.left) (flat_map (unmoved_entries (pairs_gstate ps)) (pair ∷ []) ++ flat_map (unmoved_entries (pairs_gstate ps)) w.right) u here.at two)
 
 drop_to : (xs ys : List Pair) (n : ℕ) → n ≡ length xs → drop n (xs ++ ys) ≡ ys
 drop_to [] ys n e = ap (λ k. drop k ys) e
 drop_to (x ∷ xs) ys n e = ap (λ k. drop k (x ∷ (xs ++ ys))) e ∙ drop_to xs ys (length xs) refl
 
 -- nothing of the name is shown
-pub absent_is_shown : (disk : Disk) (ps : List Pair) (path : Path) (a : ℕ × ℕ) (moved : Option SlotPosition) (first : ℕ) (name : Name) → IsAcceptedImage disk ps → HidesMovedSlotInPairsFromIndex (gstate_of_pairs ps) moved 0 ps
-    → IsPathToDirectory ps path a → IsPairAtAddress ps a first → IsNameAbsentAlongHardTails moved first (drop first ps) name → slot_of_path ps (path ++ name ∷ []) ≡ None
-absent_is_shown disk ps path a moved first name ok hides leads begins absent = walk_below (entries_by_directory_in_thread ps) (root_slot (root_directory_address_of_pairs ps)) path a leads name [] ∙ ap (option_and_then (λ z. Some z)) (none_named name (entries_by_directory_in_thread ps a) each)
+pub absent_is_shown : (disk : Disk) (ps : List Pair) (path : Path) (a : ℕ × ℕ) (moved : Option SlotPosition) (first : ℕ) (name : Name) → IsAccepted disk ps → HidesFrom (pairs_gstate ps) moved 0 ps
+    → LeadsTo ps path a → IsPairAt ps a first → IsAbsent moved first (drop first ps) name → slot_of ps (path ++ name ∷ []) ≡ None
+absent_is_shown disk ps path a moved first name ok hides leads begins absent = walk_below (all_entries ps) (root_slot (root_address ps)) path a leads name [] ∙ ap (option_and_then (λ z. Some z)) (none_named name (all_entries ps a) each)
   where
     begun : IsDirectory ps a first
     begun = begins_directory disk ps path a first ok leads begins
 
-    d : HasDirectory (pairs_from_root_directory_on ps) a
+    d : HasDirectory (pairs_from_root ps) a
     d = begun.directory
 
     g : Gstate
-    g = gstate_of_pairs ps
+    g = pairs_gstate ps
 
     chain : List Pair
     chain = take (pair_count_before_root ps) ps
@@ -220,20 +220,20 @@ absent_is_shown disk ps path a moved first name ok hides leads begins absent = w
     behind : drop first ps ≡ d.first ∷ (d.run ++ d.after)
     behind = ap (drop first) whole ∙ drop_to (take (pair_count_before_root ps) ps ++ d.before) (d.first ∷ (d.run ++ d.after)) first (sym count)
 
-    hidden : HidesMovedSlotInPairsFromIndex (gstate_of_pairs ps) moved first (d.first ∷ (d.run ++ d.after))
-    hidden = subst (λ (i : ℕ). HidesMovedSlotInPairsFromIndex (gstate_of_pairs ps) moved i (d.first ∷ (d.run ++ d.after))) (let c = count in let k : 0 + length (take (pair_count_before_root ps) ps ++ d.before) ≡ first = omega (arith, c) in k)
-        (hides_behind (gstate_of_pairs ps) moved 0 (take (pair_count_before_root ps) ps ++ d.before) (d.first ∷ (d.run ++ d.after)) (subst (HidesMovedSlotInPairsFromIndex (gstate_of_pairs ps) moved 0) whole hides))
+    hidden : HidesFrom (pairs_gstate ps) moved first (d.first ∷ (d.run ++ d.after))
+    hidden = subst (λ (i : ℕ). HidesFrom (pairs_gstate ps) moved i (d.first ∷ (d.run ++ d.after))) (let c = count in let k : 0 + length (take (pair_count_before_root ps) ps ++ d.before) ≡ first = omega (arith, c) in k)
+        (hides_behind (pairs_gstate ps) moved 0 (take (pair_count_before_root ps) ps ++ d.before) (d.first ∷ (d.run ++ d.after)) (subst (HidesFrom (pairs_gstate ps) moved 0) whole hides))
 
-    dirs : directories_of_pairs (gstate_of_pairs ps) (pairs_from_root_directory_on ps) ≡ directories_of_pairs (gstate_of_pairs ps) d.before ++ listing d.first.at (flat_map (entries_not_moved (gstate_of_pairs ps)) (d.first ∷ d.run)) ∷ directories_of_pairs (gstate_of_pairs ps) d.after
-    dirs = ap (directories_of_pairs (gstate_of_pairs ps)) d.is ∙ run_directories (gstate_of_pairs ps) d.before d.first d.run d.after d.ends d.is_run
+    dirs : pair_directories (pairs_gstate ps) (pairs_from_root ps) ≡ pair_directories (pairs_gstate ps) d.before ++ listing d.first.at (flat_map (unmoved_entries (pairs_gstate ps)) (d.first ∷ d.run)) ∷ pair_directories (pairs_gstate ps) d.after
+    dirs = ap (pair_directories (pairs_gstate ps)) d.is ∙ run_directories (pairs_gstate ps) d.before d.first d.run d.after d.ends d.is_run
 
-    apart : Apart (directories_of_pairs (gstate_of_pairs ps) (pairs_from_root_directory_on ps))
-    apart = distinct_apart (gstate_of_pairs ps) (pairs_from_root_directory_on ps) (distinct_right (take (pair_count_before_root ps) ps) (pairs_from_root_directory_on ps) (subst (λ z. IsDistinct nat_eq (blocks_of_pairs z)) (chain_of_thread ps).0 ok.thread.distinct))
+    apart : Apart (pair_directories (pairs_gstate ps) (pairs_from_root ps))
+    apart = distinct_apart (pairs_gstate ps) (pairs_from_root ps) (distinct_right (take (pair_count_before_root ps) ps) (pairs_from_root ps) (subst (λ z. IsDistinct nat_eq (blocks_of_pairs z)) (chain_of_thread ps).0 ok.thread.distinct))
 
-    shows : entries_by_directory_in_thread ps a ≡ flat_map (entries_not_moved (gstate_of_pairs ps)) (d.first ∷ d.run)
-    shows = ap (λ ds. entries_of_directory ds a) dirs
-        ∙ entries_own (directories_of_pairs (gstate_of_pairs ps) d.before) (listing d.first.at (flat_map (entries_not_moved (gstate_of_pairs ps)) (d.first ∷ d.run))) (directories_of_pairs (gstate_of_pairs ps) d.after) a (subst Apart dirs apart) d.at
+    shows : all_entries ps a ≡ flat_map (unmoved_entries (pairs_gstate ps)) (d.first ∷ d.run)
+    shows = ap (λ ds. directory_slots ds a) dirs
+        ∙ entries_own (pair_directories (pairs_gstate ps) d.before) (listing d.first.at (flat_map (unmoved_entries (pairs_gstate ps)) (d.first ∷ d.run))) (pair_directories (pairs_gstate ps) d.after) a (subst Apart dirs apart) d.at
 
-    each : Each (IsOther name) (entries_by_directory_in_thread ps a)
+    each : Each (IsOther name) (all_entries ps a)
     each = subst (Each (IsOther name)) (sym shows)
-        (absent_run (gstate_of_pairs ps) moved first d.first d.run d.after name d.is_run hidden (subst (λ z. IsNameAbsentAlongHardTails moved first z name) behind absent))
+        (absent_run (pairs_gstate ps) moved first d.first d.run d.after name d.is_run hidden (subst (λ z. IsAbsent moved first z name) behind absent))

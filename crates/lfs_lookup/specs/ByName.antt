@@ -2,13 +2,13 @@
 use Rattle.std.specs.Prelude.{Bool, List}
 use Rattle.std.specs.List.Sorted.{IsPermutation, IsSortedBy}
 use Rattle.lfs_model.specs.declared.order.NameOrder.TheVariants.{ShorterFirst}
-use Rattle.lfs_model.specs.Names.{name_cmp, is_less_ordering}
-use Rattle.lfs_lookup.specs.Items.{NameAndStruct}
+use Rattle.lfs_model.specs.format.Names.{name_cmp, is_less}
+use Rattle.lfs_lookup.specs.Items.{NamedStruct}
 
-abbrev pub comes_before_by_name_shorter_first : NameAndStruct → NameAndStruct → Bool
-comes_before_by_name_shorter_first a b = is_less_ordering (name_cmp ShorterFirst a.name b.name)
+abbrev pub precedes_shorter : NamedStruct → NamedStruct → Bool
+precedes_shorter a b = is_less (name_cmp ShorterFirst a.name b.name)
 
 -- the same entries, sorted by name
-pub record AreSameEntriesSortedShorterNameFirst (shapes others : List NameAndStruct) : Type 0 where
+pub record AreShorterFirst (shapes others : List NamedStruct) : Type 0 where
   pub permutation : IsPermutation shapes others
-  pub sorted : IsSortedBy comes_before_by_name_shorter_first others
+  pub sorted : IsSortedBy precedes_shorter others

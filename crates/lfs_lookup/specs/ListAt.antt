@@ -1,29 +1,29 @@
 -- What a list returns of an entry.
 use Rattle.std.specs.Prelude.{ℕ, ◌<◌, ◌≤◌, List, [], ◌∷◌, length, Option, Some, None}
-use Rattle.lfs_model.specs.Names.{name_limit}
-use Rattle.lfs_model.specs.Operations as ops
-use Rattle.lfs_model.specs.Slots.{Struct, Inline, Ctz, Branch}
-use Rattle.lfs_lookup.specs.Items.{NameAndStruct}
+use Rattle.lfs_model.specs.format.Names.{name_limit}
+use Rattle.lfs_model.specs.session.Operations as ops
+use Rattle.lfs_model.specs.format.Slots.{Struct, Inline, Ctz, Branch}
+use Rattle.lfs_lookup.specs.Items.{NamedStruct}
 
 -- how many bytes a file has
-abbrev pub listed_size_of_struct_if_file : Struct → Option ℕ
-listed_size_of_struct_if_file (Inline bytes) = Some (length bytes)
-listed_size_of_struct_if_file (Ctz head size) = Some size
-listed_size_of_struct_if_file (Branch to) = None
+abbrev pub listed_struct_size : Struct → Option ℕ
+listed_struct_size (Inline bytes) = Some (length bytes)
+listed_struct_size (Ctz head size) = Some size
+listed_struct_size (Branch to) = None
 
-abbrev pub listed_item_of_entry : NameAndStruct → ops.ListedEntry
-listed_item_of_entry x = record { name = x.name; size = listed_size_of_struct_if_file x.struct }
+abbrev pub listed_item : NamedStruct → ops.ListedEntry
+listed_item x = record { name = x.name; size = listed_struct_size x.struct }
 
 -- inline bytes are in an entry
-abbrev pub IsInlineStructShorterThanTagLength : Struct → Type 0
-IsInlineStructShorterThanTagLength (Inline bytes) = length bytes < 0x3ff
-IsInlineStructShorterThanTagLength (Ctz head size) = Unit {0}
-IsInlineStructShorterThanTagLength (Branch to) = Unit {0}
+abbrev pub StructFitsTag : Struct → Type 0
+StructFitsTag (Inline bytes) = length bytes < 0x3ff
+StructFitsTag (Ctz head size) = Unit {0}
+StructFitsTag (Branch to) = Unit {0}
 
 -- so do names, which are no longer than a new one may be
-abbrev pub IsEntryInNameAndInlineLimits : NameAndStruct → Type 0
-IsEntryInNameAndInlineLimits x = IsInlineStructShorterThanTagLength x.struct × (length x.name ≤ name_limit)
+abbrev pub IsInLimits : NamedStruct → Type 0
+IsInLimits x = StructFitsTag x.struct × (length x.name ≤ name_limit)
 
-abbrev pub AreEntriesInNameAndInlineLimits : List NameAndStruct → Type 0
-AreEntriesInNameAndInlineLimits [] = Unit {0}
-AreEntriesInNameAndInlineLimits (x ∷ xs) = IsEntryInNameAndInlineLimits x × AreEntriesInNameAndInlineLimits xs
+abbrev pub AreInLimits : List NamedStruct → Type 0
+AreInLimits [] = Unit {0}
+AreInLimits (x ∷ xs) = IsInLimits x × AreInLimits xs

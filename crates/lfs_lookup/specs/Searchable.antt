@@ -1,10 +1,10 @@
 -- What a search needs.
 use Rattle.std.specs.Prelude.{ℕ, ◌≡◌, ◌<◌, false, length, Option, IfSome, IsSome}
-use Rattle.lfs_model.specs.Thread.{pair_count_before_root}
-use Rattle.lfs_model.specs.View.{IsAcceptedImage}
+use Rattle.lfs_model.specs.format.Thread.{pair_count_before_root}
+use Rattle.lfs_model.specs.tree.View.{IsAccepted}
 use Rattle.lfs_thread.specs.CachedLog.{cached_log}
 use Rattle.lfs_thread.specs.Kept.{ThreadView}
-use Rattle.lfs_lookup.specs.Paths.{HidesOnlyMovedSlot, IsAcceptedImageWithZeroGstate}
+use Rattle.lfs_lookup.specs.LookupPaths.{HidesMovedSlot, IsSettled}
 use Rattle.lfs_lookup.specs.declared.search.SlotPosition.{SlotPosition}
 
 -- the thread works, and has a pair of that number
@@ -19,17 +19,17 @@ pub record CanReadCachedSlot (t : ThreadView) (slot : Option SlotPosition) : Typ
   pub cached_log : IfSome slot (λ s. IsSome (cached_log t s.pair))
 
 -- the thread works, its image is accepted, and that slot and no other counts as deleted
-pub record CanSearchWithSlotHidden (t : ThreadView) (moved : Option SlotPosition) : Type 0 where
+pub record CanSearchHidden (t : ThreadView) (moved : Option SlotPosition) : Type 0 where
   pub works : t.failed ≡ false
-  pub hiding : HidesOnlyMovedSlot t.kept moved
+  pub hiding : HidesMovedSlot t.kept moved
 
 -- the thread works, and its image is accepted and has nothing to recover
-pub record CanSearchRecoveredImage (t : ThreadView) : Type 0 where
+pub record CanSearchRecovered (t : ThreadView) : Type 0 where
   pub works : t.failed ≡ false
-  pub settled : IsAcceptedImageWithZeroGstate t.kept
+  pub settled : IsSettled t.kept
 
 -- the thread works, its image is accepted, and the root directory begins with the pair of that number
 pub record CanSearchFromRoot (t : ThreadView) (first : ℕ) : Type 0 where
   pub works : t.failed ≡ false
-  pub accepted : IsAcceptedImage t.kept.disk t.kept.pairs
+  pub accepted : IsAccepted t.kept.disk t.kept.pairs
   pub root : first ≡ pair_count_before_root t.kept.pairs

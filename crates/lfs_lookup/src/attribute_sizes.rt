@@ -1,23 +1,23 @@
 // How many bytes of its pair the attributes of an entry take.
 
 ghost use Rattle.std.specs.Prelude.{◌≡◌, ◌<◌, ◌+◌, IfErr, IfOk, IsSome, Some, false, length, map, slice_get};
-ghost use Rattle.lfs_model.specs.TreeEdits.{attributes_of_node};
-ghost use Rattle.lfs_model.specs.Content.{slot_of_id};
-ghost use Rattle.lfs_model.specs.Frame.{ancestor_paths_of_path};
-ghost use Rattle.lfs_model.specs.LoggedContent.{AreAttributesInTypeOrder, AreWellFormedRawSlots};
-ghost use Rattle.lfs_model.specs.Slots.{PairContent as ModelContent, Slot as ModelSlot, attributes_size};
-ghost use Rattle.lfs_model.specs.Shown.{tree_on_disk};
+ghost use Rattle.lfs_model.specs.session.TreeEdits.{node_attributes_of};
+ghost use Rattle.lfs_model.specs.format.Content.{slot_of_id};
+ghost use Rattle.lfs_model.specs.crash.Frame.{ancestor_paths};
+ghost use Rattle.lfs_model.specs.layers.LoggedContent.{AttributesInOrder, AreWellFormed};
+ghost use Rattle.lfs_model.specs.format.Slots.{PairContent as ModelContent, Slot as ModelSlot, attributes_size};
+ghost use Rattle.lfs_model.specs.tree.Shown.{tree_on_disk};
 ghost use Rattle.lfs_tag.specs.ContentView.{attribute_view, slot_view};
-ghost use Rattle.lfs_thread.specs.CachedLog.{IsLogBlockOfContent, cached_log};
+ghost use Rattle.lfs_thread.specs.CachedLog.{IsContentLog, cached_log};
 ghost use Rattle.lfs_lookup.specs.AttributeAt.{IsAttributesSize};
-ghost use Rattle.lfs_lookup.specs.BytesAt.{IsSlotAtSpot};
-ghost use Rattle.lfs_lookup.specs.Reading.{OnlyReadsThreadAndReportsErrors};
-ghost use Rattle.lfs_lookup.specs.Search.{HasLogWhoseSlotsHaveNameAndStruct};
+ghost use Rattle.lfs_lookup.specs.BytesAt.{IsSpotSlot};
+ghost use Rattle.lfs_lookup.specs.LookupReading.{OnlyReadsThreadAndReportsErrors};
+ghost use Rattle.lfs_lookup.specs.NameSearch.{HasCompleteLog};
 ghost use Rattle.lfs_lookup.specs.Reads.{ReadsFewUncachedPairs};
 ghost use Rattle.lfs_lookup.specs.Searchable.{CanSearchFromRoot};
 
-use crate::attributes::spot_of_entry_if_found;
-use crate::by_path::lookup_result_at_path;
+use crate::attributes::spot_if_found;
+use crate::by_path::look_up_path;
 use crate::path::Path;
 use crate::search::SlotPosition;
 use lfs_device::{BlockDevice, Error};
@@ -26,8 +26,8 @@ use lfs_thread::Thread;
 use std::alloc::Global;
 
 // Returns the sizes of attributes together: each takes its tag and its bytes.
-fn size_of_all_attributes(attributes: &[Attribute<'_>]) -> usize
-    requires { AreAttributesInTypeOrder 0 (map attribute_view attributes.now) }
+fn total_attributes_size(attributes: &[Attribute<'_>]) -> usize
+    requires { AttributesInOrder 0 (map attribute_view attributes.now) }
     ensures { result ≡ attributes_size (map attribute_view attributes.now) }
 {
     let mut size = 0;
@@ -38,28 +38,28 @@ fn size_of_all_attributes(attributes: &[Attribute<'_>]) -> usize
 }
 
 // Returns the size of the attributes of the slot at an id. There is no slot past the last.
-fn attributes_size_of_id_in_slots(slots: &[Slot<'_>], id: u16) -> usize
-    requires { AreWellFormedRawSlots (map slot_view slots.now) }
+fn size_in_slots(slots: &[Slot<'_>], id: u16) -> usize
+    requires { AreWellFormed (map slot_view slots.now) }
     ensures { result ≡ attributes_size (slot_of_id (map slot_view slots.now) id).attributes }
 {
     match slots.get(usize::from(id)) {
-        Some(slot) => size_of_all_attributes(&slot.attributes),
+        Some(slot) => total_attributes_size(&slot.attributes),
         None => 0,
     }
 }
 
 // Returns the size of the attributes of a slot of a log.
-fn attributes_size_of_id_in_log(alloc: Global, log: &Log<'_>, id: u16) -> Result<usize, Error>
-    requires { HasLogWhoseSlotsHaveNameAndStruct log.now }
-    ensures is { (content : ModelContent) (slot : ModelSlot) → IsLogBlockOfContent log.now content → slice_get content.slots id ≡ Some slot → IfOk result (IsAttributesSize slot.attributes) }
+fn size_in_log(alloc: Global, log: &Log<'_>, id: u16) -> Result<usize, Error>
+    requires { HasCompleteLog log.now }
+    ensures is { (content : ModelContent) (slot : ModelSlot) → IsContentLog log.now content → slice_get content.slots id ≡ Some slot → IfOk result (IsAttributesSize slot.attributes) }
     ensures errors { IfErr result (λ e. e ≡ Error.NoMemory) }
 {
     let content = Content::read(alloc, log)?;
-    Ok(attributes_size_of_id_in_slots(&content.slots, id))
+    Ok(size_in_slots(&content.slots, id))
 }
 
 // Returns the size of the attributes of a slot, whose block is loaded into the cache.
-fn attributes_size_of_slot<D: BlockDevice>(
+fn attributes_size_in<D: BlockDevice>(
     alloc: Global,
     thread: &mut Thread<D>,
     slot: SlotPosition,
@@ -67,36 +67,36 @@ fn attributes_size_of_slot<D: BlockDevice>(
     requires works { thread.old.failed ≡ false }
     requires below { slot.pair < length thread.old.kept.pairs }
     requires cached_log { IsSome (cached_log thread.old slot.pair) }
-    ensures is { (held : ModelSlot) → IsSlotAtSpot thread.old.kept slot held → IfOk result (IsAttributesSize held.attributes) }
+    ensures is { (held : ModelSlot) → IsSpotSlot thread.old.kept slot held → IfOk result (IsAttributesSize held.attributes) }
     ensures no_call { thread.new.kept ≡ thread.old.kept }
     ensures reading { OnlyReadsThreadAndReportsErrors thread.old thread.new result }
 {
     thread.load_pair(slot.pair)?;
-    attributes_size_of_id_in_log(alloc, &thread.lend(slot.pair).unwrap(), slot.id)
+    size_in_log(alloc, &thread.lend(slot.pair).unwrap(), slot.id)
 }
 
 /// Returns how many bytes the attributes of the entry at a path take in its pair, each with its tag
 /// of 4 bytes. Returns 0 where no entry is there, and for the root. The call reads no more pairs
-/// than the directories above the path have, as [`crate::lookup_result_at_path`], and none where all these are
+/// than the directories above the path have, as [`crate::look_up_path`], and none where all these are
 /// cached.
 ///
 /// `root` is the number of the root directory's first pair.
 ///
 /// Errors: `Io` where a read failed. `NoMemory` where memory isn't granted.
-pub fn find_total_size_of_attributes_at_path<D: BlockDevice>(
+pub fn attributes_size_at<D: BlockDevice>(
     alloc: Global,
     thread: &mut Thread<D>,
     root: usize,
     path: &Path<'_>,
 ) -> Result<usize, Error>
     requires { CanSearchFromRoot thread.old root }
-    ensures is { IfOk result (IsAttributesSize (attributes_of_node (tree_on_disk thread.old.kept.disk thread.old.kept.pairs path.now))) }
-    ensures reads { ReadsFewUncachedPairs (ancestor_paths_of_path path.now) thread.old thread.new }
+    ensures is { IfOk result (IsAttributesSize (node_attributes_of (tree_on_disk thread.old.kept.disk thread.old.kept.pairs path.now))) }
+    ensures reads { ReadsFewUncachedPairs (ancestor_paths path.now) thread.old thread.new }
     ensures reading { OnlyReadsThreadAndReportsErrors thread.old thread.new result }
 {
-    let shown = lookup_result_at_path(alloc, thread, root, path)?;
-    let Some(slot) = spot_of_entry_if_found(shown) else {
+    let shown = look_up_path(alloc, thread, root, path)?;
+    let Some(slot) = spot_if_found(shown) else {
         return Ok(0);
     };
-    attributes_size_of_slot(alloc, thread, slot)
+    attributes_size_in(alloc, thread, slot)
 }

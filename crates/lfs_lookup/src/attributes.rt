@@ -2,21 +2,21 @@
 
 ghost use Rattle.std.specs.Prelude.{◌≡◌, ◌<◌, ◌≤◌, ◌+◌, IfErr, IfOk, IfSome, IsSome, Some, length, slice_get};
 ghost use Rattle.std.specs.Option.{option_copied, option_map};
-ghost use Rattle.lfs_model.specs.TreeEdits.{attributes_of_node};
-ghost use Rattle.lfs_model.specs.Content.{attribute_bytes_of_type};
-ghost use Rattle.lfs_model.specs.Frame.{ancestor_paths_of_path};
-ghost use Rattle.lfs_model.specs.Slots.{Attributes, PairContent as ModelContent, Slot};
-ghost use Rattle.lfs_model.specs.Shown.{tree_on_disk};
-ghost use Rattle.lfs_thread.specs.CachedLog.{IsLogBlockOfContent, cached_log};
-ghost use Rattle.lfs_lookup.specs.AttributeAt.{AreAttributesOfSlotAtSpot, IsAttributeOfTypeOrNone, IsAttributeInSizeLimit, spot_of_lookup_result};
-ghost use Rattle.lfs_lookup.specs.BytesAt.{IsSlotAtSpot};
-ghost use Rattle.lfs_lookup.specs.Finds.{IsFoundNodeAtPath};
-ghost use Rattle.lfs_lookup.specs.Reading.{OnlyReadsThreadAndReportsErrors};
-ghost use Rattle.lfs_lookup.specs.Search.{HasLogWhoseSlotsHaveNameAndStruct};
+ghost use Rattle.lfs_model.specs.session.TreeEdits.{node_attributes_of};
+ghost use Rattle.lfs_model.specs.format.Content.{attribute_bytes};
+ghost use Rattle.lfs_model.specs.crash.Frame.{ancestor_paths};
+ghost use Rattle.lfs_model.specs.format.Slots.{Attributes, PairContent as ModelContent, Slot};
+ghost use Rattle.lfs_model.specs.tree.Shown.{tree_on_disk};
+ghost use Rattle.lfs_thread.specs.CachedLog.{IsContentLog, cached_log};
+ghost use Rattle.lfs_lookup.specs.AttributeAt.{AreAttributesAt, IsAttribute, AttributeFits, lookup_spot};
+ghost use Rattle.lfs_lookup.specs.BytesAt.{IsSpotSlot};
+ghost use Rattle.lfs_lookup.specs.Finds.{IsFoundNode};
+ghost use Rattle.lfs_lookup.specs.LookupReading.{OnlyReadsThreadAndReportsErrors};
+ghost use Rattle.lfs_lookup.specs.NameSearch.{HasCompleteLog};
 ghost use Rattle.lfs_lookup.specs.Reads.{ReadsFewUncachedPairs};
 ghost use Rattle.lfs_lookup.specs.Searchable.{CanReadPair, CanReadCachedSlot, CanSearchFromRoot};
 
-use crate::by_path::{found_node_from_lookup_result, lookup_result_at_path};
+use crate::by_path::{found_node, look_up_path};
 use crate::found_entries::FoundAttribute;
 use crate::path::Path;
 use crate::paths::VisiblePathLookup;
@@ -30,15 +30,15 @@ use std::alloc::{AllocError, Global};
 // Returns the bytes of an attribute of a slot of a log. Returns None where the slot hasn't that
 // attribute.
 fn attribute_in_log<'a>(log: &Log<'a>, kind: u8, id: u16) -> Option<&'a [u8]>
-    requires { HasLogWhoseSlotsHaveNameAndStruct log.now }
+    requires { HasCompleteLog log.now }
     ensures short { IfSome result (λ bytes. length bytes.now ≤ 1022) }
-    ensures is { (content : ModelContent) (slot : Slot) → IsLogBlockOfContent log.now content → slice_get content.slots id ≡ Some slot → option_copied result ≡ attribute_bytes_of_type kind slot.attributes }
+    ensures is { (content : ModelContent) (slot : Slot) → IsContentLog log.now content → slice_get content.slots id ≡ Some slot → option_copied result ≡ attribute_bytes kind slot.attributes }
 {
     get(log, ATTRIBUTE + u16::from(kind), id, &mut Steps::new())
 }
 
 // Copies bytes, if there are any.
-fn copy_of_optional_bytes(
+fn copy_optional_bytes(
     alloc: Global,
     bytes: Option<&[u8]>,
 ) -> Result<Option<Vec<u8>>, AllocError>
@@ -54,18 +54,18 @@ fn copy_of_optional_bytes(
 }
 
 // Copies an attribute of a slot of a log.
-fn copy_attribute_from_log(
+fn attribute_from_log(
     alloc: Global,
     log: &Log<'_>,
     kind: u8,
     id: u16,
 ) -> Result<Option<Vec<u8>>, Error>
-    requires { HasLogWhoseSlotsHaveNameAndStruct log.now }
-    ensures short { IfOk result IsAttributeInSizeLimit }
-    ensures is { (content : ModelContent) (slot : Slot) → IsLogBlockOfContent log.now content → slice_get content.slots id ≡ Some slot → IfOk result (IsAttributeOfTypeOrNone kind slot.attributes) }
+    requires { HasCompleteLog log.now }
+    ensures short { IfOk result AttributeFits }
+    ensures is { (content : ModelContent) (slot : Slot) → IsContentLog log.now content → slice_get content.slots id ≡ Some slot → IfOk result (IsAttribute kind slot.attributes) }
     ensures errors { IfErr result (λ e. e ≡ Error.NoMemory) }
 {
-    let found = copy_of_optional_bytes(alloc, attribute_in_log(log, kind, id))?;
+    let found = copy_optional_bytes(alloc, attribute_in_log(log, kind, id))?;
     Ok(found)
 }
 
@@ -78,18 +78,18 @@ fn attribute_of_slot<D: BlockDevice>(
 ) -> Result<Option<Vec<u8>>, Error>
     requires can { CanReadPair thread.old slot.pair }
     requires cached_log { IsSome (cached_log thread.old slot.pair) }
-    ensures short { IfOk result IsAttributeInSizeLimit }
-    ensures is { (held : Slot) → IsSlotAtSpot thread.old.kept slot held → IfOk result (IsAttributeOfTypeOrNone kind held.attributes) }
+    ensures short { IfOk result AttributeFits }
+    ensures is { (held : Slot) → IsSpotSlot thread.old.kept slot held → IfOk result (IsAttribute kind held.attributes) }
     ensures no_call { thread.new.kept ≡ thread.old.kept }
     ensures reading { OnlyReadsThreadAndReportsErrors thread.old thread.new result }
 {
     thread.load_pair(slot.pair)?;
-    copy_attribute_from_log(alloc, &thread.lend(slot.pair).unwrap(), kind, slot.id)
+    attribute_from_log(alloc, &thread.lend(slot.pair).unwrap(), kind, slot.id)
 }
 
 // Returns the slot of a file or of a directory. The root has none.
-pub(crate) fn spot_of_entry_if_found(shown: VisiblePathLookup) -> Option<SlotPosition>
-    ensures { result ≡ spot_of_lookup_result shown }
+pub(crate) fn spot_if_found(shown: VisiblePathLookup) -> Option<SlotPosition>
+    ensures { result ≡ lookup_spot shown }
 {
     match shown {
         VisiblePathLookup::File { slot, .. } => Some(slot),
@@ -99,15 +99,15 @@ pub(crate) fn spot_of_entry_if_found(shown: VisiblePathLookup) -> Option<SlotPos
 }
 
 // Returns an attribute of the slot, if there is one.
-fn attribute_of_optional_slot<D: BlockDevice>(
+fn attribute_if_slot<D: BlockDevice>(
     alloc: Global,
     thread: &mut Thread<D>,
     slot: Option<SlotPosition>,
     kind: u8,
 ) -> Result<Option<Vec<u8>>, Error>
     requires { CanReadCachedSlot thread.old slot }
-    ensures short { IfOk result IsAttributeInSizeLimit }
-    ensures is { (attributes : Attributes) → AreAttributesOfSlotAtSpot thread.old.kept slot attributes → IfOk result (IsAttributeOfTypeOrNone kind attributes) }
+    ensures short { IfOk result AttributeFits }
+    ensures is { (attributes : Attributes) → AreAttributesAt thread.old.kept slot attributes → IfOk result (IsAttribute kind attributes) }
     ensures no_call { thread.new.kept ≡ thread.old.kept }
     ensures reading { OnlyReadsThreadAndReportsErrors thread.old thread.new result }
 {
@@ -119,12 +119,12 @@ fn attribute_of_optional_slot<D: BlockDevice>(
 
 /// Returns what a path leads to, and its attribute of type `kind`, if it has one. The attribute has
 /// at most 1,022 bytes; the root has none. The call reads no more pairs than the directories above
-/// the path have, as [`crate::lookup_result_at_path`], and none where all these are cached.
+/// the path have, as [`crate::look_up_path`], and none where all these are cached.
 ///
 /// `root` is the number of the root directory's first pair.
 ///
 /// Errors: `Io` where a read failed. `NoMemory` where memory isn't granted.
-pub fn find_attribute_at_path<D: BlockDevice>(
+pub fn find_attribute<D: BlockDevice>(
     alloc: Global,
     thread: &mut Thread<D>,
     root: usize,
@@ -132,18 +132,18 @@ pub fn find_attribute_at_path<D: BlockDevice>(
     kind: u8,
 ) -> Result<FoundAttribute, Error>
     requires { CanSearchFromRoot thread.old root }
-    ensures found { IfOk result (λ found. IsFoundNodeAtPath (tree_on_disk thread.old.kept.disk thread.old.kept.pairs) path.now found.finding) }
-    ensures short { IfOk result (λ found. IsAttributeInSizeLimit found.bytes) }
-    ensures is { IfOk result (λ found. IsAttributeOfTypeOrNone kind (attributes_of_node (tree_on_disk thread.old.kept.disk thread.old.kept.pairs path.now)) found.bytes) }
-    ensures reads { ReadsFewUncachedPairs (ancestor_paths_of_path path.now) thread.old thread.new }
+    ensures found { IfOk result (λ found. IsFoundNode (tree_on_disk thread.old.kept.disk thread.old.kept.pairs) path.now found.finding) }
+    ensures short { IfOk result (λ found. AttributeFits found.bytes) }
+    ensures is { IfOk result (λ found. IsAttribute kind (node_attributes_of (tree_on_disk thread.old.kept.disk thread.old.kept.pairs path.now)) found.bytes) }
+    ensures reads { ReadsFewUncachedPairs (ancestor_paths path.now) thread.old thread.new }
     ensures reading { OnlyReadsThreadAndReportsErrors thread.old thread.new result }
 {
-    let shown = lookup_result_at_path(alloc, thread, root, path)?;
-    let bytes = attribute_of_optional_slot(alloc, thread, spot_of_entry_if_found(shown), kind)?;
+    let shown = look_up_path(alloc, thread, root, path)?;
+    let bytes = attribute_if_slot(alloc, thread, spot_if_found(shown), kind)?;
     // By the sizes of its blocks a list has as many bytes as its entry says.
     let _device = thread.device();
     Ok(FoundAttribute {
-        finding: found_node_from_lookup_result(shown),
+        finding: found_node(shown),
         bytes,
     })
 }

@@ -1,16 +1,16 @@
 // What paths lead to, in a thread.
 
 ghost use Rattle.std.specs.Prelude.{◌≡◌, ◌≤◌, ◌+◌, ◌++◌, [], ◌∷◌, IfOk, None, sum_by};
-ghost use Rattle.lfs_model.specs.Frame.{pair_count_of_directory_at, ancestor_paths_of_path};
-ghost use Rattle.lfs_model.specs.History.{read_count_of_history};
-ghost use Rattle.lfs_model.specs.Slots.{zero_gstate};
-ghost use Rattle.lfs_model.specs.Thread.{gstate_of_pairs};
-ghost use Rattle.lfs_model.specs.Shown.{tree_on_disk};
-ghost use Rattle.lfs_lookup.specs.AtPath.{IsInlineStorageShorterThanTagLength, IsInlineFileShorterThanTagLengthIfFound, IsLookupNotRefusedByParents, IsLookupResultAtPathHidingMovedSlot, node_and_parent_refusal_of_lookup_result, first_pair_of_found_directory, file_size_of_storage};
-ghost use Rattle.lfs_lookup.specs.AttributeAt.{IsLogBlockOfFoundSlotCached};
-ghost use Rattle.lfs_lookup.specs.Finds.{IsFoundNodeAtPath, has_entry_beneath_path};
+ghost use Rattle.lfs_model.specs.crash.Frame.{pair_count_at, ancestor_paths};
+ghost use Rattle.lfs_model.specs.session.History.{read_count};
+ghost use Rattle.lfs_model.specs.format.Slots.{zero_gstate};
+ghost use Rattle.lfs_model.specs.format.Thread.{pairs_gstate};
+ghost use Rattle.lfs_model.specs.tree.Shown.{tree_on_disk};
+ghost use Rattle.lfs_lookup.specs.AtPath.{InlineFitsTag, FoundInlineFits, ParentsAllowLookup, IsResult, node_or_refusal, found_pair, storage_size};
+ghost use Rattle.lfs_lookup.specs.AttributeAt.{IsFoundCached};
+ghost use Rattle.lfs_lookup.specs.Finds.{IsFoundNode, has_entry_beneath};
 ghost use Rattle.lfs_lookup.specs.declared.found_entries.Node.TheVariants.{Directory, File, Nothing};
-ghost use Rattle.lfs_lookup.specs.Reading.{OnlyReadsThreadAndReportsErrors};
+ghost use Rattle.lfs_lookup.specs.LookupReading.{OnlyReadsThreadAndReportsErrors};
 ghost use Rattle.lfs_lookup.specs.Reads.{ReadsFewPairsOnPaths};
 ghost use Rattle.lfs_lookup.specs.Searchable.{CanSearchFromRoot};
 
@@ -18,7 +18,7 @@ use crate::directory::has_entries;
 use crate::entry::FileStorage;
 use crate::found_entries::{FoundNode, Node, NodeAndEmptiness};
 use crate::path::Path;
-use crate::paths::{VisiblePathLookup, look_up_with_moved_slot_hidden, spot_of_moved_slot};
+use crate::paths::{VisiblePathLookup, look_up_unmoved, moved_slot_spot};
 use crate::refusal::{Refusal, to_refusal};
 use lfs_device::{BlockDevice, Error};
 use lfs_thread::Thread;
@@ -33,28 +33,28 @@ use std::alloc::Global;
 /// `root` is the number of the root directory's first pair.
 ///
 /// Errors: `Io` where a read failed. `NoMemory` where memory isn't granted.
-pub fn lookup_result_at_path<D: BlockDevice>(
+pub fn look_up_path<D: BlockDevice>(
     alloc: Global,
     thread: &mut Thread<D>,
     root: usize,
     path: &Path<'_>,
 ) -> Result<VisiblePathLookup, Error>
     requires { CanSearchFromRoot thread.old root }
-    ensures shown { IfOk result (IsLookupResultAtPathHidingMovedSlot thread.old.kept path.now) }
-    ensures cached_log { IfOk result (IsLogBlockOfFoundSlotCached thread.new) }
-    ensures reads { ReadsFewPairsOnPaths (gstate_of_pairs thread.old.kept.pairs ≡ zero_gstate) IsLookupNotRefusedByParents (ancestor_paths_of_path path.now) thread.old thread.new result }
+    ensures shown { IfOk result (IsResult thread.old.kept path.now) }
+    ensures cached_log { IfOk result (IsFoundCached thread.new) }
+    ensures reads { ReadsFewPairsOnPaths (pairs_gstate thread.old.kept.pairs ≡ zero_gstate) ParentsAllowLookup (ancestor_paths path.now) thread.old thread.new result }
     ensures reading { OnlyReadsThreadAndReportsErrors thread.old thread.new result }
 {
     let names = path.names(alloc)?;
     let state = thread.state();
-    let moved = spot_of_moved_slot(thread, &state);
-    look_up_with_moved_slot_hidden(thread, root, &names, moved)
+    let moved = moved_slot_spot(thread, &state);
+    look_up_unmoved(thread, root, &names, moved)
 }
 
 // Returns how many bytes a file has.
-fn file_size_of_contents(contents: FileStorage) -> u32
-    requires { IsInlineStorageShorterThanTagLength contents }
-    ensures { result ≡ file_size_of_storage contents }
+fn contents_size(contents: FileStorage) -> u32
+    requires { InlineFitsTag contents }
+    ensures { result ≡ storage_size contents }
 {
     match contents {
         FileStorage::Inline { len } => len as u32,
@@ -63,20 +63,20 @@ fn file_size_of_contents(contents: FileStorage) -> u32
 }
 
 // Makes the finding of a file.
-fn found_node_of_file(contents: FileStorage) -> FoundNode
-    requires { IsInlineStorageShorterThanTagLength contents }
-    ensures { result ≡ record { fault = None; node = File (file_size_of_storage contents) } }
+fn file_found(contents: FileStorage) -> FoundNode
+    requires { InlineFitsTag contents }
+    ensures { result ≡ record { fault = None; node = File (storage_size contents) } }
 {
     FoundNode {
         fault: None,
         node: Node::File {
-            size: file_size_of_contents(contents),
+            size: contents_size(contents),
         },
     }
 }
 
 // Makes the finding of no entry, where a parent may refuse the path.
-fn found_node_of_nothing(fault: Option<Refusal>) -> FoundNode
+fn nothing_found(fault: Option<Refusal>) -> FoundNode
     ensures { result ≡ record { fault = fault; node = Nothing } }
 {
     FoundNode {
@@ -86,7 +86,7 @@ fn found_node_of_nothing(fault: Option<Refusal>) -> FoundNode
 }
 
 // Makes the finding of a directory.
-fn found_node_of_directory() -> FoundNode
+fn directory_found() -> FoundNode
     ensures { result ≡ record { fault = None; node = Directory } }
 {
     FoundNode {
@@ -96,24 +96,24 @@ fn found_node_of_directory() -> FoundNode
 }
 
 /// Returns the finding of what was shown: the parent's refusal, or the entry.
-pub fn found_node_from_lookup_result(shown: VisiblePathLookup) -> FoundNode
-    requires { IsInlineFileShorterThanTagLengthIfFound shown }
-    ensures { result ≡ node_and_parent_refusal_of_lookup_result shown }
+pub fn found_node(shown: VisiblePathLookup) -> FoundNode
+    requires { FoundInlineFits shown }
+    ensures { result ≡ node_or_refusal shown }
 {
     match shown {
-        VisiblePathLookup::Root => found_node_of_directory(),
-        VisiblePathLookup::Directory { .. } => found_node_of_directory(),
-        VisiblePathLookup::File { contents, .. } => found_node_of_file(contents),
-        VisiblePathLookup::Nothing => found_node_of_nothing(None),
-        VisiblePathLookup::ParentIsFile => found_node_of_nothing(Some(to_refusal(Error::NotDir))),
-        VisiblePathLookup::ParentIsMissing => found_node_of_nothing(Some(to_refusal(Error::NoEnt))),
+        VisiblePathLookup::Root => directory_found(),
+        VisiblePathLookup::Directory { .. } => directory_found(),
+        VisiblePathLookup::File { contents, .. } => file_found(contents),
+        VisiblePathLookup::Nothing => nothing_found(None),
+        VisiblePathLookup::ParentIsFile => nothing_found(Some(to_refusal(Error::NotDir))),
+        VisiblePathLookup::ParentIsMissing => nothing_found(Some(to_refusal(Error::NoEnt))),
     }
 }
 
 /// Returns the number of the first pair of the directory that was shown. `root` is the number of
 /// the root directory's first pair.
-pub fn first_pair_of_lookup_result(root: usize, shown: VisiblePathLookup) -> Option<usize>
-    ensures { result ≡ first_pair_of_found_directory root shown }
+pub fn first_pair_found(root: usize, shown: VisiblePathLookup) -> Option<usize>
+    ensures { result ≡ found_pair root shown }
 {
     match shown {
         VisiblePathLookup::Root => Some(root),
@@ -124,26 +124,26 @@ pub fn first_pair_of_lookup_result(root: usize, shown: VisiblePathLookup) -> Opt
 
 /// Looks up a path. Returns a file with its size in bytes, a directory, or nothing. Where a
 /// directory above it isn't there, or isn't one, the refusal is returned, too. The call reads no
-/// more pairs than these directories have, as [`lookup_result_at_path`], and none where all these are cached.
+/// more pairs than these directories have, as [`look_up_path`], and none where all these are cached.
 ///
 /// `root` is the number of the root directory's first pair.
 ///
 /// Errors: `Io` where a read failed. `NoMemory` where memory isn't granted.
-pub fn find_node_at_path<D: BlockDevice>(
+pub fn find_node<D: BlockDevice>(
     alloc: Global,
     thread: &mut Thread<D>,
     root: usize,
     path: &Path<'_>,
 ) -> Result<FoundNode, Error>
     requires { CanSearchFromRoot thread.old root }
-    ensures found { IfOk result (IsFoundNodeAtPath (tree_on_disk thread.old.kept.disk thread.old.kept.pairs) path.now) }
-    ensures reads { ReadsFewPairsOnPaths (gstate_of_pairs thread.old.kept.pairs ≡ zero_gstate) (λ found. found.fault ≡ None) (ancestor_paths_of_path path.now) thread.old thread.new result }
+    ensures found { IfOk result (IsFoundNode (tree_on_disk thread.old.kept.disk thread.old.kept.pairs) path.now) }
+    ensures reads { ReadsFewPairsOnPaths (pairs_gstate thread.old.kept.pairs ≡ zero_gstate) (λ found. found.fault ≡ None) (ancestor_paths path.now) thread.old thread.new result }
     ensures reading { OnlyReadsThreadAndReportsErrors thread.old thread.new result }
 {
-    let shown = lookup_result_at_path(alloc, thread, root, path)?;
+    let shown = look_up_path(alloc, thread, root, path)?;
     // By the sizes of its blocks a list has as many bytes as its entry says.
     let _device = thread.device();
-    Ok(found_node_from_lookup_result(shown))
+    Ok(found_node(shown))
 }
 
 /// Looks up a path, and returns whether it leads to a directory that has entries. The call reads no
@@ -152,24 +152,24 @@ pub fn find_node_at_path<D: BlockDevice>(
 /// `root` is the number of the root directory's first pair.
 ///
 /// Errors: `Io` where a read failed. `NoMemory` where memory isn't granted.
-pub fn find_if_path_has_entries<D: BlockDevice>(
+pub fn path_has_entries<D: BlockDevice>(
     alloc: Global,
     thread: &mut Thread<D>,
     root: usize,
     path: &Path<'_>,
 ) -> Result<NodeAndEmptiness, Error>
     requires { CanSearchFromRoot thread.old root }
-    ensures found { IfOk result (λ inside. IsFoundNodeAtPath (tree_on_disk thread.old.kept.disk thread.old.kept.pairs) path.now inside.finding) }
-    ensures has { IfOk result (λ inside. inside.has_entries ≡ has_entry_beneath_path (tree_on_disk thread.old.kept.disk thread.old.kept.pairs) path.now) }
-    ensures few { read_count_of_history thread.new.kept.history ≤ read_count_of_history thread.old.kept.history + sum_by (pair_count_of_directory_at thread.old.kept.pairs) (ancestor_paths_of_path path.now ++ path.now ∷ []) }
+    ensures found { IfOk result (λ inside. IsFoundNode (tree_on_disk thread.old.kept.disk thread.old.kept.pairs) path.now inside.finding) }
+    ensures has { IfOk result (λ inside. inside.has_entries ≡ has_entry_beneath (tree_on_disk thread.old.kept.disk thread.old.kept.pairs) path.now) }
+    ensures few { read_count thread.new.kept.history ≤ read_count thread.old.kept.history + sum_by (pair_count_at thread.old.kept.pairs) (ancestor_paths path.now ++ path.now ∷ []) }
     ensures reading { OnlyReadsThreadAndReportsErrors thread.old thread.new result }
 {
-    let shown = lookup_result_at_path(alloc, thread, root, path)?;
-    let has_entries = has_entries(alloc, thread, first_pair_of_lookup_result(root, shown))?;
+    let shown = look_up_path(alloc, thread, root, path)?;
+    let has_entries = has_entries(alloc, thread, first_pair_found(root, shown))?;
     // By the sizes of its blocks a list has as many bytes as its entry says.
     let _device = thread.device();
     Ok(NodeAndEmptiness {
-        finding: found_node_from_lookup_result(shown),
+        finding: found_node(shown),
         has_entries,
     })
 }

@@ -2,13 +2,13 @@
 
 ghost use Rattle.std.specs.Prelude.{◌≡◌, ◌≤◌, ◌<◌, ◌+◌, List, ℕ, IfOk, IfErr, IsSome, Some, drop, false, length, slice_get, take};
 ghost use Rattle.std.specs.Option.{option_copied};
-ghost use Rattle.lfs_model.specs.History.{read_count_of_history};
-ghost use Rattle.lfs_model.specs.Slots.{PairContent as ModelContent, Inline, Slot};
-ghost use Rattle.lfs_thread.specs.CachedLog.{IsLogBlockOfContent, cached_log};
-ghost use Rattle.lfs_lookup.specs.BytesAt.{IsSlotAtSpot, spot_and_storage_of_found_file};
-ghost use Rattle.lfs_lookup.specs.Reading.{OnlyReadsThreadAndReportsErrors};
+ghost use Rattle.lfs_model.specs.session.History.{read_count};
+ghost use Rattle.lfs_model.specs.format.Slots.{PairContent as ModelContent, Inline, Slot};
+ghost use Rattle.lfs_thread.specs.CachedLog.{IsContentLog, cached_log};
+ghost use Rattle.lfs_lookup.specs.BytesAt.{IsSpotSlot, spot_and_storage};
+ghost use Rattle.lfs_lookup.specs.LookupReading.{OnlyReadsThreadAndReportsErrors};
 
-use crate::by_path::lookup_result_at_path;
+use crate::by_path::look_up_path;
 use crate::entry::FileStorage;
 use crate::path::Path;
 use crate::paths::VisiblePathLookup;
@@ -21,7 +21,7 @@ use lfs_thread::Thread;
 use std::alloc::{AllocError, Global};
 
 // Returns the bytes from a position on, at most `count`.
-fn copy_bytes_from_position(
+fn copy_bytes_from(
     alloc: Global,
     bytes: &[u8],
     position: u32,
@@ -35,34 +35,34 @@ fn copy_bytes_from_position(
 }
 
 // Returns the inline bytes of a slot of a log. Returns None where the slot has no inline struct.
-fn inline_bytes_in_log<'a>(log: &Log<'a>, id: u16) -> Option<&'a [u8]>
-    ensures { (content : ModelContent) (slot : Slot) (bytes : List ℕ) → IsLogBlockOfContent log.now content → slice_get content.slots id ≡ Some slot → slot.struct ≡ Inline bytes → option_copied result ≡ Some bytes }
+fn inline_in_log<'a>(log: &Log<'a>, id: u16) -> Option<&'a [u8]>
+    ensures { (content : ModelContent) (slot : Slot) (bytes : List ℕ) → IsContentLog log.now content → slice_get content.slots id ≡ Some slot → slot.struct ≡ Inline bytes → option_copied result ≡ Some bytes }
 {
     get(log, INLINE_STRUCT, id, &mut Steps::new())
 }
 
 // Returns some of the inline bytes of a slot of a log.
-fn copy_inline_bytes_from_log(
+fn copy_inline_bytes(
     alloc: Global,
     log: &Log<'_>,
     id: u16,
     position: u32,
     count: usize,
 ) -> Result<Vec<u8>, Error>
-    ensures bytes { (content : ModelContent) (slot : Slot) (bytes : List ℕ) → IsLogBlockOfContent log.now content → slice_get content.slots id ≡ Some slot → slot.struct ≡ Inline bytes → IfOk result (λ v. v.items ≡ take count (drop position bytes)) }
+    ensures bytes { (content : ModelContent) (slot : Slot) (bytes : List ℕ) → IsContentLog log.now content → slice_get content.slots id ≡ Some slot → slot.struct ≡ Inline bytes → IfOk result (λ v. v.items ≡ take count (drop position bytes)) }
     ensures errors { IfErr result (λ e. e ≡ Error.NoMemory) }
 {
-    let Some(bytes) = inline_bytes_in_log(log, id) else {
+    let Some(bytes) = inline_in_log(log, id) else {
         return Ok(Vec::new(alloc));
     };
-    Ok(copy_bytes_from_position(alloc, bytes, position, count)?)
+    Ok(copy_bytes_from(alloc, bytes, position, count)?)
 }
 
 /// Returns the bytes from a position on, at most `count`, of a slot that has an inline struct. The
 /// call takes at most one read, and none where the slot's block is cached.
 ///
 /// Errors: `Io` where a read failed. `NoMemory` where memory isn't granted.
-pub fn read_inline_bytes_at<D: BlockDevice>(
+pub fn read_inline_at<D: BlockDevice>(
     alloc: Global,
     thread: &mut Thread<D>,
     slot: SlotPosition,
@@ -71,13 +71,13 @@ pub fn read_inline_bytes_at<D: BlockDevice>(
 ) -> Result<Vec<u8>, Error>
     requires works { thread.old.failed ≡ false }
     requires below { slot.pair < length thread.old.kept.pairs }
-    ensures bytes { (held : Slot) (bytes : List ℕ) → IsSlotAtSpot thread.old.kept slot held → held.struct ≡ Inline bytes → IfOk result (λ v. v.items ≡ take count (drop position bytes)) }
+    ensures bytes { (held : Slot) (bytes : List ℕ) → IsSpotSlot thread.old.kept slot held → held.struct ≡ Inline bytes → IfOk result (λ v. v.items ≡ take count (drop position bytes)) }
     ensures no_call { IsSome (cached_log thread.old slot.pair) → thread.new.kept ≡ thread.old.kept }
-    ensures few { read_count_of_history thread.new.kept.history ≤ read_count_of_history thread.old.kept.history + 1 }
+    ensures few { read_count thread.new.kept.history ≤ read_count thread.old.kept.history + 1 }
     ensures reading { OnlyReadsThreadAndReportsErrors thread.old thread.new result }
 {
     thread.load_pair(slot.pair)?;
-    copy_inline_bytes_from_log(
+    copy_inline_bytes(
         alloc,
         &thread.lend(slot.pair).unwrap(),
         slot.id,
@@ -88,8 +88,8 @@ pub fn read_inline_bytes_at<D: BlockDevice>(
 
 /// Returns the slot of a file, and where the file's bytes are. Returns None where no file was
 /// found.
-pub fn spot_and_storage_of_file(shown: VisiblePathLookup) -> Option<(SlotPosition, FileStorage)>
-    ensures { result ≡ spot_and_storage_of_found_file shown }
+pub fn spot_of_file(shown: VisiblePathLookup) -> Option<(SlotPosition, FileStorage)>
+    ensures { result ≡ spot_and_storage shown }
 {
     match shown {
         VisiblePathLookup::File { slot, contents } => Some((slot, contents)),

@@ -1,16 +1,16 @@
 // The entries of a pair and of a directory, and where a directory begins.
 
 ghost use Rattle.std.specs.Prelude.{◌≡◌, ◌<◌, ◌≤◌, ◌+◌, ◌∷◌, [], Some, IfOk, IfSome, drop, false, length, map};
-ghost use Rattle.lfs_model.specs.Slots.{pair_address_of_array};
-ghost use Rattle.lfs_model.specs.Thread.{gstate_of_pairs, entries_not_moved};
-ghost use Rattle.lfs_model.specs.History.{read_count_of_history};
+ghost use Rattle.lfs_model.specs.format.Slots.{array_address};
+ghost use Rattle.lfs_model.specs.format.Thread.{pairs_gstate, unmoved_entries};
+ghost use Rattle.lfs_model.specs.session.History.{read_count};
 ghost use Rattle.lfs_tag.specs.FieldsView.{move_view};
-ghost use Rattle.lfs_thread.specs.Steps.{thread_pair_at_index};
-ghost use Rattle.lfs_lookup.specs.CachedPairs.{AreLogBlocksOfPairsCached, ReadsNothingAndKeepsPairsWhereAllCached};
-ghost use Rattle.lfs_lookup.specs.AtPath.{directory_from_pair_has_entries};
-ghost use Rattle.lfs_lookup.specs.Items.{directory_items_view, name_and_struct_of_slot};
-ghost use Rattle.lfs_lookup.specs.Listed.{AreEntriesOfDirectory, hard_tail_joined_pairs, hard_tail_joined_pair_count_from, moved_slot_id_at_address, hard_tail_joined_pairs_from, entries_of_directory_from_pair};
-ghost use Rattle.lfs_lookup.specs.Reading.{OnlyReadsThreadAndReportsErrors};
+ghost use Rattle.lfs_thread.specs.ThreadSteps.{thread_pair_at};
+ghost use Rattle.lfs_lookup.specs.CachedPairs.{ArePairsCached, ReadsNothingAndKeepsPairsWhereAllCached};
+ghost use Rattle.lfs_lookup.specs.AtPath.{has_entries_from};
+ghost use Rattle.lfs_lookup.specs.Items.{directory_items_view, named_struct};
+ghost use Rattle.lfs_lookup.specs.Listed.{AreDirectoryEntries, joined_pairs, joined_count_from, moved_slot_id, joined_pairs_from, pair_entries_from};
+ghost use Rattle.lfs_lookup.specs.LookupReading.{OnlyReadsThreadAndReportsErrors};
 ghost use Rattle.lfs_lookup.specs.Searchable.{CanReadPair};
 
 use crate::items::{NameAndOwnedStruct, items_in_log};
@@ -23,8 +23,8 @@ use std::alloc::Global;
 
 // Returns the id of the slot that a set move names in the pair at an address, if it names one
 // there.
-fn moved_slot_id_in_pair(state: &MoveState, at: [u32; 2]) -> Option<usize>
-    ensures { result ≡ moved_slot_id_at_address (move_view state.now) (pair_address_of_array at) }
+fn moved_id_in(state: &MoveState, at: [u32; 2]) -> Option<usize>
+    ensures { result ≡ moved_slot_id (move_view state.now) (array_address at) }
 {
     if state.kind == DELETE && is_same_pair(state.pair, at) {
         Some(usize::from(state.id))
@@ -34,21 +34,21 @@ fn moved_slot_id_in_pair(state: &MoveState, at: [u32; 2]) -> Option<usize>
 }
 
 // Returns the entries of one pair, under that global state.
-fn items_of_pair_under_gstate<D: BlockDevice>(
+fn pair_items<D: BlockDevice>(
     alloc: Global,
     thread: &mut Thread<D>,
     state: &MoveState,
     index: usize,
 ) -> Result<Vec<NameAndOwnedStruct>, Error>
     requires can { CanReadPair thread.old index }
-    requires state { move_view state.now ≡ gstate_of_pairs thread.old.kept.pairs }
-    ensures items { IfOk result (λ items. directory_items_view items.items ≡ map name_and_struct_of_slot (entries_not_moved (gstate_of_pairs thread.old.kept.pairs) (thread_pair_at_index thread.old.kept index))) }
-    ensures few { read_count_of_history thread.new.kept.history ≤ read_count_of_history thread.old.kept.history + 1 }
-    ensures loads { ReadsNothingAndKeepsPairsWhereAllCached (thread_pair_at_index thread.old.kept index ∷ []) thread.old thread.new result }
+    requires state { move_view state.now ≡ pairs_gstate thread.old.kept.pairs }
+    ensures items { IfOk result (λ items. directory_items_view items.items ≡ map named_struct (unmoved_entries (pairs_gstate thread.old.kept.pairs) (thread_pair_at thread.old.kept index))) }
+    ensures few { read_count thread.new.kept.history ≤ read_count thread.old.kept.history + 1 }
+    ensures loads { ReadsNothingAndKeepsPairsWhereAllCached (thread_pair_at thread.old.kept index ∷ []) thread.old thread.new result }
     ensures reading { OnlyReadsThreadAndReportsErrors thread.old thread.new result }
 {
     thread.load_pair(index)?;
-    let moved = moved_slot_id_in_pair(state, thread.blocks_of_pair(index));
+    let moved = moved_id_in(state, thread.blocks_of_pair(index));
     items_in_log(alloc, &thread.lend(index).unwrap(), moved)
 }
 
@@ -57,19 +57,19 @@ fn items_of_pair_under_gstate<D: BlockDevice>(
 ///
 /// Errors: `Io` where the read of the pair's block failed. `NoMemory` where memory for the block,
 /// its slots or the entries isn't granted.
-pub fn items_of_pair_without_moved_slot<D: BlockDevice>(
+pub fn unmoved_pair_items<D: BlockDevice>(
     alloc: Global,
     thread: &mut Thread<D>,
     index: usize,
 ) -> Result<Vec<NameAndOwnedStruct>, Error>
     requires works { thread.old.failed ≡ false }
     requires below { index < length thread.old.kept.pairs }
-    ensures items { IfOk result (λ items. directory_items_view items.items ≡ map name_and_struct_of_slot (entries_not_moved (gstate_of_pairs thread.old.kept.pairs) (thread_pair_at_index thread.old.kept index))) }
-    ensures few { read_count_of_history thread.new.kept.history ≤ read_count_of_history thread.old.kept.history + 1 }
+    ensures items { IfOk result (λ items. directory_items_view items.items ≡ map named_struct (unmoved_entries (pairs_gstate thread.old.kept.pairs) (thread_pair_at thread.old.kept index))) }
+    ensures few { read_count thread.new.kept.history ≤ read_count thread.old.kept.history + 1 }
     ensures reading { OnlyReadsThreadAndReportsErrors thread.old thread.new result }
 {
     let state = thread.state();
-    items_of_pair_under_gstate(alloc, thread, &state, index)
+    pair_items(alloc, thread, &state, index)
 }
 
 /// Returns the entries of the directory that begins with the pair of that number, where `state` is
@@ -77,23 +77,23 @@ pub fn items_of_pair_without_moved_slot<D: BlockDevice>(
 /// all these are cached.
 ///
 /// Errors: `Io` where a read failed. `NoMemory` where memory isn't granted.
-pub fn directory_items_under_gstate<D: BlockDevice>(
+pub fn directory_items<D: BlockDevice>(
     alloc: Global,
     thread: &mut Thread<D>,
     state: &MoveState,
     first: usize,
 ) -> Result<Vec<NameAndOwnedStruct>, Error>
     requires can { CanReadPair thread.old first }
-    requires state { move_view state.now ≡ gstate_of_pairs thread.old.kept.pairs }
-    ensures items { IfOk result (λ items. directory_items_view items.items ≡ entries_of_directory_from_pair thread.old.kept.pairs (Some first)) }
-    ensures few { read_count_of_history thread.new.kept.history ≤ read_count_of_history thread.old.kept.history + hard_tail_joined_pair_count_from thread.old.kept.pairs (Some first) }
-    ensures kept { AreLogBlocksOfPairsCached thread.old (hard_tail_joined_pairs (drop first thread.old.kept.pairs)) → read_count_of_history thread.new.kept.history ≡ read_count_of_history thread.old.kept.history }
+    requires state { move_view state.now ≡ pairs_gstate thread.old.kept.pairs }
+    ensures items { IfOk result (λ items. directory_items_view items.items ≡ pair_entries_from thread.old.kept.pairs (Some first)) }
+    ensures few { read_count thread.new.kept.history ≤ read_count thread.old.kept.history + joined_count_from thread.old.kept.pairs (Some first) }
+    ensures kept { ArePairsCached thread.old (joined_pairs (drop first thread.old.kept.pairs)) → read_count thread.new.kept.history ≡ read_count thread.old.kept.history }
     ensures reading { OnlyReadsThreadAndReportsErrors thread.old thread.new result }
 {
     let mut items = Vec::new(alloc);
     let mut pair = Some(first);
     while let Some(index) = pair {
-        let mut more = items_of_pair_under_gstate(alloc, thread, state, index)?;
+        let mut more = pair_items(alloc, thread, state, index)?;
         items.append(&mut more)?;
         pair = thread.next(index);
     }
@@ -105,39 +105,39 @@ pub fn directory_items_under_gstate<D: BlockDevice>(
 /// LFS_TYPE_HARDTAIL"). In an accepted image they are in the disk's order of names. The call reads
 /// no more pairs than these, and none where all are cached.
 ///
-/// Errors are those of [`items_of_pair_without_moved_slot`].
-pub fn entries_of_directory_pairs<D: BlockDevice>(
+/// Errors are those of [`unmoved_pair_items`].
+pub fn directory_pair_entries<D: BlockDevice>(
     alloc: Global,
     thread: &mut Thread<D>,
     first: usize,
 ) -> Result<Vec<NameAndOwnedStruct>, Error>
     requires { CanReadPair thread.old first }
-    ensures items { IfOk result (λ items. directory_items_view items.items ≡ entries_of_directory_from_pair thread.old.kept.pairs (Some first)) }
-    ensures entries { IfOk result (λ items. AreEntriesOfDirectory thread.old.kept.disk thread.old.kept.pairs first (directory_items_view items.items)) }
-    ensures few { read_count_of_history thread.new.kept.history ≤ read_count_of_history thread.old.kept.history + hard_tail_joined_pair_count_from thread.old.kept.pairs (Some first) }
-    ensures kept { AreLogBlocksOfPairsCached thread.old (hard_tail_joined_pairs (drop first thread.old.kept.pairs)) → read_count_of_history thread.new.kept.history ≡ read_count_of_history thread.old.kept.history }
+    ensures items { IfOk result (λ items. directory_items_view items.items ≡ pair_entries_from thread.old.kept.pairs (Some first)) }
+    ensures entries { IfOk result (λ items. AreDirectoryEntries thread.old.kept.disk thread.old.kept.pairs first (directory_items_view items.items)) }
+    ensures few { read_count thread.new.kept.history ≤ read_count thread.old.kept.history + joined_count_from thread.old.kept.pairs (Some first) }
+    ensures kept { ArePairsCached thread.old (joined_pairs (drop first thread.old.kept.pairs)) → read_count thread.new.kept.history ≡ read_count thread.old.kept.history }
     ensures reading { OnlyReadsThreadAndReportsErrors thread.old thread.new result }
 {
     let state = thread.state();
-    let items = directory_items_under_gstate(alloc, thread, &state, first)?;
+    let items = directory_items(alloc, thread, &state, first)?;
     Ok(items)
 }
 
 // Returns the entries of the directory that begins with that pair, if there is one.
-pub(crate) fn items_of_directory_if_any<D: BlockDevice>(
+pub(crate) fn items_if_directory<D: BlockDevice>(
     alloc: Global,
     thread: &mut Thread<D>,
     from: Option<usize>,
 ) -> Result<Vec<NameAndOwnedStruct>, Error>
     requires works { thread.old.failed ≡ false }
     requires below { IfSome from (λ first. first < length thread.old.kept.pairs) }
-    ensures items { IfOk result (λ items. directory_items_view items.items ≡ entries_of_directory_from_pair thread.old.kept.pairs from) }
-    ensures few { read_count_of_history thread.new.kept.history ≤ read_count_of_history thread.old.kept.history + hard_tail_joined_pair_count_from thread.old.kept.pairs from }
-    ensures kept { AreLogBlocksOfPairsCached thread.old (hard_tail_joined_pairs_from thread.old.kept.pairs from) → read_count_of_history thread.new.kept.history ≡ read_count_of_history thread.old.kept.history }
+    ensures items { IfOk result (λ items. directory_items_view items.items ≡ pair_entries_from thread.old.kept.pairs from) }
+    ensures few { read_count thread.new.kept.history ≤ read_count thread.old.kept.history + joined_count_from thread.old.kept.pairs from }
+    ensures kept { ArePairsCached thread.old (joined_pairs_from thread.old.kept.pairs from) → read_count thread.new.kept.history ≡ read_count thread.old.kept.history }
     ensures reading { OnlyReadsThreadAndReportsErrors thread.old thread.new result }
 {
     match from {
-        Some(first) => entries_of_directory_pairs(alloc, thread, first),
+        Some(first) => directory_pair_entries(alloc, thread, first),
         None => Ok(Vec::new(alloc)),
     }
 }
@@ -145,7 +145,7 @@ pub(crate) fn items_of_directory_if_any<D: BlockDevice>(
 /// Returns whether the directory that begins with the pair of number `from` has an entry. Without
 /// a number there is no directory. The call reads no more pairs than the directory has.
 ///
-/// Errors are those of [`items_of_pair_without_moved_slot`].
+/// Errors are those of [`unmoved_pair_items`].
 pub fn has_entries<D: BlockDevice>(
     alloc: Global,
     thread: &mut Thread<D>,
@@ -153,13 +153,13 @@ pub fn has_entries<D: BlockDevice>(
 ) -> Result<bool, Error>
     requires works { thread.old.failed ≡ false }
     requires below { IfSome from (λ first. first < length thread.old.kept.pairs) }
-    ensures has { IfOk result (λ has. has ≡ directory_from_pair_has_entries thread.old.kept.pairs from) }
-    ensures few { read_count_of_history thread.new.kept.history ≤ read_count_of_history thread.old.kept.history + hard_tail_joined_pair_count_from thread.old.kept.pairs from }
+    ensures has { IfOk result (λ has. has ≡ has_entries_from thread.old.kept.pairs from) }
+    ensures few { read_count thread.new.kept.history ≤ read_count thread.old.kept.history + joined_count_from thread.old.kept.pairs from }
     ensures reading { OnlyReadsThreadAndReportsErrors thread.old thread.new result }
 {
     let mut pair = from;
     while let Some(index) = pair {
-        let items = items_of_pair_without_moved_slot(alloc, thread, index)?;
+        let items = unmoved_pair_items(alloc, thread, index)?;
         if items.len() > 0 {
             return Ok(true);
         }

@@ -1,9 +1,9 @@
 // The entry that a slot is.
 
-ghost use Rattle.lfs_model.specs.Content.{struct_of_type_and_bytes};
-ghost use Rattle.lfs_model.specs.LoggedContent.{IsNameOrStructTheFormatAllows};
-ghost use Rattle.lfs_tag.specs.ContentView.{name_or_struct_view};
-ghost use Rattle.lfs_lookup.specs.Entry.{IsEntryOfStruct};
+ghost use Rattle.lfs_model.specs.format.Content.{read_struct};
+ghost use Rattle.lfs_model.specs.layers.LoggedContent.{IsAllowed};
+ghost use Rattle.lfs_tag.specs.ContentView.{data_view};
+ghost use Rattle.lfs_lookup.specs.Entry.{IsStructEntry};
 
 use lfs_tag::{NameOrStruct, Struct};
 
@@ -27,8 +27,8 @@ pub enum FileOrDirectory {
 /// Returns the entry of a slot's struct: where a file's bytes are, or the address of a directory's
 /// first pair (SPEC.md of littlefs, "0x2xx LFS_TYPE_STRUCT").
 pub fn entry_of_struct(structure: &NameOrStruct<'_>) -> FileOrDirectory
-    requires { IsNameOrStructTheFormatAllows 2 (name_or_struct_view structure.now) }
-    ensures { IsEntryOfStruct result (struct_of_type_and_bytes structure.now.kind structure.now.bytes.now) }
+    requires { IsAllowed 2 (data_view structure.now) }
+    ensures { IsStructEntry result (read_struct structure.now.kind structure.now.bytes.now) }
 {
     match Struct::of(structure).unwrap() {
         Struct::Inline(bytes) => FileOrDirectory::File(FileStorage::Inline { len: bytes.len() }),

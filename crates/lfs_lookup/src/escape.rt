@@ -1,11 +1,11 @@
 // How a listed path shows its bytes.
 
 ghost use Rattle.std.specs.Prelude.{◌≡◌, ◌++◌, ◌<◌, OnOk};
-ghost use Rattle.lfs_model.specs.Listing.{byte_escaped_for_listing, escaped_text, hex_digit};
+ghost use Rattle.lfs_model.specs.layers.Listing.{escaped_byte, escaped_text, hex_digit};
 
 use std::alloc::AllocError;
 
-fn hex_digit_of_value(value: u8) -> u8
+fn hex_digit_of(value: u8) -> u8
     requires { value < 16 }
     ensures { result ≡ hex_digit value }
 {
@@ -17,7 +17,7 @@ fn hex_digit_of_value(value: u8) -> u8
 }
 
 fn push_escaped_byte(text: &mut Vec<u8>, byte: u8) -> Result<(), AllocError>
-    ensures { OnOk result (text.new.items ≡ text.old.items ++ byte_escaped_for_listing byte) }
+    ensures { OnOk result (text.new.items ≡ text.old.items ++ escaped_byte byte) }
 {
     if (0x20..=0x7e).contains(&byte) && byte != b'\\' {
         text.push(byte)?;
@@ -25,8 +25,8 @@ fn push_escaped_byte(text: &mut Vec<u8>, byte: u8) -> Result<(), AllocError>
         let shown = [
             b'\\',
             b'x',
-            hex_digit_of_value(byte / 16),
-            hex_digit_of_value(byte % 16),
+            hex_digit_of(byte / 16),
+            hex_digit_of(byte % 16),
         ];
         text.extend_from_slice(&shown)?;
     }

@@ -1,10 +1,10 @@
 // The bytes of a file.
 
 ghost use Rattle.std.specs.Prelude.{◌≡◌, IfOk, false, length};
-ghost use Rattle.lfs_model.specs.View.{IsSkipListIfCtzStruct};
-ghost use Rattle.lfs_lookup.specs.FileBytes.{file_bytes_of_struct};
-ghost use Rattle.lfs_lookup.specs.Items.{owned_struct_view};
-ghost use Rattle.lfs_lookup.specs.Reading.{OnlyReadsThreadAndReportsErrors};
+ghost use Rattle.lfs_model.specs.tree.View.{IsWellFormedCtz};
+ghost use Rattle.lfs_lookup.specs.FileBytes.{struct_file_bytes};
+ghost use Rattle.lfs_lookup.specs.Items.{owned_view};
+ghost use Rattle.lfs_lookup.specs.LookupReading.{OnlyReadsThreadAndReportsErrors};
 
 use crate::items::OwnedStruct;
 use lfs_device::{BlockDevice, Error};
@@ -23,14 +23,14 @@ pub(crate) fn zeros(alloc: Global, len: usize) -> Result<Vec<u8>, AllocError>
 /// Returns the bytes of a file, by its entry. A directory has none.
 ///
 /// Errors: `Io` where a read failed. `NoMemory` where memory for the bytes isn't granted.
-pub fn read_file_bytes_of_struct<D: BlockDevice>(
+pub fn read_struct_bytes<D: BlockDevice>(
     alloc: Global,
     thread: &mut Thread<D>,
     structure: &OwnedStruct,
 ) -> Result<Vec<u8>, Error>
     requires works { thread.old.failed ≡ false }
-    requires list { IsSkipListIfCtzStruct thread.old.kept.disk (owned_struct_view structure.now) }
-    ensures bytes { IfOk result (λ bytes. bytes.items ≡ file_bytes_of_struct thread.old.kept.disk (owned_struct_view structure.now)) }
+    requires list { IsWellFormedCtz thread.old.kept.disk (owned_view structure.now) }
+    ensures bytes { IfOk result (λ bytes. bytes.items ≡ struct_file_bytes thread.old.kept.disk (owned_view structure.now)) }
     ensures reading { OnlyReadsThreadAndReportsErrors thread.old thread.new result }
 {
     match structure {

@@ -1,19 +1,19 @@
 // The contents of a file, as a reader keeps them.
 
 ghost use Rattle.std.specs.Prelude.{◌≡◌, ◌<◌, IfOk, IsSome, List, false};
-ghost use Rattle.lfs_model.specs.Frame.{ancestor_paths_of_path};
-ghost use Rattle.lfs_model.specs.Shown.{tree_on_disk};
-ghost use Rattle.lfs_model.specs.Slots.{Inline, Slot};
+ghost use Rattle.lfs_model.specs.crash.Frame.{ancestor_paths};
+ghost use Rattle.lfs_model.specs.tree.Shown.{tree_on_disk};
+ghost use Rattle.lfs_model.specs.format.Slots.{Inline, Slot};
 ghost use Rattle.lfs_thread.specs.CachedLog.{cached_log};
-ghost use Rattle.lfs_lookup.specs.BytesAt.{IsFileSlotAtSpot};
-ghost use Rattle.lfs_lookup.specs.FileContents.{AreFileContentsOfStruct, AreContentsOfFileAtPathOrNone};
-ghost use Rattle.lfs_lookup.specs.Finds.{IsFoundNodeAtPath};
-ghost use Rattle.lfs_lookup.specs.Reading.{OnlyReadsThreadAndReportsErrors};
+ghost use Rattle.lfs_lookup.specs.BytesAt.{IsFileAt};
+ghost use Rattle.lfs_lookup.specs.FileContents.{AreStructContents, AreContentsAt};
+ghost use Rattle.lfs_lookup.specs.Finds.{IsFoundNode};
+ghost use Rattle.lfs_lookup.specs.LookupReading.{OnlyReadsThreadAndReportsErrors};
 ghost use Rattle.lfs_lookup.specs.Reads.{ReadsFewUncachedPairs};
 ghost use Rattle.lfs_lookup.specs.Searchable.{CanSearchFromRoot};
 
-use crate::by_path::{found_node_from_lookup_result, lookup_result_at_path};
-use crate::bytes::{read_inline_bytes_at, spot_and_storage_of_file};
+use crate::by_path::{found_node, look_up_path};
+use crate::bytes::{read_inline_at, spot_of_file};
 use crate::entry::FileStorage;
 use crate::found_entries::FoundNode;
 use crate::path::Path;
@@ -48,14 +48,14 @@ fn contents_of_slot<D: BlockDevice>(
 ) -> Result<FileContents, Error>
     requires works { thread.old.failed ≡ false }
     requires cached_log { IsSome (cached_log thread.old slot.pair) }
-    requires file { (held : Slot) × IsFileSlotAtSpot thread.old.kept slot contents held }
-    ensures is { (held : Slot) → IsFileSlotAtSpot thread.old.kept slot contents held → IfOk result (AreFileContentsOfStruct held.struct) }
+    requires file { (held : Slot) × IsFileAt thread.old.kept slot contents held }
+    ensures is { (held : Slot) → IsFileAt thread.old.kept slot contents held → IfOk result (AreStructContents held.struct) }
     ensures no_call { thread.new.kept ≡ thread.old.kept }
     ensures reading { OnlyReadsThreadAndReportsErrors thread.old thread.new result }
 {
     match contents {
         FileStorage::Inline { len } => {
-            let bytes = read_inline_bytes_at(alloc, thread, slot, 0, len)?;
+            let bytes = read_inline_at(alloc, thread, slot, 0, len)?;
             Ok(FileContents::Inline(bytes))
         }
         FileStorage::List { head, size } => Ok(FileContents::List { head, size }),
@@ -63,28 +63,28 @@ fn contents_of_slot<D: BlockDevice>(
 }
 
 /// Looks up a path, and returns the contents of a file there. The call reads no more pairs than the
-/// directories above the path have, as [`crate::lookup_result_at_path`], and none where all these are cached.
+/// directories above the path have, as [`crate::look_up_path`], and none where all these are cached.
 ///
 /// `root` is the number of the root directory's first pair.
 ///
 /// Errors: `Io` where a read failed. `NoMemory` where memory isn't granted.
-pub fn find_file_contents_at_path<D: BlockDevice>(
+pub fn find_file_contents<D: BlockDevice>(
     alloc: Global,
     thread: &mut Thread<D>,
     root: usize,
     path: &Path<'_>,
 ) -> Result<FoundFile, Error>
     requires { CanSearchFromRoot thread.old root }
-    ensures found { IfOk result (λ found. IsFoundNodeAtPath (tree_on_disk thread.old.kept.disk thread.old.kept.pairs) path.now found.finding) }
-    ensures contents { IfOk result (λ found. AreContentsOfFileAtPathOrNone thread.old.kept path.now found.contents) }
-    ensures reads { ReadsFewUncachedPairs (ancestor_paths_of_path path.now) thread.old thread.new }
+    ensures found { IfOk result (λ found. IsFoundNode (tree_on_disk thread.old.kept.disk thread.old.kept.pairs) path.now found.finding) }
+    ensures contents { IfOk result (λ found. AreContentsAt thread.old.kept path.now found.contents) }
+    ensures reads { ReadsFewUncachedPairs (ancestor_paths path.now) thread.old thread.new }
     ensures reading { OnlyReadsThreadAndReportsErrors thread.old thread.new result }
 {
-    let shown = lookup_result_at_path(alloc, thread, root, path)?;
+    let shown = look_up_path(alloc, thread, root, path)?;
     // By the sizes of its blocks a list has as many bytes as its entry says.
     let _device = thread.device();
-    let finding = found_node_from_lookup_result(shown);
-    let Some((slot, contents)) = spot_and_storage_of_file(shown) else {
+    let finding = found_node(shown);
+    let Some((slot, contents)) = spot_of_file(shown) else {
         return Ok(FoundFile {
             finding,
             contents: None,

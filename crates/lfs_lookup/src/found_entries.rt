@@ -1,7 +1,7 @@
 // The results of calls by a path.
 
 ghost use Rattle.std.specs.Prelude.{◌≡◌};
-ghost use Rattle.lfs_lookup.specs.Finds.{is_absent_node, is_directory_node, is_file_node, size_of_node_if_file, stat_view};
+ghost use Rattle.lfs_lookup.specs.Finds.{is_absent, is_directory_node, is_file_node, node_size_if_file, stat_view};
 
 use crate::kinds::{Kind, ListItem, Stat};
 use crate::refusal::Refusal;
@@ -27,7 +27,7 @@ pub enum Node {
 
 impl Node {
     pub fn is_nothing(self) -> bool
-        ensures { result ≡ is_absent_node self }
+        ensures { result ≡ is_absent self }
     {
         matches!(self, Node::Nothing)
     }
@@ -46,7 +46,7 @@ impl Node {
 
     /// Returns how many bytes a file has. Returns None where there is no file.
     pub fn size(self) -> Option<u32>
-        ensures { result ≡ size_of_node_if_file self }
+        ensures { result ≡ node_size_if_file self }
     {
         match self {
             Node::File { size } => Some(size),

@@ -2,13 +2,13 @@
 
 ghost use Rattle.std.specs.Prelude.{◌≡◌, ◌++◌, IfOk, IfErr, OnOk, map};
 ghost use Rattle.std.specs.Option.{option_map};
-ghost use Rattle.lfs_model.specs.Slots.{PairContent as ModelContent};
-ghost use Rattle.lfs_model.specs.Content.{struct_of_type_and_bytes};
-ghost use Rattle.lfs_model.specs.LoggedContent.{IsWellFormedRawSlot, AreWellFormedRawSlots, IsNameOrStructTheFormatAllows};
-ghost use Rattle.lfs_thread.specs.CachedLog.{IsLogBlockOfContent};
-ghost use Rattle.lfs_tag.specs.ContentView.{name_or_struct_view, slot_view};
-ghost use Rattle.lfs_lookup.specs.ByName.{AreSameEntriesSortedShorterNameFirst};
-ghost use Rattle.lfs_lookup.specs.Items.{directory_item_view, directory_items_view, list_of_optional_entry, entries_without_moved_slot, entries_of_raw_slots, entry_of_raw_slot, owned_struct_view, slots_except_at_id};
+ghost use Rattle.lfs_model.specs.format.Slots.{PairContent as ModelContent};
+ghost use Rattle.lfs_model.specs.format.Content.{read_struct};
+ghost use Rattle.lfs_model.specs.layers.LoggedContent.{IsSlotWellFormed, AreWellFormed, IsAllowed};
+ghost use Rattle.lfs_thread.specs.CachedLog.{IsContentLog};
+ghost use Rattle.lfs_tag.specs.ContentView.{data_view, slot_view};
+ghost use Rattle.lfs_lookup.specs.ByName.{AreShorterFirst};
+ghost use Rattle.lfs_lookup.specs.Items.{directory_item_view, directory_items_view, optional_entry_list, entries_without_moved, raw_entries, raw_entry, owned_view, slots_except};
 
 use lfs_device::Error;
 use lfs_tag::{Content, Log, NameOrStruct, Slot, Struct};
@@ -36,12 +36,12 @@ pub struct NameAndOwnedStruct {
 }
 
 /// Returns the struct of a slot's part, with a copy of a file's bytes.
-pub fn owned_copy_of_struct(
+pub fn owned_struct(
     alloc: Global,
     part: &NameOrStruct<'_>,
 ) -> Result<OwnedStruct, AllocError>
-    requires { IsNameOrStructTheFormatAllows 2 (name_or_struct_view part.now) }
-    ensures { IfOk result (λ s. owned_struct_view s ≡ struct_of_type_and_bytes part.now.kind part.now.bytes.now) }
+    requires { IsAllowed 2 (data_view part.now) }
+    ensures { IfOk result (λ s. owned_view s ≡ read_struct part.now.kind part.now.bytes.now) }
 {
     match Struct::of(part).unwrap() {
         Struct::Inline(bytes) => {
@@ -56,8 +56,8 @@ pub fn owned_copy_of_struct(
 // Returns the entry of a slot. Returns None for the superblock's slot, and for a slot without a
 // name or a struct.
 fn item_of_slot(alloc: Global, slot: &Slot<'_>) -> Result<Option<NameAndOwnedStruct>, AllocError>
-    requires { IsWellFormedRawSlot (slot_view slot.now) }
-    ensures { IfOk result (λ item. option_map directory_item_view item ≡ entry_of_raw_slot (slot_view slot.now)) }
+    requires { IsSlotWellFormed (slot_view slot.now) }
+    ensures { IfOk result (λ item. option_map directory_item_view item ≡ raw_entry (slot_view slot.now)) }
 {
     let (Some(name), Some(part)) = (slot.name, slot.structure) else {
         return Ok(None);
@@ -65,19 +65,19 @@ fn item_of_slot(alloc: Global, slot: &Slot<'_>) -> Result<Option<NameAndOwnedStr
     if slot.is_superblock() {
         return Ok(None);
     }
-    let structure = owned_copy_of_struct(alloc, &part)?;
+    let structure = owned_struct(alloc, &part)?;
     let name = Vec::from_slice(alloc, name.bytes)?;
     Ok(Some(NameAndOwnedStruct { name, structure }))
 }
 
 // Adds the entry of a slot.
-fn push_item_of_slot(
+fn push_slot_item(
     alloc: Global,
     items: &mut Vec<NameAndOwnedStruct>,
     slot: &Slot<'_>,
 ) -> Result<(), AllocError>
-    requires { IsWellFormedRawSlot (slot_view slot.now) }
-    ensures { OnOk result (directory_items_view items.new.items ≡ directory_items_view items.old.items ++ list_of_optional_entry (entry_of_raw_slot (slot_view slot.now))) }
+    requires { IsSlotWellFormed (slot_view slot.now) }
+    ensures { OnOk result (directory_items_view items.new.items ≡ directory_items_view items.old.items ++ optional_entry_list (raw_entry (slot_view slot.now))) }
 {
     if let Some(item) = item_of_slot(alloc, slot)? {
         items.push(item)?;
@@ -87,19 +87,19 @@ fn push_item_of_slot(
 
 // Returns the entries of slots.
 fn items_of_slots(alloc: Global, slots: &[Slot<'_>]) -> Result<Vec<NameAndOwnedStruct>, AllocError>
-    requires { AreWellFormedRawSlots (map slot_view slots.now) }
-    ensures { IfOk result (λ items. directory_items_view items.items ≡ entries_of_raw_slots (map slot_view slots.now)) }
+    requires { AreWellFormed (map slot_view slots.now) }
+    ensures { IfOk result (λ items. directory_items_view items.items ≡ raw_entries (map slot_view slots.now)) }
 {
     let mut items = Vec::new(alloc);
     for slot in slots {
-        push_item_of_slot(alloc, &mut items, slot)?;
+        push_slot_item(alloc, &mut items, slot)?;
     }
     Ok(items)
 }
 
 // Removes the slot of an id, if there is one.
 fn remove_moved_slot(slots: &mut Vec<Slot<'_>>, moved: Option<usize>)
-    ensures { map slot_view slots.new.items ≡ slots_except_at_id moved (map slot_view slots.old.items) }
+    ensures { map slot_view slots.new.items ≡ slots_except moved (map slot_view slots.old.items) }
 {
     if let Some(id) = moved {
         if id < slots.len() {
@@ -114,8 +114,8 @@ pub(crate) fn items_in_log(
     log: &Log<'_>,
     moved: Option<usize>,
 ) -> Result<Vec<NameAndOwnedStruct>, Error>
-    requires { (content : ModelContent) × IsLogBlockOfContent log.now content }
-    ensures items { (content : ModelContent) → IsLogBlockOfContent log.now content → IfOk result (λ items. directory_items_view items.items ≡ entries_without_moved_slot moved content.slots) }
+    requires { (content : ModelContent) × IsContentLog log.now content }
+    ensures items { (content : ModelContent) → IsContentLog log.now content → IfOk result (λ items. directory_items_view items.items ≡ entries_without_moved moved content.slots) }
     ensures errors { IfErr result (λ e. e ≡ Error.NoMemory) }
 {
     let mut content = Content::read(alloc, log)?;
@@ -125,8 +125,8 @@ pub(crate) fn items_in_log(
 }
 
 // Sorts entries by their names, the shorter names first.
-pub(crate) fn sort_by_name_shorter_first(items: &mut Vec<NameAndOwnedStruct>)
-    ensures { AreSameEntriesSortedShorterNameFirst (directory_items_view items.old.items) (directory_items_view items.new.items) }
+pub(crate) fn sort_shorter_first(items: &mut Vec<NameAndOwnedStruct>)
+    ensures { AreShorterFirst (directory_items_view items.old.items) (directory_items_view items.new.items) }
 {
     items.sort_unstable_by(|a, b| a.name.cmp(&b.name));
 }

@@ -26,30 +26,30 @@ mod root;
 mod search;
 mod walks;
 
-pub use attribute_sizes::find_total_size_of_attributes_at_path;
-pub use attributes::find_attribute_at_path;
+pub use attribute_sizes::attributes_size_at;
+pub use attributes::find_attribute;
 pub use by_path::{
-    find_if_path_has_entries, find_node_at_path, first_pair_of_lookup_result,
-    found_node_from_lookup_result, lookup_result_at_path,
+    path_has_entries, find_node, first_pair_found,
+    found_node, look_up_path,
 };
-pub use bytes::{read_inline_bytes_at, spot_and_storage_of_file};
+pub use bytes::{read_inline_at, spot_of_file};
 pub use directory::{
-    directory_items_under_gstate, entries_of_directory_pairs, has_entries,
-    items_of_pair_without_moved_slot,
+    directory_items, directory_pair_entries, has_entries,
+    unmoved_pair_items,
 };
 pub use entry::{FileOrDirectory, FileStorage, entry_of_struct};
 pub use escape::push_escaped_path;
-pub use file_bytes::read_file_bytes_of_struct;
-pub use file_contents::{FileContents, FoundFile, find_file_contents_at_path};
+pub use file_bytes::read_struct_bytes;
+pub use file_contents::{FileContents, FoundFile, find_file_contents};
 pub use found_entries::{FoundAttribute, FoundNode, Listing, Node, NodeAndEmptiness};
 pub use image_superblock::superblock;
-pub use items::{NameAndOwnedStruct, OwnedStruct, owned_copy_of_struct};
+pub use items::{NameAndOwnedStruct, OwnedStruct, owned_struct};
 pub use kinds::{Kind, ListItem, Stat};
-pub use listings::list_directory_at_path;
+pub use listings::list_directory;
 pub use path::Path;
 pub use paths::{PathLookup, VisiblePathLookup, look_up};
-pub use profile::{find_profile_breach, is_pair_after_hard_tail};
+pub use profile::{find_profile_breach, follows_hard_tail};
 pub use refusal::{Refusal, refuse_if, to_refusal};
 pub use root::find_root;
-pub use search::{SlotPosition, find_name_with_slot_hidden};
+pub use search::{SlotPosition, find_unhidden};
 pub use walks::{TreeItem, walk_tree};

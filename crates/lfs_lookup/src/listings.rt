@@ -1,23 +1,23 @@
 // The entries of the directory at a path, by name, kind and size.
 
 ghost use Rattle.std.specs.Prelude.{◌≡◌, ◌≤◌, ◌+◌, ◌++◌, ◌∷◌, [], IfOk, map, sum_by};
-ghost use Rattle.lfs_model.specs.Frame.{pair_count_of_directory_at, ancestor_paths_of_path};
-ghost use Rattle.lfs_model.specs.History.{read_count_of_history};
-ghost use Rattle.lfs_model.specs.Effects.{directory_items_at_path};
-ghost use Rattle.lfs_model.specs.Shown.{tree_on_disk};
-ghost use Rattle.lfs_lookup.specs.CachedPairs.{AreDirectoriesAtThesePathsCached};
-ghost use Rattle.lfs_lookup.specs.Finds.{IsFoundNodeAtPath, list_item_view};
-ghost use Rattle.lfs_lookup.specs.Items.{directory_item_view, directory_items_view, owned_struct_view};
-ghost use Rattle.lfs_lookup.specs.ListAt.{AreEntriesInNameAndInlineLimits, IsInlineStructShorterThanTagLength, IsEntryInNameAndInlineLimits, listed_item_of_entry, listed_size_of_struct_if_file};
-ghost use Rattle.lfs_lookup.specs.Reading.{OnlyReadsThreadAndReportsErrors};
+ghost use Rattle.lfs_model.specs.crash.Frame.{pair_count_at, ancestor_paths};
+ghost use Rattle.lfs_model.specs.session.History.{read_count};
+ghost use Rattle.lfs_model.specs.session.Effects.{items_at};
+ghost use Rattle.lfs_model.specs.tree.Shown.{tree_on_disk};
+ghost use Rattle.lfs_lookup.specs.CachedPairs.{AreDirectoriesCached};
+ghost use Rattle.lfs_lookup.specs.Finds.{IsFoundNode, listed_item_view};
+ghost use Rattle.lfs_lookup.specs.Items.{directory_item_view, directory_items_view, owned_view};
+ghost use Rattle.lfs_lookup.specs.ListAt.{AreInLimits, StructFitsTag, IsInLimits, listed_item, listed_struct_size};
+ghost use Rattle.lfs_lookup.specs.LookupReading.{OnlyReadsThreadAndReportsErrors};
 ghost use Rattle.lfs_lookup.specs.Searchable.{CanSearchFromRoot};
 
 use crate::by_path::{
-    first_pair_of_lookup_result, found_node_from_lookup_result, lookup_result_at_path,
+    first_pair_found, found_node, look_up_path,
 };
-use crate::directory::items_of_directory_if_any;
+use crate::directory::items_if_directory;
 use crate::found_entries::Listing;
-use crate::items::{NameAndOwnedStruct, OwnedStruct, sort_by_name_shorter_first};
+use crate::items::{NameAndOwnedStruct, OwnedStruct, sort_shorter_first};
 use crate::kinds::{ListItem, Stat};
 use crate::path::Path;
 use arrayvec::ArrayVec;
@@ -27,8 +27,8 @@ use std::alloc::{AllocError, Global};
 
 // Returns how many bytes a file has. Returns None for a directory.
 fn listed_size(structure: &OwnedStruct) -> Option<u32>
-    requires { IsInlineStructShorterThanTagLength (owned_struct_view structure.now) }
-    ensures { result ≡ listed_size_of_struct_if_file (owned_struct_view structure.now) }
+    requires { StructFitsTag (owned_view structure.now) }
+    ensures { result ≡ listed_struct_size (owned_view structure.now) }
 {
     match structure {
         OwnedStruct::Inline(bytes) => Some(bytes.len() as u32),
@@ -39,8 +39,8 @@ fn listed_size(structure: &OwnedStruct) -> Option<u32>
 
 // Returns an entry by name, kind and size.
 fn to_list_item(item: NameAndOwnedStruct) -> ListItem
-    requires { IsEntryInNameAndInlineLimits (directory_item_view item) }
-    ensures { list_item_view result ≡ listed_item_of_entry (directory_item_view item) }
+    requires { IsInLimits (directory_item_view item) }
+    ensures { listed_item_view result ≡ listed_item (directory_item_view item) }
 {
     let stat = Stat::from_size(listed_size(&item.structure));
     match ArrayVec::try_from(item.name.as_slice()) {
@@ -55,8 +55,8 @@ fn to_list_item(item: NameAndOwnedStruct) -> ListItem
 
 // Returns entries by name, kind and size.
 fn to_list_items(alloc: Global, items: Vec<NameAndOwnedStruct>) -> Result<Vec<ListItem>, AllocError>
-    requires { AreEntriesInNameAndInlineLimits (directory_items_view items.items) }
-    ensures { IfOk result (λ listed. map list_item_view listed.items ≡ map listed_item_of_entry (directory_items_view items.items)) }
+    requires { AreInLimits (directory_items_view items.items) }
+    ensures { IfOk result (λ listed. map listed_item_view listed.items ≡ map listed_item (directory_items_view items.items)) }
 {
     let mut listed = Vec::new(alloc);
     for item in items {
@@ -73,32 +73,32 @@ fn to_list_items(alloc: Global, items: Vec<NameAndOwnedStruct>) -> Result<Vec<Li
 /// `root` is the number of the root directory's first pair.
 ///
 /// Errors: `Io` where a read failed. `NoMemory` where memory isn't granted.
-pub fn list_directory_at_path<D: BlockDevice>(
+pub fn list_directory<D: BlockDevice>(
     alloc: Global,
     thread: &mut Thread<D>,
     root: usize,
     path: &Path<'_>,
 ) -> Result<Listing, Error>
     requires { CanSearchFromRoot thread.old root }
-    ensures found { IfOk result (λ listing. IsFoundNodeAtPath (tree_on_disk thread.old.kept.disk thread.old.kept.pairs) path.now listing.finding) }
-    ensures items { IfOk result (λ listing. map list_item_view listing.items.items ≡ directory_items_at_path (tree_on_disk thread.old.kept.disk thread.old.kept.pairs) path.now) }
-    ensures few { read_count_of_history thread.new.kept.history ≤ read_count_of_history thread.old.kept.history + sum_by (pair_count_of_directory_at thread.old.kept.pairs) (ancestor_paths_of_path path.now ++ path.now ∷ []) }
-    ensures kept { AreDirectoriesAtThesePathsCached thread.old (ancestor_paths_of_path path.now ++ path.now ∷ []) → read_count_of_history thread.new.kept.history ≡ read_count_of_history thread.old.kept.history }
+    ensures found { IfOk result (λ listing. IsFoundNode (tree_on_disk thread.old.kept.disk thread.old.kept.pairs) path.now listing.finding) }
+    ensures items { IfOk result (λ listing. map listed_item_view listing.items.items ≡ items_at (tree_on_disk thread.old.kept.disk thread.old.kept.pairs) path.now) }
+    ensures few { read_count thread.new.kept.history ≤ read_count thread.old.kept.history + sum_by (pair_count_at thread.old.kept.pairs) (ancestor_paths path.now ++ path.now ∷ []) }
+    ensures kept { AreDirectoriesCached thread.old (ancestor_paths path.now ++ path.now ∷ []) → read_count thread.new.kept.history ≡ read_count thread.old.kept.history }
     ensures reading { OnlyReadsThreadAndReportsErrors thread.old thread.new result }
 {
-    let shown = lookup_result_at_path(alloc, thread, root, path)?;
-    let mut items = items_of_directory_if_any(
+    let shown = look_up_path(alloc, thread, root, path)?;
+    let mut items = items_if_directory(
         alloc,
         thread,
-        first_pair_of_lookup_result(root, shown),
+        first_pair_found(root, shown),
     )?;
-    sort_by_name_shorter_first(&mut items);
+    sort_shorter_first(&mut items);
     // The blocks hold bytes, so inline contents are short. By the sizes of its blocks a list has as
     // many bytes as its entry says.
     let _device = thread.device();
     let listed = to_list_items(alloc, items)?;
     Ok(Listing {
-        finding: found_node_from_lookup_result(shown),
+        finding: found_node(shown),
         items: listed,
     })
 }

@@ -2,32 +2,32 @@
 
 ghost use Rattle.std.specs.Prelude.{ℕ, List, true, ◌≡◌, ◌<◌, ◌≤◌, ◌^◌, ◌==◌, IfOk, length, map, is_some};
 ghost use Rattle.std.specs.List.{list_all, slice_split};
-ghost use Rattle.lfs_model.specs.TreeEdits.{last_name_of_path};
-ghost use Rattle.lfs_model.specs.Names.{is_path_component, slash_byte};
-ghost use Rattle.lfs_model.specs.Operations.{path_of_bytes};
-ghost use Rattle.lfs_model.specs.Refusals.{path_of_bytes_or_root, is_root_path};
-ghost use Rattle.lfs_lookup.specs.NameLengths.{length_after_last_slash};
+ghost use Rattle.lfs_model.specs.session.TreeEdits.{last_name};
+ghost use Rattle.lfs_model.specs.format.Names.{is_component, slash_byte};
+ghost use Rattle.lfs_model.specs.session.Operations.{parse_path};
+ghost use Rattle.lfs_model.specs.session.Refusals.{path_or_root, is_root_path};
+ghost use Rattle.lfs_lookup.specs.NameLengths.{length_after};
 
-use lfs_tag::is_valid_path_component;
+use lfs_tag::is_valid_component;
 use std::alloc::{AllocError, Global};
 use std::marker::Model;
 
 // Returns whether these bytes are names with a slash between each two.
-fn has_valid_names_between_slashes(bytes: &[u8]) -> bool
-    ensures { result ≡ list_all is_path_component (slice_split (λ c. c == slash_byte) bytes.now) }
+fn has_valid_names(bytes: &[u8]) -> bool
+    ensures { result ≡ list_all is_component (slice_split (λ c. c == slash_byte) bytes.now) }
 {
     bytes
         .split(|byte| *byte == b'/')
-        .all(|name| is_valid_path_component(name))
+        .all(|name| is_valid_component(name))
 }
 
 fn is_path(bytes: &[u8]) -> bool
-    ensures { result ≡ is_some (path_of_bytes bytes.now) }
+    ensures { result ≡ is_some (parse_path bytes.now) }
 {
     match bytes {
         [] => false,
         [first, rest @ ..] => *first == b'/'
-            && (rest.is_empty() || has_valid_names_between_slashes(rest)),
+            && (rest.is_empty() || has_valid_names(rest)),
     }
 }
 
@@ -39,8 +39,8 @@ fn split_at_slashes<'a>(alloc: Global, bytes: &'a [u8]) -> Result<Vec<&'a [u8]>,
 }
 
 // Returns how many bytes come after the last slash.
-fn len_after_last_slash(bytes: &[u8]) -> usize
-    ensures len { result ≡ length_after_last_slash 0 bytes.now }
+fn last_name_length(bytes: &[u8]) -> usize
+    ensures len { result ≡ length_after 0 bytes.now }
     ensures bound { result ≤ length bytes.now }
 {
     let mut len = 0;
@@ -58,21 +58,21 @@ pub struct Path<'a> {
 
 impl<'a> Model for Path<'a> {
     ghost use Rattle.std.specs.Prelude.{◌≡◌, true, is_some};
-    ghost use Rattle.lfs_model.specs.Operations.{path_of_bytes};
-    ghost use Rattle.lfs_model.specs.Refusals.{path_of_bytes_or_root};
-    ghost use Rattle.lfs_model.specs.Tree.{Path};
+    ghost use Rattle.lfs_model.specs.session.Operations.{parse_path};
+    ghost use Rattle.lfs_model.specs.session.Refusals.{path_or_root};
+    ghost use Rattle.lfs_model.specs.tree.Tree.{Path};
 
     ghost Value = { Path };
 
-    ghost view = { λ p. path_of_bytes_or_root p.bytes.now };
+    ghost view = { λ p. path_or_root p.bytes.now };
 
-    ghost invariant = { λ p. is_some (path_of_bytes p.bytes.now) ≡ true };
+    ghost invariant = { λ p. is_some (parse_path p.bytes.now) ≡ true };
 }
 
 impl<'a> Path<'a> {
     /// Makes the path of these bytes. Returns None where they aren't well formed.
     pub fn parse(bytes: &'a [u8]) -> Option<Path<'a>>
-        ensures { result ≡ path_of_bytes bytes.now }
+        ensures { result ≡ parse_path bytes.now }
     {
         if is_path(bytes) {
             Some(Path { bytes })
@@ -102,24 +102,24 @@ impl<'a> Path<'a> {
 
     /// Shows a proof that each name of the path may be a component. The call does nothing at run
     /// time.
-    pub fn show_path_names_are_valid_to_proof(&self)
-        ensures { list_all is_path_component self.now ≡ true }
+    pub fn lemma_valid_names(&self)
+        ensures { list_all is_component self.now ≡ true }
     {
         let _len = self.bytes.len();
     }
 
     /// Shows a proof that the path is made of some bytes. The call does nothing at run time.
-    pub fn show_path_comes_from_bytes_to_proof(&self)
-        ensures { (bytes : List ℕ) × (path_of_bytes_or_root bytes ≡ self.now) }
+    pub fn lemma_path_bytes(&self)
+        ensures { (bytes : List ℕ) × (path_or_root bytes ≡ self.now) }
     {
         let _len = self.bytes.len();
     }
 
     /// Returns how many bytes the last name has; the root's path has none.
     pub fn name_len(&self) -> usize
-        ensures len { result ≡ length (last_name_of_path self.now) }
+        ensures len { result ≡ length (last_name self.now) }
         ensures bound { result < 2 ^ 63 }
     {
-        len_after_last_slash(self.bytes)
+        last_name_length(self.bytes)
     }
 }

@@ -1,28 +1,28 @@
 // Paths, from the root down.
 
 ghost use Rattle.std.specs.Prelude.{◌≡◌, None, ◌<◌, ◌≤◌, ◌+◌, IfOk, map, sum_by, ◌++◌, ◌∷◌, [], drop};
-ghost use Rattle.lfs_model.specs.Frame.{pair_count_of_directory_at, ancestor_paths_of_path};
-ghost use Rattle.lfs_model.specs.History.{read_count_of_history};
-ghost use Rattle.lfs_model.specs.InDirectory.{hard_tail_joined_pair_count};
-ghost use Rattle.lfs_model.specs.Slots.{zero_gstate};
-ghost use Rattle.lfs_model.specs.Tree.{Path};
-ghost use Rattle.lfs_model.specs.View.{IsAcceptedImage};
+ghost use Rattle.lfs_model.specs.crash.Frame.{pair_count_at, ancestor_paths};
+ghost use Rattle.lfs_model.specs.session.History.{read_count};
+ghost use Rattle.lfs_model.specs.session.InDirectory.{joined_count};
+ghost use Rattle.lfs_model.specs.format.Slots.{zero_gstate};
+ghost use Rattle.lfs_model.specs.tree.Tree.{Path};
+ghost use Rattle.lfs_model.specs.tree.View.{IsAccepted};
 ghost use Rattle.lfs_tag.specs.FieldsView.{move_view};
-ghost use Rattle.lfs_lookup.specs.AtPath.{IsLookupNotRefusedByParents};
-ghost use Rattle.lfs_lookup.specs.AttributeAt.{IsLogBlockOfFoundSlotCached};
-ghost use Rattle.lfs_lookup.specs.Halves.{ReadsAtMostBinarySearchesOnPaths, ReadsAtMostBinarySearchOfDirectory};
-ghost use Rattle.lfs_lookup.specs.Reading.{OnlyReadsThreadAndReportsErrors};
-ghost use Rattle.lfs_lookup.specs.Search.{HidesMovedSlotInPairsFromIndex};
-ghost use Rattle.lfs_lookup.specs.Paths.{PathLeadsToFirstPair, IsParentReachedByAllNamesOfPath, IsDirectoryFileOrNothingAtPath, IsEntryBelowRootWithSlotHidden, IsFoundEntryOfName, PathLeadsToLookupResult, IsLookupResultWithSlotHidden, refusal_of_parent};
+ghost use Rattle.lfs_lookup.specs.AtPath.{ParentsAllowLookup};
+ghost use Rattle.lfs_lookup.specs.AttributeAt.{IsFoundCached};
+ghost use Rattle.lfs_lookup.specs.Halves.{ReadsBinarySearches, ReadsBinarySearch};
+ghost use Rattle.lfs_lookup.specs.LookupReading.{OnlyReadsThreadAndReportsErrors};
+ghost use Rattle.lfs_lookup.specs.NameSearch.{HidesFrom};
+ghost use Rattle.lfs_lookup.specs.LookupPaths.{LeadsToPair, ParentReached, IsNodeAt, IsBelowRoot, IsNamedEntry, LeadsToResult, IsHiddenResult, parent_refusal};
 ghost use Rattle.lfs_lookup.specs.Reads.{ReadsFewPairsOfDirectory, ReadsFewPairsOnPaths};
-ghost use Rattle.lfs_lookup.specs.Searchable.{CanSearchRecoveredImage, CanSearchWithSlotHidden};
+ghost use Rattle.lfs_lookup.specs.Searchable.{CanSearchRecovered, CanSearchHidden};
 
 use crate::entry::{FileOrDirectory, FileStorage};
-use crate::search::{NamePositionInDirectory, SlotPosition, find_name, find_name_with_slot_hidden};
+use crate::search::{NamePositionInDirectory, SlotPosition, find_name, find_unhidden};
 use lfs_device::{BlockDevice, Error};
 use lfs_tag::MoveState;
 use lfs_tag::kinds::DELETE;
-use lfs_thread::{Thread, pair_number_at_address};
+use lfs_thread::{Thread, number_at_address};
 
 // What a path leads to, where a directory is wanted.
 #[derive(Clone, Copy, Debug, PartialEq, Eq, Drop)]
@@ -90,39 +90,39 @@ pub enum VisiblePathLookup {
 
 // Returns the slot that counts as deleted under a global state: the one that a set move names
 // (DESIGN.md of littlefs, "The move problem"). Returns None where no move is set.
-pub(crate) fn spot_of_moved_slot<D: BlockDevice>(
+pub(crate) fn moved_slot_spot<D: BlockDevice>(
     thread: &Thread<D>,
     state: &MoveState,
 ) -> Option<SlotPosition>
-    requires { IsAcceptedImage thread.now.kept.disk thread.now.kept.pairs }
-    ensures hides { HidesMovedSlotInPairsFromIndex (move_view state.now) result 0 thread.now.kept.pairs }
+    requires { IsAccepted thread.now.kept.disk thread.now.kept.pairs }
+    ensures hides { HidesFrom (move_view state.now) result 0 thread.now.kept.pairs }
     ensures none { move_view state.now ≡ zero_gstate → result ≡ None }
 {
     if state.kind != DELETE {
         return None;
     }
-    match pair_number_at_address(thread, state.pair) {
+    match number_at_address(thread, state.pair) {
         Some(pair) => Some(SlotPosition { pair, id: state.id }),
         None => None,
     }
 }
 
 // Returns the directory of that name in a directory, where a slot may count as deleted.
-fn find_subdirectory_by_name<D: BlockDevice>(
+fn find_subdirectory<D: BlockDevice>(
     thread: &mut Thread<D>,
     first: usize,
     name: &[u8],
     moved: Option<SlotPosition>,
 ) -> Result<Parent, Error>
-    requires can { CanSearchWithSlotHidden thread.old moved }
-    requires reached { (path : Path) × PathLeadsToFirstPair thread.old.kept.pairs path first }
-    ensures answer { IfOk result (λ parent. (path : Path) → PathLeadsToFirstPair thread.old.kept.pairs path first → IsDirectoryFileOrNothingAtPath thread.old.kept (path ++ name.now ∷ []) parent) }
+    requires can { CanSearchHidden thread.old moved }
+    requires reached { (path : Path) × LeadsToPair thread.old.kept.pairs path first }
+    ensures answer { IfOk result (λ parent. (path : Path) → LeadsToPair thread.old.kept.pairs path first → IsNodeAt thread.old.kept (path ++ name.now ∷ []) parent) }
     ensures reads { ReadsFewPairsOfDirectory moved first thread.old thread.new result }
     ensures reading { OnlyReadsThreadAndReportsErrors thread.old thread.new result }
 {
-    match find_name_with_slot_hidden(thread, first, name, moved)? {
+    match find_unhidden(thread, first, name, moved)? {
         Some((_, FileOrDirectory::Directory(at))) => {
-            let next = pair_number_at_address(thread, at).unwrap();
+            let next = number_at_address(thread, at).unwrap();
             Ok(Parent::Directory(next))
         }
         Some((_, FileOrDirectory::File(_))) => Ok(Parent::File),
@@ -135,21 +135,21 @@ fn find_subdirectory_by_name<D: BlockDevice>(
 // is no directory's. It reads no more pairs than the directories above the last one have.
 //
 // Errors are those of `find_name`.
-pub(crate) fn find_directory_that_names_lead_to<D: BlockDevice>(
+pub(crate) fn find_directory<D: BlockDevice>(
     thread: &mut Thread<D>,
     root: usize,
     path: &[&[u8]],
     moved: Option<SlotPosition>,
 ) -> Result<Parent, Error>
-    requires can { CanSearchWithSlotHidden thread.old moved }
-    requires root { PathLeadsToFirstPair thread.old.kept.pairs [] root }
-    ensures answer { IfOk result (IsParentReachedByAllNamesOfPath thread.old.kept (map (λ name. name.now) path.now)) }
-    ensures reads { ReadsFewPairsOnPaths (moved ≡ None) (λ parent. refusal_of_parent parent ≡ None) (ancestor_paths_of_path (map (λ name. name.now) path.now)) thread.old thread.new result }
+    requires can { CanSearchHidden thread.old moved }
+    requires root { LeadsToPair thread.old.kept.pairs [] root }
+    ensures answer { IfOk result (ParentReached thread.old.kept (map (λ name. name.now) path.now)) }
+    ensures reads { ReadsFewPairsOnPaths (moved ≡ None) (λ parent. parent_refusal parent ≡ None) (ancestor_paths (map (λ name. name.now) path.now)) thread.old thread.new result }
     ensures reading { OnlyReadsThreadAndReportsErrors thread.old thread.new result }
 {
     let mut first = root;
     for name in path {
-        first = match find_subdirectory_by_name(thread, first, name, moved)? {
+        first = match find_subdirectory(thread, first, name, moved)? {
             Parent::Directory(next) => next,
             Parent::File => return Ok(Parent::File),
             Parent::Nothing => return Ok(Parent::Nothing),
@@ -159,21 +159,21 @@ pub(crate) fn find_directory_that_names_lead_to<D: BlockDevice>(
 }
 
 // Returns the entry of a name in a directory.
-fn look_up_in_directory<D: BlockDevice>(
+fn search_directory<D: BlockDevice>(
     thread: &mut Thread<D>,
     parent: usize,
     name: &[u8],
 ) -> Result<PathLookup, Error>
-    requires can { CanSearchRecoveredImage thread.old }
-    requires reached { (above : Path) × PathLeadsToFirstPair thread.old.kept.pairs above parent }
-    ensures answer { IfOk result (λ found. (above : Path) → PathLeadsToFirstPair thread.old.kept.pairs above parent → IsFoundEntryOfName thread.old.kept.disk.order thread.old.kept.pairs above name.now found) }
-    ensures few { read_count_of_history thread.new.kept.history ≤ read_count_of_history thread.old.kept.history + hard_tail_joined_pair_count (drop parent thread.old.kept.pairs) }
-    ensures halves { ReadsAtMostBinarySearchOfDirectory thread.old thread.new parent }
+    requires can { CanSearchRecovered thread.old }
+    requires reached { (above : Path) × LeadsToPair thread.old.kept.pairs above parent }
+    ensures answer { IfOk result (λ found. (above : Path) → LeadsToPair thread.old.kept.pairs above parent → IsNamedEntry thread.old.kept.disk.order thread.old.kept.pairs above name.now found) }
+    ensures few { read_count thread.new.kept.history ≤ read_count thread.old.kept.history + joined_count (drop parent thread.old.kept.pairs) }
+    ensures halves { ReadsBinarySearch thread.old thread.new parent }
     ensures reading { OnlyReadsThreadAndReportsErrors thread.old thread.new result }
 {
     match find_name(thread, parent, name)? {
         NamePositionInDirectory::Found(slot, FileOrDirectory::Directory(at)) => {
-            let first = pair_number_at_address(thread, at).unwrap();
+            let first = number_at_address(thread, at).unwrap();
             Ok(PathLookup::Directory {
                 parent,
                 slot,
@@ -202,40 +202,40 @@ pub fn look_up<D: BlockDevice>(
     root: usize,
     path: &[&[u8]],
 ) -> Result<PathLookup, Error>
-    requires can { CanSearchRecoveredImage thread.old }
-    requires root { PathLeadsToFirstPair thread.old.kept.pairs [] root }
-    ensures answer { IfOk result (PathLeadsToLookupResult thread.old.kept (map (λ name. name.now) path.now)) }
-    ensures few { read_count_of_history thread.new.kept.history ≤ read_count_of_history thread.old.kept.history + sum_by (pair_count_of_directory_at thread.old.kept.pairs) (ancestor_paths_of_path (map (λ name. name.now) path.now)) }
-    ensures halves { ReadsAtMostBinarySearchesOnPaths thread.old thread.new (ancestor_paths_of_path (map (λ name. name.now) path.now)) }
+    requires can { CanSearchRecovered thread.old }
+    requires root { LeadsToPair thread.old.kept.pairs [] root }
+    ensures answer { IfOk result (LeadsToResult thread.old.kept (map (λ name. name.now) path.now)) }
+    ensures few { read_count thread.new.kept.history ≤ read_count thread.old.kept.history + sum_by (pair_count_at thread.old.kept.pairs) (ancestor_paths (map (λ name. name.now) path.now)) }
+    ensures halves { ReadsBinarySearches thread.old thread.new (ancestor_paths (map (λ name. name.now) path.now)) }
     ensures reading { OnlyReadsThreadAndReportsErrors thread.old thread.new result }
 {
     let Some((name, above)) = path.split_last() else {
         return Ok(PathLookup::Root);
     };
-    match find_directory_that_names_lead_to(thread, root, above, None)? {
-        Parent::Directory(parent) => look_up_in_directory(thread, parent, name),
+    match find_directory(thread, root, above, None)? {
+        Parent::Directory(parent) => search_directory(thread, parent, name),
         Parent::File => Ok(PathLookup::ParentIsFile),
         Parent::Nothing => Ok(PathLookup::ParentIsMissing),
     }
 }
 
 // Returns the entry of a name in a directory, where a slot may count as deleted.
-fn look_up_name_with_slot_hidden<D: BlockDevice>(
+fn look_up_name<D: BlockDevice>(
     thread: &mut Thread<D>,
     parent: usize,
     name: &[u8],
     moved: Option<SlotPosition>,
 ) -> Result<VisiblePathLookup, Error>
-    requires can { CanSearchWithSlotHidden thread.old moved }
-    requires reached { (above : Path) × PathLeadsToFirstPair thread.old.kept.pairs above parent }
-    ensures answer { IfOk result (λ shown. (above : Path) → PathLeadsToFirstPair thread.old.kept.pairs above parent → IsEntryBelowRootWithSlotHidden thread.old.kept.pairs moved (above ++ name.now ∷ []) shown) }
-    ensures cached_log { IfOk result (IsLogBlockOfFoundSlotCached thread.new) }
+    requires can { CanSearchHidden thread.old moved }
+    requires reached { (above : Path) × LeadsToPair thread.old.kept.pairs above parent }
+    ensures answer { IfOk result (λ shown. (above : Path) → LeadsToPair thread.old.kept.pairs above parent → IsBelowRoot thread.old.kept.pairs moved (above ++ name.now ∷ []) shown) }
+    ensures cached_log { IfOk result (IsFoundCached thread.new) }
     ensures reads { ReadsFewPairsOfDirectory moved parent thread.old thread.new result }
     ensures reading { OnlyReadsThreadAndReportsErrors thread.old thread.new result }
 {
-    match find_name_with_slot_hidden(thread, parent, name, moved)? {
+    match find_unhidden(thread, parent, name, moved)? {
         Some((slot, FileOrDirectory::Directory(at))) => {
-            let first = pair_number_at_address(thread, at).unwrap();
+            let first = number_at_address(thread, at).unwrap();
             Ok(VisiblePathLookup::Directory { slot, first })
         }
         Some((slot, FileOrDirectory::File(contents))) => Ok(VisiblePathLookup::File {
@@ -251,24 +251,24 @@ fn look_up_name_with_slot_hidden<D: BlockDevice>(
 // cached then.
 //
 // Errors are those of `find_name`.
-pub(crate) fn look_up_with_moved_slot_hidden<D: BlockDevice>(
+pub(crate) fn look_up_unmoved<D: BlockDevice>(
     thread: &mut Thread<D>,
     root: usize,
     path: &[&[u8]],
     moved: Option<SlotPosition>,
 ) -> Result<VisiblePathLookup, Error>
-    requires can { CanSearchWithSlotHidden thread.old moved }
-    requires root { PathLeadsToFirstPair thread.old.kept.pairs [] root }
-    ensures answer { IfOk result (IsLookupResultWithSlotHidden thread.old.kept moved (map (λ name. name.now) path.now)) }
-    ensures cached_log { IfOk result (IsLogBlockOfFoundSlotCached thread.new) }
-    ensures reads { ReadsFewPairsOnPaths (moved ≡ None) IsLookupNotRefusedByParents (ancestor_paths_of_path (map (λ name. name.now) path.now)) thread.old thread.new result }
+    requires can { CanSearchHidden thread.old moved }
+    requires root { LeadsToPair thread.old.kept.pairs [] root }
+    ensures answer { IfOk result (IsHiddenResult thread.old.kept moved (map (λ name. name.now) path.now)) }
+    ensures cached_log { IfOk result (IsFoundCached thread.new) }
+    ensures reads { ReadsFewPairsOnPaths (moved ≡ None) ParentsAllowLookup (ancestor_paths (map (λ name. name.now) path.now)) thread.old thread.new result }
     ensures reading { OnlyReadsThreadAndReportsErrors thread.old thread.new result }
 {
     let Some((name, above)) = path.split_last() else {
         return Ok(VisiblePathLookup::Root);
     };
-    match find_directory_that_names_lead_to(thread, root, above, moved)? {
-        Parent::Directory(parent) => look_up_name_with_slot_hidden(thread, parent, name, moved),
+    match find_directory(thread, root, above, moved)? {
+        Parent::Directory(parent) => look_up_name(thread, parent, name, moved),
         Parent::File => Ok(VisiblePathLookup::ParentIsFile),
         Parent::Nothing => Ok(VisiblePathLookup::ParentIsMissing),
     }

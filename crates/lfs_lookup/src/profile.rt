@@ -1,26 +1,26 @@
 // What of the writing profile an image breaks.
 
 ghost use Rattle.std.specs.Prelude.{List, ◌≡◌, ◌↔◌, ◌<◌, ◌⊎◌, IsTrue, All, IfOk, IfErr, IfSome, MatchOption, None, Some, false, length, map, true};
-ghost use Rattle.lfs_model.specs.Content.{slot_if_name_and_struct_present, slots_if_names_and_structs_present, struct_of_type_and_bytes};
-ghost use Rattle.lfs_model.specs.EntryTypes.{superblock_fields_of_struct_bytes};
-ghost use Rattle.lfs_model.specs.Disk.{inline_limit};
-ghost use Rattle.lfs_model.specs.Slots.{PairContent as ModelContent, Inline, Slot as ModelSlot, is_superblock, pair_address_of_array};
-ghost use Rattle.lfs_model.specs.Thread.{pair_count_before_root};
-ghost use Rattle.lfs_model.specs.Profile.{HasInlineBytesWithinLimit};
-ghost use Rattle.lfs_model.specs.ProfileBreaches.{IsBreachIfNotWritable, IsOtherLimit};
-ghost use Rattle.lfs_model.specs.View.{IsAcceptedImage};
-ghost use Rattle.lfs_model.specs.WrittenContent.{IsRawContentFittingPair};
+ghost use Rattle.lfs_model.specs.format.Content.{complete_slot, complete_slots, read_struct};
+ghost use Rattle.lfs_model.specs.format.EntryTypes.{superblock_fields};
+ghost use Rattle.lfs_model.specs.format.Disk.{inline_limit};
+ghost use Rattle.lfs_model.specs.format.Slots.{PairContent as ModelContent, Inline, Slot as ModelSlot, is_superblock, array_address};
+ghost use Rattle.lfs_model.specs.format.Thread.{pair_count_before_root};
+ghost use Rattle.lfs_model.specs.tree.Profile.{InlineBytesFit};
+ghost use Rattle.lfs_model.specs.layers.ProfileBreaches.{IsBreachIfAny, IsOtherLimit};
+ghost use Rattle.lfs_model.specs.tree.View.{IsAccepted};
+ghost use Rattle.lfs_model.specs.layers.WrittenContent.{RawContentFits};
 ghost use Rattle.lfs_model.specs.declared.breaches.ProfileBreach.TheVariants.{EmptyPair, TooLarge};
 ghost use Rattle.lfs_tag.specs.ContentView.{attribute_view, content_view, slot_view};
 ghost use Rattle.lfs_tag.specs.FieldsView.{superblock_view};
-ghost use Rattle.lfs_thread.specs.CachedLog.{IsLogBlockOfContent};
-ghost use Rattle.lfs_thread.specs.Steps.{thread_pair_at_index};
-ghost use Rattle.lfs_lookup.specs.Profile.{IsBreachOfSlotsIfAny, IsChargeWithinLimit, IsPairBreachIfAny, IsSlotBreachIfAny, HasLimitsOfProfile, HasSuperblockStructOf24Bytes, follows_hard_tail_at};
-ghost use Rattle.lfs_lookup.specs.Reading.{OnlyReadsThreadAndReportsErrors};
+ghost use Rattle.lfs_thread.specs.CachedLog.{IsContentLog};
+ghost use Rattle.lfs_thread.specs.ThreadSteps.{thread_pair_at};
+ghost use Rattle.lfs_lookup.specs.ProfileChecks.{IsSlotsBreach, ChargeFits, IsPairBreach, IsSlotBreach, HasPairLimits, HasLongStruct, follows_tail_at};
+ghost use Rattle.lfs_lookup.specs.LookupReading.{OnlyReadsThreadAndReportsErrors};
 
 use lfs_device::{BlockDevice, Error, Geometry};
 use lfs_model::{OtherLimit, ProfileBreach};
-use lfs_pair::{attributes_size, is_content_within_pair_limits};
+use lfs_pair::{attributes_size, content_fits};
 use lfs_tag::kinds::INLINE_STRUCT;
 use lfs_tag::{Attribute, Content, Log, NameOrStruct, Slot, Superblock, superblock_of};
 use lfs_thread::Thread;
@@ -65,7 +65,7 @@ fn breach_to_tell(
 // Returns the first limit of a superblock that isn't the profile's.
 fn other_limit(geometry: &Geometry, fields: &Superblock) -> Option<OtherLimit>
     ensures found { IfSome result (IsOtherLimit geometry.now.profile (superblock_view fields.now)) }
-    ensures none { result ≡ None → HasLimitsOfProfile geometry.now.profile (superblock_view fields.now) }
+    ensures none { result ≡ None → HasPairLimits geometry.now.profile (superblock_view fields.now) }
 {
     if fields.name_max != geometry.name_max() {
         return Some(OtherLimit::Name(fields.name_max));
@@ -80,10 +80,10 @@ fn other_limit(geometry: &Geometry, fields: &Superblock) -> Option<OtherLimit>
 }
 
 // Returns the first limit of a superblock's struct that isn't the profile's.
-fn other_limit_of_struct(geometry: &Geometry, structure: &NameOrStruct<'_>) -> Option<OtherLimit>
+fn other_limit_of(geometry: &Geometry, structure: &NameOrStruct<'_>) -> Option<OtherLimit>
     requires { length structure.now.bytes.now ≡ 24 }
-    ensures found { IfSome result (IsOtherLimit geometry.now.profile (superblock_fields_of_struct_bytes structure.now.bytes.now)) }
-    ensures none { result ≡ None → HasLimitsOfProfile geometry.now.profile (superblock_fields_of_struct_bytes structure.now.bytes.now) }
+    ensures found { IfSome result (IsOtherLimit geometry.now.profile (superblock_fields structure.now.bytes.now)) }
+    ensures none { result ≡ None → HasPairLimits geometry.now.profile (superblock_fields structure.now.bytes.now) }
 {
     match <&[u8; 24]>::try_from(structure.bytes) {
         Ok(bytes) => other_limit(geometry, &superblock_of(bytes)),
@@ -98,30 +98,30 @@ fn breach_of_superblock(
     structure: &NameOrStruct<'_>,
 ) -> Option<ProfileBreach>
     requires { length structure.now.bytes.now ≡ 24 }
-    ensures { (s : ModelSlot) → is_superblock s ≡ true → s.struct ≡ Inline structure.now.bytes.now → IsSlotBreachIfAny geometry.now.profile geometry.now.block_size geometry.now.page (pair_address_of_array place.pair) place.slot s result }
+    ensures { (s : ModelSlot) → is_superblock s ≡ true → s.struct ≡ Inline structure.now.bytes.now → IsSlotBreach geometry.now.profile geometry.now.block_size geometry.now.page (array_address place.pair) place.slot s result }
 {
     let SlotPlace { pair, slot } = place;
-    match other_limit_of_struct(geometry, structure) {
+    match other_limit_of(geometry, structure) {
         Some(limit) => Some(ProfileBreach::OtherLimits { pair, slot, limit }),
         None => None,
     }
 }
 
 // Returns whether no more bytes are inline than the limit.
-fn is_inline_within_limit(geometry: &Geometry, structure: &NameOrStruct<'_>) -> bool
-    ensures { IsTrue result ↔ HasInlineBytesWithinLimit (inline_limit geometry.now.profile geometry.now.block_size) (struct_of_type_and_bytes structure.now.kind structure.now.bytes.now) }
+fn inline_fits(geometry: &Geometry, structure: &NameOrStruct<'_>) -> bool
+    ensures { IsTrue result ↔ InlineBytesFit (inline_limit geometry.now.profile geometry.now.block_size) (read_struct structure.now.kind structure.now.bytes.now) }
 {
     structure.kind != INLINE_STRUCT || structure.bytes.len() <= geometry.inline_limit() as usize
 }
 
 // Returns whether an entry takes at most half of what a pair may hold, with any contents that it
 // may get.
-fn is_charge_within_limit(
+fn charge_fits(
     geometry: &Geometry,
     name: &NameOrStruct<'_>,
     attributes: &[Attribute<'_>],
 ) -> bool
-    ensures { (s : ModelSlot) → s.name ≡ name.now.bytes.now → s.attributes ≡ map attribute_view attributes.now → IsTrue result ↔ IsChargeWithinLimit geometry.now.profile geometry.now.block_size geometry.now.page s }
+    ensures { (s : ModelSlot) → s.name ≡ name.now.bytes.now → s.attributes ≡ map attribute_view attributes.now → IsTrue result ↔ ChargeFits geometry.now.profile geometry.now.block_size geometry.now.page s }
 {
     let charge = attributes_size(attributes)
         .saturating_add(name.bytes.len() as u64)
@@ -137,14 +137,14 @@ fn breach_of_entry(
     structure: &NameOrStruct<'_>,
     attributes: &[Attribute<'_>],
 ) -> Option<ProfileBreach>
-    ensures { (s : ModelSlot) → is_superblock s ≡ false → s.name ≡ name.now.bytes.now → s.struct ≡ struct_of_type_and_bytes structure.now.kind structure.now.bytes.now → s.attributes ≡ map attribute_view attributes.now
-        → IsSlotBreachIfAny geometry.now.profile geometry.now.block_size geometry.now.page (pair_address_of_array place.pair) place.slot s result }
+    ensures { (s : ModelSlot) → is_superblock s ≡ false → s.name ≡ name.now.bytes.now → s.struct ≡ read_struct structure.now.kind structure.now.bytes.now → s.attributes ≡ map attribute_view attributes.now
+        → IsSlotBreach geometry.now.profile geometry.now.block_size geometry.now.page (array_address place.pair) place.slot s result }
 {
     let SlotPlace { pair, slot } = place;
-    if !is_inline_within_limit(geometry, structure) {
+    if !inline_fits(geometry, structure) {
         return Some(ProfileBreach::LongInline { pair, slot });
     }
-    if !is_charge_within_limit(geometry, name, attributes) {
+    if !charge_fits(geometry, name, attributes) {
         return Some(ProfileBreach::TooLarge { pair });
     }
     None
@@ -152,8 +152,8 @@ fn breach_of_entry(
 
 // Returns what of the writing profile a slot breaks.
 fn breach_of_slot(geometry: &Geometry, place: SlotPlace, slot: &Slot<'_>) -> Option<ProfileBreach>
-    requires { (s : ModelSlot) × ((slot_if_name_and_struct_present (slot_view slot.now) ≡ Some s) × HasSuperblockStructOf24Bytes s) }
-    ensures { (s : ModelSlot) → slot_if_name_and_struct_present (slot_view slot.now) ≡ Some s → HasSuperblockStructOf24Bytes s → IsSlotBreachIfAny geometry.now.profile geometry.now.block_size geometry.now.page (pair_address_of_array place.pair) place.slot s result }
+    requires { (s : ModelSlot) × ((complete_slot (slot_view slot.now) ≡ Some s) × HasLongStruct s) }
+    ensures { (s : ModelSlot) → complete_slot (slot_view slot.now) ≡ Some s → HasLongStruct s → IsSlotBreach geometry.now.profile geometry.now.block_size geometry.now.page (array_address place.pair) place.slot s result }
 {
     let (Some(name), Some(structure)) = (slot.name, slot.structure) else {
         return None;
@@ -166,8 +166,8 @@ fn breach_of_slot(geometry: &Geometry, place: SlotPlace, slot: &Slot<'_>) -> Opt
 
 // Returns what of the writing profile the slots of the pair at that address break.
 fn breach_of_slots(geometry: &Geometry, pair: [u32; 2], slots: &[Slot<'_>]) -> Option<ProfileBreach>
-    requires { (all : List ModelSlot) × ((slots_if_names_and_structs_present (map slot_view slots.now) ≡ Some all) × All HasSuperblockStructOf24Bytes all) }
-    ensures { (all : List ModelSlot) → slots_if_names_and_structs_present (map slot_view slots.now) ≡ Some all → All HasSuperblockStructOf24Bytes all → IsBreachOfSlotsIfAny geometry.now.profile geometry.now.block_size geometry.now.page (pair_address_of_array pair) all result }
+    requires { (all : List ModelSlot) × ((complete_slots (map slot_view slots.now) ≡ Some all) × All HasLongStruct all) }
+    ensures { (all : List ModelSlot) → complete_slots (map slot_view slots.now) ≡ Some all → All HasLongStruct all → IsSlotsBreach geometry.now.profile geometry.now.block_size geometry.now.page (array_address pair) all result }
 {
     let mut found = None;
     for (id, slot) in slots.iter().enumerate() {
@@ -191,14 +191,14 @@ fn breach_if_empty(pair: [u32; 2], follows: bool, slots: &[Slot<'_>]) -> Option<
 }
 
 // Returns a breach where a pair has more than it may hold.
-fn breach_if_too_large(
+fn breach_of_size(
     geometry: &Geometry,
     pair: [u32; 2],
     content: &Content<'_>,
 ) -> Option<ProfileBreach>
-    ensures { MatchOption result (IsRawContentFittingPair geometry.now.block_size geometry.now.page (content_view content.now)) (λ b. (b ≡ TooLarge pair) × ¬ IsRawContentFittingPair geometry.now.block_size geometry.now.page (content_view content.now)) }
+    ensures { MatchOption result (RawContentFits geometry.now.block_size geometry.now.page (content_view content.now)) (λ b. (b ≡ TooLarge pair) × ¬ RawContentFits geometry.now.block_size geometry.now.page (content_view content.now)) }
 {
-    if is_content_within_pair_limits(content, *geometry) {
+    if content_fits(content, *geometry) {
         None
     } else {
         Some(ProfileBreach::TooLarge { pair })
@@ -214,19 +214,19 @@ fn breach_of_log(
     log: &Log<'_>,
     follows: bool,
 ) -> Result<Option<ProfileBreach>, Error>
-    requires { (content : ModelContent) × (IsLogBlockOfContent log.now content × All HasSuperblockStructOf24Bytes content.slots) }
-    ensures is { (content : ModelContent) → IsLogBlockOfContent log.now content → All HasSuperblockStructOf24Bytes content.slots → IfOk result (IsPairBreachIfAny geometry.now.profile geometry.now.block_size geometry.now.page follows (record { at = pair_address_of_array pair; content = content })) }
+    requires { (content : ModelContent) × (IsContentLog log.now content × All HasLongStruct content.slots) }
+    ensures is { (content : ModelContent) → IsContentLog log.now content → All HasLongStruct content.slots → IfOk result (IsPairBreach geometry.now.profile geometry.now.block_size geometry.now.page follows (record { at = array_address pair; content = content })) }
     ensures errors { IfErr result (λ e. e ≡ Error.NoMemory) }
 {
     let content = Content::read(alloc, log)?;
     let of_slots = breach_of_slots(geometry, pair, &content.slots);
     let empty = breach_if_empty(pair, follows, &content.slots);
-    let large = breach_if_too_large(geometry, pair, &content);
+    let large = breach_of_size(geometry, pair, &content);
     Ok(breach_to_tell(breach_to_tell(of_slots, empty), large))
 }
 
 // Returns what of the writing profile the pair at an index breaks.
-fn breach_of_pair_at<D: BlockDevice>(
+fn breach_at<D: BlockDevice>(
     alloc: Global,
     thread: &mut Thread<D>,
     geometry: &Geometry,
@@ -235,8 +235,8 @@ fn breach_of_pair_at<D: BlockDevice>(
 ) -> Result<Option<ProfileBreach>, Error>
     requires works { thread.old.failed ≡ false }
     requires below { index < length thread.old.kept.pairs }
-    requires shaped { All HasSuperblockStructOf24Bytes (thread_pair_at_index thread.old.kept index).content.slots }
-    ensures is { IfOk result (IsPairBreachIfAny geometry.now.profile geometry.now.block_size geometry.now.page follows (thread_pair_at_index thread.old.kept index)) }
+    requires shaped { All HasLongStruct (thread_pair_at thread.old.kept index).content.slots }
+    ensures is { IfOk result (IsPairBreach geometry.now.profile geometry.now.block_size geometry.now.page follows (thread_pair_at thread.old.kept index)) }
     ensures reading { OnlyReadsThreadAndReportsErrors thread.old thread.new result }
 {
     thread.load_pair(index)?;
@@ -248,14 +248,14 @@ fn breach_of_pair_at<D: BlockDevice>(
 
 /// Returns whether a pair continues the directory of the pair before it. The pairs up to the root's
 /// first one, whose number is `root`, don't.
-pub fn is_pair_after_hard_tail<D: BlockDevice>(
+pub fn follows_hard_tail<D: BlockDevice>(
     thread: &Thread<D>,
     root: usize,
     index: usize,
 ) -> bool
     requires works { thread.now.failed ≡ false }
     requires below { index < length thread.now.kept.pairs }
-    ensures { result ≡ follows_hard_tail_at root thread.now.kept.pairs index }
+    ensures { result ≡ follows_tail_at root thread.now.kept.pairs index }
 {
     index > root && thread.next(index - 1).is_some()
 }
@@ -278,16 +278,16 @@ pub fn find_profile_breach<D: BlockDevice>(
     root: usize,
 ) -> Result<Option<ProfileBreach>, Error>
     requires works { thread.old.failed ≡ false }
-    requires accepted { IsAcceptedImage thread.old.kept.disk thread.old.kept.pairs }
+    requires accepted { IsAccepted thread.old.kept.disk thread.old.kept.pairs }
     requires root { root ≡ pair_count_before_root thread.old.kept.pairs }
-    ensures is { IfOk result (IsBreachIfNotWritable thread.old.kept.disk thread.old.kept.pairs) }
+    ensures is { IfOk result (IsBreachIfAny thread.old.kept.disk thread.old.kept.pairs) }
     ensures reading { OnlyReadsThreadAndReportsErrors thread.old thread.new result }
 {
     let geometry = thread.geometry();
     let mut found = None;
     for index in 0..thread.len() {
-        let follows = is_pair_after_hard_tail(thread, root, index);
-        let next = breach_of_pair_at(alloc, thread, &geometry, index, follows)?;
+        let follows = follows_hard_tail(thread, root, index);
+        let next = breach_at(alloc, thread, &geometry, index, follows)?;
         found = breach_to_tell(found, next);
         if let Some(ProfileBreach::OtherLimits { .. }) = found {
             return Ok(found);

@@ -1,8 +1,8 @@
 // Errors that are refusals.
 
 ghost use Rattle.std.specs.Prelude.{◌≡◌, true};
-ghost use Rattle.lfs_model.specs.Session.{refuse_if};
-ghost use Rattle.lfs_lookup.specs.Refusals.{error_of_refusal, is_refusal, refusal_of_error};
+ghost use Rattle.lfs_model.specs.session.Session.{refuse_if};
+ghost use Rattle.lfs_lookup.specs.RefusalErrors.{refusal_error, is_refusal, error_refusal};
 
 use lfs_device::Error;
 use std::marker::Model;
@@ -16,24 +16,24 @@ pub struct Refusal {
 
 impl Model for Refusal {
     ghost use Rattle.std.specs.Prelude.{◌≡◌, true};
-    ghost use Rattle.lfs_model.specs.Operations as ops;
-    ghost use Rattle.lfs_lookup.specs.Refusals.{error_survives_conversion_to_refusal_and_back, error_of_refusal, is_refusal, refusal_of_error};
+    ghost use Rattle.lfs_model.specs.session.Operations as ops;
+    ghost use Rattle.lfs_lookup.specs.RefusalErrors.{error_survives_refusal, refusal_error, is_refusal, error_refusal};
 
     ghost Value = { ops.Refusal };
 
-    ghost view = { λ r. refusal_of_error r.error };
+    ghost view = { λ r. error_refusal r.error };
 
     ghost invariant = { λ r. is_refusal r.error ≡ true };
 
-    ghost inverse = { λ r. record { error = error_of_refusal r } };
+    ghost inverse = { λ r. record { error = refusal_error r } };
 
-    ghost inverse_ok = { λ r h. Prim.rw (error_survives_conversion_to_refusal_and_back r.error h) };
+    ghost inverse_ok = { λ r h. Prim.rw (error_survives_refusal r.error h) };
 }
 
 impl Refusal {
     /// Returns the error that the refusal is.
     pub fn error(&self) -> Error
-        ensures refusal { refusal_of_error result ≡ self.now }
+        ensures refusal { error_refusal result ≡ self.now }
         ensures is { is_refusal result ≡ true }
     {
         self.error
@@ -43,7 +43,7 @@ impl Refusal {
 /// Returns the refusal that an error is.
 pub fn to_refusal(error: Error) -> Refusal
     requires { is_refusal error ≡ true }
-    ensures { result ≡ refusal_of_error error }
+    ensures { result ≡ error_refusal error }
 {
     Refusal { error }
 }
@@ -51,7 +51,7 @@ pub fn to_refusal(error: Error) -> Refusal
 /// Returns that refusal, if a check fails.
 pub fn refuse_if(is: bool, error: Error) -> Option<Refusal>
     requires { is_refusal error ≡ true }
-    ensures { result ≡ refuse_if is (refusal_of_error error) }
+    ensures { result ≡ refuse_if is (error_refusal error) }
 {
     if is { Some(Refusal { error }) } else { None }
 }

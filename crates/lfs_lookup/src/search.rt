@@ -1,16 +1,16 @@
 // Names in directories of several pairs.
 
 ghost use Rattle.std.specs.Prelude.{◌≡◌, ◌<◌, ◌≤◌, ◌+◌, ◌-◌, ◌/◌, ◌∷◌, [], false, length, drop, IfOk, IfSome, IsSome, OnOk};
-ghost use Rattle.lfs_model.specs.History.{read_count_of_history};
-ghost use Rattle.lfs_model.specs.InDirectory.{ArePairsWithoutSuperblock, hard_tail_joined_pair_count};
-ghost use Rattle.lfs_model.specs.Slots.{PairContent};
-ghost use Rattle.lfs_thread.specs.CachedLog.{IsLogBlockOfContent, cached_log};
-ghost use Rattle.lfs_thread.specs.Steps.{thread_pair_at_index};
+ghost use Rattle.lfs_model.specs.session.History.{read_count};
+ghost use Rattle.lfs_model.specs.session.InDirectory.{AreEntryPairs, joined_count};
+ghost use Rattle.lfs_model.specs.format.Slots.{PairContent};
+ghost use Rattle.lfs_thread.specs.CachedLog.{IsContentLog, cached_log};
+ghost use Rattle.lfs_thread.specs.ThreadSteps.{thread_pair_at};
 ghost use Rattle.lfs_lookup.specs.CachedPairs.{ReadsNothingAndKeepsPairsWhereAllCached};
-ghost use Rattle.lfs_lookup.specs.Listed.{hard_tail_joined_pairs};
-ghost use Rattle.lfs_lookup.specs.Reading.{OnlyReadsThreadAndReportsErrors};
-ghost use Rattle.lfs_lookup.specs.Halves.{EndsWithoutHardTail};
-ghost use Rattle.lfs_lookup.specs.Search.{SearchFindsInDirectory, SearchFindsInPair, SearchFindsWithSlotHidden, HasLogWhoseSlotsHaveNameAndStruct, AreDirectoryNamesInOrder, IsPairCachedIfSlotFound, skipped_id_in_pair};
+ghost use Rattle.lfs_lookup.specs.Listed.{joined_pairs};
+ghost use Rattle.lfs_lookup.specs.LookupReading.{OnlyReadsThreadAndReportsErrors};
+ghost use Rattle.lfs_lookup.specs.Halves.{EndsWithoutTail};
+ghost use Rattle.lfs_lookup.specs.NameSearch.{FindsInDirectory, FindsInPair, FindsUnhidden, HasCompleteLog, AreOrdered, CachesFoundPair, skipped_id};
 ghost use Rattle.lfs_lookup.specs.Reads.{ReadsFewPairsOfDirectory};
 ghost use Rattle.lfs_lookup.specs.Searchable.{CanReadPair};
 
@@ -44,14 +44,14 @@ enum NamePositionInPair {
 }
 
 // Returns where a name is among the slots of a log, where one slot may be passed over.
-fn find_name_in_log(
+fn find_in_log(
     log: &Log<'_>,
     order: NameOrder,
     name: &[u8],
     skip: Option<u16>,
 ) -> NamePositionInPair
-    requires { HasLogWhoseSlotsHaveNameAndStruct log.now }
-    ensures { (content : PairContent) → IsLogBlockOfContent log.now content → SearchFindsInPair order skip content.slots name.now result }
+    requires { HasCompleteLog log.now }
+    ensures { (content : PairContent) → IsContentLog log.now content → FindsInPair order skip content.slots name.now result }
 {
     match find(log, order, name, skip) {
         Lookup::Found(id) => {
@@ -63,34 +63,34 @@ fn find_name_in_log(
 }
 
 // Returns where a name is in one pair, where one slot may be passed over.
-fn find_name_in_pair<D: BlockDevice>(
+fn find_in_pair<D: BlockDevice>(
     thread: &mut Thread<D>,
     pair: usize,
     name: &[u8],
     skip: Option<u16>,
 ) -> Result<NamePositionInPair, Error>
     requires { CanReadPair thread.old pair }
-    ensures answer { IfOk result (SearchFindsInPair thread.old.kept.disk.order skip (thread_pair_at_index thread.old.kept pair).content.slots name.now) }
+    ensures answer { IfOk result (FindsInPair thread.old.kept.disk.order skip (thread_pair_at thread.old.kept pair).content.slots name.now) }
     ensures cached_log { OnOk result (IsSome (cached_log thread.new pair)) }
-    ensures few { read_count_of_history thread.new.kept.history ≤ read_count_of_history thread.old.kept.history + 1 }
-    ensures loads { ReadsNothingAndKeepsPairsWhereAllCached (thread_pair_at_index thread.old.kept pair ∷ []) thread.old thread.new result }
+    ensures few { read_count thread.new.kept.history ≤ read_count thread.old.kept.history + 1 }
+    ensures loads { ReadsNothingAndKeepsPairsWhereAllCached (thread_pair_at thread.old.kept pair ∷ []) thread.old thread.new result }
     ensures reading { OnlyReadsThreadAndReportsErrors thread.old thread.new result }
 {
     thread.load_pair(pair)?;
     let order = thread.order();
     let log = thread.lend(pair).unwrap();
-    Ok(find_name_in_log(&log, order, name, skip))
+    Ok(find_in_log(&log, order, name, skip))
 }
 
 // Returns the number behind the last pair of the directory that begins with the pair of number
 // `first`. A directory continues along the hard tails (SPEC.md of littlefs, "0x601
 // LFS_TYPE_HARDTAIL").
-fn end_of_directory_pairs<D: BlockDevice>(thread: &Thread<D>, first: usize) -> usize
+fn directory_end<D: BlockDevice>(thread: &Thread<D>, first: usize) -> usize
     requires works { thread.now.failed ≡ false }
     requires below { first < length thread.now.kept.pairs }
-    ensures count { result ≡ first + hard_tail_joined_pair_count (drop first thread.now.kept.pairs) }
+    ensures count { result ≡ first + joined_count (drop first thread.now.kept.pairs) }
     ensures within { result ≤ length thread.now.kept.pairs }
-    ensures soft { EndsWithoutHardTail (hard_tail_joined_pairs (drop first thread.now.kept.pairs)) }
+    ensures soft { EndsWithoutTail (joined_pairs (drop first thread.now.kept.pairs)) }
 {
     let count = thread.len();
     let mut pair = first;
@@ -107,8 +107,8 @@ fn middle_pair_number<D: BlockDevice>(thread: &Thread<D>, low: usize, high: usiz
     requires some { low < high }
     requires below { high ≤ length thread.now.kept.pairs }
     ensures within { (low ≤ result) × (result < high) }
-    ensures middle { 0 < length (thread_pair_at_index thread.now.kept (low + (high - low) / 2)).content.slots → result ≡ low + (high - low) / 2 }
-    ensures low { length (thread_pair_at_index thread.now.kept result).content.slots ≡ 0 → result ≡ low }
+    ensures middle { 0 < length (thread_pair_at thread.now.kept (low + (high - low) / 2)).content.slots → result ≡ low + (high - low) / 2 }
+    ensures low { length (thread_pair_at thread.now.kept result).content.slots ≡ 0 → result ≡ low }
 {
     let middle = low + (high - low) / 2;
     if thread.slot_count(middle) > 0 {
@@ -119,7 +119,7 @@ fn middle_pair_number<D: BlockDevice>(thread: &Thread<D>, low: usize, high: usiz
 }
 
 // Finds where a name is among the entries of the directory that begins with the pair of number
-// `first`, or where it belongs. A set move is ignored here; `find_name_with_slot_hidden` regards it. The entries of
+// `first`, or where it belongs. A set move is ignored here; `find_unhidden` regards it. The entries of
 // a directory are sorted by name along its pairs, so the search goes by halves. The call reads no
 // more pairs than the directory has. Where each pair has a slot these are 1 + log2 n of n pairs at
 // most.
@@ -132,14 +132,14 @@ pub(crate) fn find_name<D: BlockDevice>(
     name: &[u8],
 ) -> Result<NamePositionInDirectory, Error>
     requires can { CanReadPair thread.old first }
-    requires entries { ArePairsWithoutSuperblock (drop (first + 1) thread.old.kept.pairs) }
-    ensures answer { IfOk result (SearchFindsInDirectory thread.old.kept.disk.order thread.old.kept.pairs first name.now) }
-    ensures cached_log { IfOk result (IsPairCachedIfSlotFound thread.new) }
+    requires entries { AreEntryPairs (drop (first + 1) thread.old.kept.pairs) }
+    ensures answer { IfOk result (FindsInDirectory thread.old.kept.disk.order thread.old.kept.pairs first name.now) }
+    ensures cached_log { IfOk result (CachesFoundPair thread.new) }
     ensures reads { ReadsFewPairsOfDirectory None first thread.old thread.new result }
     ensures reading { OnlyReadsThreadAndReportsErrors thread.old thread.new result }
 {
     let mut low = first;
-    let mut high = end_of_directory_pairs(thread, first);
+    let mut high = directory_end(thread, first);
     let mut spot = SlotPosition { pair: first, id: 0 };
     while low < high {
         let pair = middle_pair_number(thread, low, high);
@@ -149,7 +149,7 @@ pub(crate) fn find_name<D: BlockDevice>(
             low = pair + 1;
             continue;
         }
-        let id = match find_name_in_pair(thread, pair, name, None)? {
+        let id = match find_in_pair(thread, pair, name, None)? {
             NamePositionInPair::Found(id, entry) => return Ok(NamePositionInDirectory::Found(
                 SlotPosition { pair, id },
                 entry,
@@ -172,24 +172,24 @@ pub(crate) fn find_name<D: BlockDevice>(
 }
 
 // Finds the entry of a name pair by pair, where the slot `moved` counts as deleted. The other
-// clauses are those of `find_name_with_slot_hidden`.
-fn find_name_along_hard_tails<D: BlockDevice>(
+// clauses are those of `find_unhidden`.
+fn find_along_tails<D: BlockDevice>(
     thread: &mut Thread<D>,
     first: usize,
     name: &[u8],
     moved: Option<SlotPosition>,
 ) -> Result<Option<(SlotPosition, FileOrDirectory)>, Error>
     requires { CanReadPair thread.old first }
-    ensures answer { IfOk result (SearchFindsWithSlotHidden thread.old.kept.pairs moved first name.now) }
+    ensures answer { IfOk result (FindsUnhidden thread.old.kept.pairs moved first name.now) }
     ensures cached_log { IfOk result (λ found. IfSome found (λ f. IsSome (cached_log thread.new f.0.pair))) }
-    ensures few { read_count_of_history thread.new.kept.history ≤ read_count_of_history thread.old.kept.history + hard_tail_joined_pair_count (drop first thread.old.kept.pairs) }
-    ensures loads { ReadsNothingAndKeepsPairsWhereAllCached (hard_tail_joined_pairs (drop first thread.old.kept.pairs)) thread.old thread.new result }
+    ensures few { read_count thread.new.kept.history ≤ read_count thread.old.kept.history + joined_count (drop first thread.old.kept.pairs) }
+    ensures loads { ReadsNothingAndKeepsPairsWhereAllCached (joined_pairs (drop first thread.old.kept.pairs)) thread.old thread.new result }
     ensures reading { OnlyReadsThreadAndReportsErrors thread.old thread.new result }
 {
     let mut pair = first;
     loop {
-        let skip = id_to_skip_in_pair(moved, pair);
-        match find_name_in_pair(thread, pair, name, skip)? {
+        let skip = id_to_skip(moved, pair);
+        match find_in_pair(thread, pair, name, skip)? {
             NamePositionInPair::Found(id, entry) => return Ok(Some((
                 SlotPosition { pair, id },
                 entry,
@@ -215,21 +215,21 @@ fn find_name_along_hard_tails<D: BlockDevice>(
 ///
 /// Errors: `Io` where a read failed. `NoMemory` where memory for a block isn't granted. The thread
 /// works after either.
-pub fn find_name_with_slot_hidden<D: BlockDevice>(
+pub fn find_unhidden<D: BlockDevice>(
     thread: &mut Thread<D>,
     first: usize,
     name: &[u8],
     moved: Option<SlotPosition>,
 ) -> Result<Option<(SlotPosition, FileOrDirectory)>, Error>
     requires can { CanReadPair thread.old first }
-    requires in_order { moved ≡ None → AreDirectoryNamesInOrder thread.old.kept.disk.order thread.old.kept.pairs first }
-    ensures answer { IfOk result (SearchFindsWithSlotHidden thread.old.kept.pairs moved first name.now) }
+    requires in_order { moved ≡ None → AreOrdered thread.old.kept.disk.order thread.old.kept.pairs first }
+    ensures answer { IfOk result (FindsUnhidden thread.old.kept.pairs moved first name.now) }
     ensures cached_log { IfOk result (λ found. IfSome found (λ f. IsSome (cached_log thread.new f.0.pair))) }
     ensures reads { ReadsFewPairsOfDirectory moved first thread.old thread.new result }
     ensures reading { OnlyReadsThreadAndReportsErrors thread.old thread.new result }
 {
     match moved {
-        Some(_) => find_name_along_hard_tails(thread, first, name, moved),
+        Some(_) => find_along_tails(thread, first, name, moved),
         None => match find_name(thread, first, name)? {
             NamePositionInDirectory::Found(spot, entry) => Ok(Some((spot, entry))),
             NamePositionInDirectory::Place(_) => Ok(None),
@@ -238,8 +238,8 @@ pub fn find_name_with_slot_hidden<D: BlockDevice>(
 }
 
 // Returns the id that is passed over in a pair.
-fn id_to_skip_in_pair(moved: Option<SlotPosition>, pair: usize) -> Option<u16>
-    ensures { result ≡ skipped_id_in_pair moved pair }
+fn id_to_skip(moved: Option<SlotPosition>, pair: usize) -> Option<u16>
+    ensures { result ≡ skipped_id moved pair }
 {
     match moved {
         Some(spot) if spot.pair == pair => Some(spot.id),

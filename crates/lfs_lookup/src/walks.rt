@@ -1,16 +1,16 @@
 // All entries beneath the root.
 
 ghost use Rattle.std.specs.Prelude.{◌≡◌, ◌++◌, ◌<◌, IfOk, OnOk, false, length, reverse};
-ghost use Rattle.lfs_model.specs.Thread.{gstate_of_pairs};
-ghost use Rattle.lfs_model.specs.View.{IsAcceptedImage};
+ghost use Rattle.lfs_model.specs.format.Thread.{pairs_gstate};
+ghost use Rattle.lfs_model.specs.tree.View.{IsAccepted};
 ghost use Rattle.lfs_tag.specs.FieldsView.{move_view};
-ghost use Rattle.lfs_lookup.specs.Items.{directory_item_view, directory_items_view, owned_struct_view};
-ghost use Rattle.lfs_lookup.specs.Reading.{OnlyReadsThreadAndReportsErrors};
-ghost use Rattle.lfs_lookup.specs.Walk.{AreEntriesBelowWalkedEntryPushed, AreDirectoryEntriesPushed, HasFirstPairInThreadIfDirectory, ArePathsAndStructsOfWalk, addresses_of_thread_pairs, walked_entry_beneath_path, tree_item_view, tree_items_view, walked_entries_beneath_path};
+ghost use Rattle.lfs_lookup.specs.Items.{directory_item_view, directory_items_view, owned_view};
+ghost use Rattle.lfs_lookup.specs.LookupReading.{OnlyReadsThreadAndReportsErrors};
+ghost use Rattle.lfs_lookup.specs.TreeWalk.{AreBelowPushed, ArePushed, HasFirstIfDirectory, AreWalkItems, pairs_addresses, walked_entry, tree_item_view, tree_items_view, walked_entries};
 
-use crate::addresses::pair_addresses_of_thread;
-use crate::directory::directory_items_under_gstate;
-use crate::items::{NameAndOwnedStruct, OwnedStruct, sort_by_name_shorter_first};
+use crate::addresses::thread_addresses;
+use crate::directory::directory_items;
+use crate::items::{NameAndOwnedStruct, OwnedStruct, sort_shorter_first};
 use lfs_device::{BlockDevice, Error};
 use lfs_tag::MoveState;
 use lfs_thread::{PairAddressList, Thread};
@@ -26,12 +26,12 @@ pub struct TreeItem {
 }
 
 // Returns the tree's entry of an item in the directory at a path.
-fn tree_item_beneath_path(
+fn tree_item_beneath(
     alloc: Global,
     path: &[u8],
     item: NameAndOwnedStruct,
 ) -> Result<TreeItem, AllocError>
-    ensures { IfOk result (λ found. tree_item_view found ≡ walked_entry_beneath_path path.now (directory_item_view item)) }
+    ensures { IfOk result (λ found. tree_item_view found ≡ walked_entry path.now (directory_item_view item)) }
 {
     let mut below = Vec::from_slice(alloc, path)?;
     below.push(b'/')?;
@@ -43,16 +43,16 @@ fn tree_item_beneath_path(
 }
 
 // Puts the entries of the directory of a path on top, the first of them topmost.
-fn push_items_beneath_path(
+fn push_beneath_path(
     alloc: Global,
     pending: &mut Vec<TreeItem>,
     path: &[u8],
     mut items: Vec<NameAndOwnedStruct>,
 ) -> Result<(), AllocError>
-    ensures { OnOk result (tree_items_view pending.new.items ≡ tree_items_view pending.old.items ++ reverse (walked_entries_beneath_path path.now (directory_items_view items.items))) }
+    ensures { OnOk result (tree_items_view pending.new.items ≡ tree_items_view pending.old.items ++ reverse (walked_entries path.now (directory_items_view items.items))) }
 {
     while let Some(item) = items.pop() {
-        let found = tree_item_beneath_path(alloc, path, item)?;
+        let found = tree_item_beneath(alloc, path, item)?;
         pending.push(found)?;
     }
     Ok(())
@@ -60,7 +60,7 @@ fn push_items_beneath_path(
 
 // Puts the entries of the directory that begins with the pair of number `first` on top, in name
 // order.
-fn push_items_of_directory<D: BlockDevice>(
+fn push_directory_items<D: BlockDevice>(
     alloc: Global,
     thread: &mut Thread<D>,
     state: &MoveState,
@@ -70,18 +70,18 @@ fn push_items_of_directory<D: BlockDevice>(
 ) -> Result<(), Error>
     requires works { thread.old.failed ≡ false }
     requires below { first < length thread.old.kept.pairs }
-    requires state { move_view state.now ≡ gstate_of_pairs thread.old.kept.pairs }
-    ensures pushed { OnOk result (AreDirectoryEntriesPushed thread.old.kept.pairs path.now first (tree_items_view pending.old.items) (tree_items_view pending.new.items)) }
+    requires state { move_view state.now ≡ pairs_gstate thread.old.kept.pairs }
+    ensures pushed { OnOk result (ArePushed thread.old.kept.pairs path.now first (tree_items_view pending.old.items) (tree_items_view pending.new.items)) }
     ensures reading { OnlyReadsThreadAndReportsErrors thread.old thread.new result }
 {
-    let mut items = directory_items_under_gstate(alloc, thread, state, first)?;
-    sort_by_name_shorter_first(&mut items);
-    push_items_beneath_path(alloc, pending, path, items)?;
+    let mut items = directory_items(alloc, thread, state, first)?;
+    sort_shorter_first(&mut items);
+    push_beneath_path(alloc, pending, path, items)?;
     Ok(())
 }
 
 // Puts the entries of a directory on top; a file has none.
-fn push_items_below_entry<D: BlockDevice>(
+fn push_below_entry<D: BlockDevice>(
     alloc: Global,
     thread: &mut Thread<D>,
     addresses: &PairAddressList,
@@ -90,15 +90,15 @@ fn push_items_below_entry<D: BlockDevice>(
     pending: &mut Vec<TreeItem>,
 ) -> Result<(), Error>
     requires works { thread.old.failed ≡ false }
-    requires all { addresses.now ≡ addresses_of_thread_pairs thread.old.kept.pairs }
-    requires begins { HasFirstPairInThreadIfDirectory thread.old.kept.pairs (owned_struct_view found.now.structure) }
-    requires state { move_view state.now ≡ gstate_of_pairs thread.old.kept.pairs }
-    ensures pushed { OnOk result (AreEntriesBelowWalkedEntryPushed thread.old.kept.pairs (tree_item_view found.now) (tree_items_view pending.old.items) (tree_items_view pending.new.items)) }
+    requires all { addresses.now ≡ pairs_addresses thread.old.kept.pairs }
+    requires begins { HasFirstIfDirectory thread.old.kept.pairs (owned_view found.now.structure) }
+    requires state { move_view state.now ≡ pairs_gstate thread.old.kept.pairs }
+    ensures pushed { OnOk result (AreBelowPushed thread.old.kept.pairs (tree_item_view found.now) (tree_items_view pending.old.items) (tree_items_view pending.new.items)) }
     ensures reading { OnlyReadsThreadAndReportsErrors thread.old thread.new result }
 {
     if let OwnedStruct::Branch(to) = found.structure {
         let first = addresses.find(to).unwrap() as usize;
-        push_items_of_directory(alloc, thread, state, first, &found.path, pending)?;
+        push_directory_items(alloc, thread, state, first, &found.path, pending)?;
     }
     Ok(())
 }
@@ -113,18 +113,18 @@ pub fn walk_tree<D: BlockDevice>(
     thread: &mut Thread<D>,
 ) -> Result<Vec<TreeItem>, Error>
     requires works { thread.old.failed ≡ false }
-    requires accepted { IsAcceptedImage thread.old.kept.disk thread.old.kept.pairs }
-    ensures walked { IfOk result (λ found. ArePathsAndStructsOfWalk thread.old.kept.disk thread.old.kept.pairs (tree_items_view found.items)) }
+    requires accepted { IsAccepted thread.old.kept.disk thread.old.kept.pairs }
+    ensures walked { IfOk result (λ found. AreWalkItems thread.old.kept.disk thread.old.kept.pairs (tree_items_view found.items)) }
     ensures reading { OnlyReadsThreadAndReportsErrors thread.old thread.new result }
 {
     let state = thread.state();
-    let addresses = pair_addresses_of_thread(alloc, thread)?;
+    let addresses = thread_addresses(alloc, thread)?;
     let mut walked = Vec::new(alloc);
     let mut pending = Vec::new(alloc);
     // The pairs of the superblock's chain, which may come before the root, have no entries.
-    push_items_of_directory(alloc, thread, &state, 0, b"", &mut pending)?;
+    push_directory_items(alloc, thread, &state, 0, b"", &mut pending)?;
     while let Some(found) = pending.pop() {
-        push_items_below_entry(alloc, thread, &addresses, &state, &found, &mut pending)?;
+        push_below_entry(alloc, thread, &addresses, &state, &found, &mut pending)?;
         walked.push(found)?;
     }
     Ok(walked)

@@ -11,16 +11,16 @@ use Rattle.std.proofs.lemmas.List.Folds.{Any-from_list_any}
 use Rattle.std.proofs.lemmas.List.Kept.{AllPairs-cons}
 use Rattle.byteorder.specs.Endian.{little_number}
 use Rattle.lfs_model.specs.declared.order.NameOrder.{NameOrder}
-use Rattle.lfs_model.specs.Disk.{Disk, block_count}
-use Rattle.lfs_model.specs.Names.{Name, name_cmp, same_name, is_less_ordering, is_valid_name}
+use Rattle.lfs_model.specs.format.Disk.{Disk, block_count}
+use Rattle.lfs_model.specs.format.Names.{Name, name_cmp, same_name, is_less, is_valid_name}
 use Rattle.lfs_model.specs.declared.limits.AcceptedVersions.{AcceptedVersions}
-use Rattle.lfs_model.specs.Slots.{Slot, KindOfSlot, File, Directory, Superblock, Struct, Inline, Ctz, Branch, Gstate, same_pair, is_superblock}
-use Rattle.lfs_model.specs.Content.{content_of_pair_at, current_block_of_pair_at}
-use Rattle.lfs_model.specs.Thread.{Pair, anchor_pair_address, AreLinkedByTails, blocks_of_pairs, pairs_from_root_directory_on, first_pair_address, pairs_from_first_with_slots, gstate_of_pairs, root_directory_address_of_pairs, starts_with_superblock}
-use Rattle.lfs_model.specs.Tree.{Path, root_slot, branch_address_of_struct, slot_at_path, directory_address_at_path, names_of_directory_at_address}
-use Rattle.lfs_model.specs.View.{is_accepted_version, first_slot_name, first_pair_slots, IsAcceptedImage, BeginsWithLogEntry, IsSuperblockStruct, HasSuperblockIfAnySlot, IsSameSuperblockStruct, IsFileOrDirectoryEntry, IsStructOfKind, IsSkipListIfCtzStruct, HasValidMoveOrNone, IsEntrySlotInThread, IsSomeSlotButNotSuperblock, superblock_name_log_entry, pairs_of_superblock_chain, pairs_after_superblock_chain}
-use Rattle.lfs_model.specs.Shown.{IsPathToDirectory, IsDirectoryAddressReachedBySomePath, directories_in_thread, entries_by_directory_in_thread, all_slots_not_moved, used_blocks}
-use Rattle.lfs_model.specs.TreeEdits.{same_path}
+use Rattle.lfs_model.specs.format.Slots.{Slot, SlotKind, File, Directory, Superblock, Struct, Inline, Ctz, Branch, Gstate, same_pair, is_superblock}
+use Rattle.lfs_model.specs.format.Content.{content_at, current_block}
+use Rattle.lfs_model.specs.format.Thread.{Pair, anchor_address, AreLinked, blocks_of_pairs, pairs_from_root, first_address, from_first_slots, pairs_gstate, root_address, starts_superblock}
+use Rattle.lfs_model.specs.tree.Tree.{Path, root_slot, branch_address, slot_at_path, address_at_path, names_at}
+use Rattle.lfs_model.specs.tree.View.{accepts_version, first_slot_name, first_slots, IsAccepted, BeginsWith, IsSuperblock, BeginsWithSuperblock, SameStructExceptVersion, IsTreeEntry, HasKind, IsWellFormedCtz, HasValidMove, IsThreadEntry, IsEntry, superblock_entry, chain_pairs, after_chain}
+use Rattle.lfs_model.specs.tree.Shown.{LeadsTo, IsReachedBySome, all_directories, all_entries, all_slots_not_moved, used_blocks}
+use Rattle.lfs_model.specs.session.TreeEdits.{same_path}
 use Rattle.lfs_model.proofs.Paths.{name_from_same, path_from_same}
 use Rattle.lfs_model.proofs.Outlines.{Outline, outline, is_outlined, outlined, found_in, found_holds}
 
@@ -67,9 +67,9 @@ apart_from (x ∷ xs) h = and_from (list_all (λ y. not (nat_eq x y)) xs) (are_a
 
 abbrev pub rise : NameOrder → List Name → Bool
 rise by [] = true
-rise by (n ∷ ns) = list_all (λ m. is_less_ordering (name_cmp by n m)) ns && rise by ns
+rise by (n ∷ ns) = list_all (λ m. is_less (name_cmp by n m)) ns && rise by ns
 
-less_from : (o : Ordering) → is_less_ordering o ≡ true → o ≡ Less
+less_from : (o : Ordering) → is_less o ≡ true → o ≡ Less
 less_from Less e = refl
 less_from Equal e = absurd (cc)
 less_from Greater e = absurd (cc)
@@ -77,12 +77,12 @@ less_from Greater e = absurd (cc)
 pub rise_from : (by : NameOrder) (ns : List Name) → rise by ns ≡ true → AllPairs (λ a b. name_cmp by a b ≡ Less) ns
 rise_from by [] e = λ i j d l m. absurd (omega arith)
 rise_from by (n ∷ ns) e =
-    let both = and_parts (list_all (λ m. is_less_ordering (name_cmp by n m)) ns) (rise by ns) e in
-    AllPairs-cons (λ a b. name_cmp by a b ≡ Less) n ns (all_from (λ m. is_less_ordering (name_cmp by n m)) (λ m. name_cmp by n m ≡ Less) (λ m. less_from (name_cmp by n m)) ns both.0) (rise_from by ns both.1)
+    let both = and_parts (list_all (λ m. is_less (name_cmp by n m)) ns) (rise by ns) e in
+    AllPairs-cons (λ a b. name_cmp by a b ≡ Less) n ns (all_from (λ m. is_less (name_cmp by n m)) (λ m. name_cmp by n m ≡ Less) (λ m. less_from (name_cmp by n m)) ns both.0) (rise_from by ns both.1)
 
 -- ---- slots
 
-abbrev pub has_struct_of_its_kind : KindOfSlot → Struct → Bool
+abbrev pub has_struct_of_its_kind : SlotKind → Struct → Bool
 has_struct_of_its_kind File (Inline bytes) = true
 has_struct_of_its_kind File (Ctz head size) = true
 has_struct_of_its_kind Directory (Branch to) = true
@@ -94,7 +94,7 @@ has_struct_of_its_kind Superblock s = false
 abbrev pub is_entry : Slot → Bool
 is_entry s = is_valid_name s.name && has_struct_of_its_kind s.kind s.struct
 
-suits_from : (k : KindOfSlot) (s : Struct) → has_struct_of_its_kind k s ≡ true → IsStructOfKind k s
+suits_from : (k : SlotKind) (s : Struct) → has_struct_of_its_kind k s ≡ true → HasKind k s
 suits_from File (Inline bytes) e = tt
 suits_from File (Ctz head size) e = tt
 suits_from File (Branch to) e = absurd (cc)
@@ -103,18 +103,18 @@ suits_from Directory (Ctz head size) e = absurd (cc)
 suits_from Directory (Branch to) e = tt
 suits_from Superblock s e = absurd (cc)
 
-entry_from : (s : Slot) → is_entry s ≡ true → IsFileOrDirectoryEntry s
+entry_from : (s : Slot) → is_entry s ≡ true → IsTreeEntry s
 entry_from s e = let both = and_parts (is_valid_name s.name) (has_struct_of_its_kind s.kind s.struct) e in record { name = both.0; struct = suits_from s.kind s.struct both.1 }
 
 abbrev pub is_inline : AcceptedVersions → List ℕ → Struct → Bool
-is_inline versions bytes (Inline held) = length held == length bytes && (is_accepted_version versions (little_number 4 held) && same_name (drop 4 held) (drop 4 bytes))
+is_inline versions bytes (Inline held) = length held == length bytes && (accepts_version versions (little_number 4 held) && same_name (drop 4 held) (drop 4 bytes))
 is_inline versions bytes (Ctz head size) = false
 is_inline versions bytes (Branch to) = false
 
-inline_from : (versions : AcceptedVersions) (bytes : List ℕ) (s : Struct) → is_inline versions bytes s ≡ true → (own : List ℕ) × ((s ≡ Inline own) × IsSameSuperblockStruct versions bytes own)
+inline_from : (versions : AcceptedVersions) (bytes : List ℕ) (s : Struct) → is_inline versions bytes s ≡ true → (own : List ℕ) × ((s ≡ Inline own) × SameStructExceptVersion versions bytes own)
 inline_from versions bytes (Inline held) e =
-    let one = and_parts (length held == length bytes) (is_accepted_version versions (little_number 4 held) && same_name (drop 4 held) (drop 4 bytes)) e in
-    let two = and_parts (is_accepted_version versions (little_number 4 held)) (same_name (drop 4 held) (drop 4 bytes)) one.1 in
+    let one = and_parts (length held == length bytes) (accepts_version versions (little_number 4 held) && same_name (drop 4 held) (drop 4 bytes)) e in
+    let two = and_parts (accepts_version versions (little_number 4 held)) (same_name (drop 4 held) (drop 4 bytes)) one.1 in
     (held, (refl, record { len = eqb-true (length held) (length bytes) one.0; version = two.0; rest = name_from_same (drop 4 held) (drop 4 bytes) two.1 }))
 inline_from versions bytes (Ctz head size) e = absurd (cc)
 inline_from versions bytes (Branch to) e = absurd (cc)
@@ -123,38 +123,38 @@ abbrev pub has_superblock : AcceptedVersions → List ℕ → List Slot → Bool
 has_superblock versions bytes [] = true
 has_superblock versions bytes (s ∷ slots) = is_superblock s && (is_inline versions bytes s.struct && list_all is_entry slots)
 
-superblock_from : (versions : AcceptedVersions) (bytes : List ℕ) (slots : List Slot) → has_superblock versions bytes slots ≡ true → HasSuperblockIfAnySlot versions bytes slots
+superblock_from : (versions : AcceptedVersions) (bytes : List ℕ) (slots : List Slot) → has_superblock versions bytes slots ≡ true → BeginsWithSuperblock versions bytes slots
 superblock_from versions bytes [] e = tt
 superblock_from versions bytes (s ∷ slots) e =
     let one = and_parts (is_superblock s) (is_inline versions bytes s.struct && list_all is_entry slots) e in
     let two = and_parts (is_inline versions bytes s.struct) (list_all is_entry slots) one.1 in
-    (one.0, inline_from versions bytes s.struct two.0, all_from is_entry IsFileOrDirectoryEntry entry_from slots two.1)
+    (one.0, inline_from versions bytes s.struct two.0, all_from is_entry IsTreeEntry entry_from slots two.1)
 
 -- ---- what a path leads to
 
 abbrev pub on_branches : (Path → ℕ × ℕ → Bool) → Outline → Bool
-on_branches T xs = list_all (λ f. option_map_or (T f.0) (branch_address_of_struct f.1.struct) true) xs
+on_branches T xs = list_all (λ f. option_map_or (T f.0) (branch_address f.1.struct) true) xs
 
-on_branch : (T : Path → ℕ × ℕ → Bool) (xs : Outline) (path : Path) (s : Slot) (at : ℕ × ℕ) → on_branches T xs ≡ true → found_in path xs ≡ Some s → branch_address_of_struct s.struct ≡ Some at → T path at ≡ true
+on_branch : (T : Path → ℕ × ℕ → Bool) (xs : Outline) (path : Path) (s : Slot) (at : ℕ × ℕ) → on_branches T xs ≡ true → found_in path xs ≡ Some s → branch_address s.struct ≡ Some at → T path at ≡ true
 on_branch T xs path s at e found branch =
-    let here : option_map_or (T path) (branch_address_of_struct s.struct) true ≡ true =
-    found_holds (λ p u. option_map_or (T p) (branch_address_of_struct u.struct) true ≡ true) xs (each_from (λ f. option_map_or (T f.0) (branch_address_of_struct f.1.struct) true) xs e) path s found in
+    let here : option_map_or (T path) (branch_address s.struct) true ≡ true =
+    found_holds (λ p u. option_map_or (T p) (branch_address u.struct) true ≡ true) xs (each_from (λ f. option_map_or (T f.0) (branch_address f.1.struct) true) xs e) path s found in
     rw branch at here
 
 -- the directories that paths of at most k names lead to
 abbrev pub outline_in : ℕ → List Pair → Outline
-outline_in k ps = outline k (entries_by_directory_in_thread ps) (root_slot (root_directory_address_of_pairs ps))
+outline_in k ps = outline k (all_entries ps) (root_slot (root_address ps))
 
-pub led : (k : ℕ) (ps : List Pair) → is_outlined k (entries_by_directory_in_thread ps) (root_slot (root_directory_address_of_pairs ps)) ≡ true → (T : Path → ℕ × ℕ → Bool) → on_branches T (outline_in k ps) ≡ true →
-    (path : Path) (at : ℕ × ℕ) → IsPathToDirectory ps path at → T path at ≡ true
-led k ps whole T e path at leads = go (slot_at_path (entries_by_directory_in_thread ps) (root_slot (root_directory_address_of_pairs ps)) path) (outlined k (entries_by_directory_in_thread ps) (root_slot (root_directory_address_of_pairs ps)) whole path) leads
+pub led : (k : ℕ) (ps : List Pair) → is_outlined k (all_entries ps) (root_slot (root_address ps)) ≡ true → (T : Path → ℕ × ℕ → Bool) → on_branches T (outline_in k ps) ≡ true →
+    (path : Path) (at : ℕ × ℕ) → LeadsTo ps path at → T path at ≡ true
+led k ps whole T e path at leads = go (slot_at_path (all_entries ps) (root_slot (root_address ps)) path) (outlined k (all_entries ps) (root_slot (root_address ps)) whole path) leads
   where
-    go : (o : Option Slot) → found_in path (outline_in k ps) ≡ o → option_and_then (λ s. branch_address_of_struct s.struct) o ≡ Some at → T path at ≡ true
+    go : (o : Option Slot) → found_in path (outline_in k ps) ≡ o → option_and_then (λ s. branch_address s.struct) o ≡ Some at → T path at ≡ true
     go None found is = absurd (cc)
     go (Some s) found is = on_branch T (outline_in k ps) path s at e found is
 
 abbrev pub begins : List Pair → ℕ × ℕ → Bool
-begins ps at = list_any (λ d. same_pair d.at at) (directories_in_thread ps)
+begins ps at = list_any (λ d. same_pair d.at at) (all_directories ps)
 
 -- no other path leads to the same directory
 abbrev is_once : Outline → Path → ℕ × ℕ → Bool
@@ -162,34 +162,34 @@ is_once xs path at = on_branches (λ other to. not (same_pair at to) || same_pat
 
 -- a path of the outline leads to the directory
 abbrev leads_to : List Pair → ℕ × ℕ → Path → Bool
-leads_to ps first path = option_map_or (same_pair first) (directory_address_at_path (entries_by_directory_in_thread ps) (root_directory_address_of_pairs ps) path) false
+leads_to ps first path = option_map_or (same_pair first) (address_at_path (all_entries ps) (root_address ps) path) false
 
-reached_from : (ps : List Pair) (first : ℕ × ℕ) (xs : Outline) → list_any (λ f. leads_to ps first f.0) xs ≡ true → IsDirectoryAddressReachedBySomePath ps first
+reached_from : (ps : List Pair) (first : ℕ × ℕ) (xs : Outline) → list_any (λ f. leads_to ps first f.0) xs ≡ true → IsReachedBySome ps first
 reached_from ps first [] e = absurd (cc)
 reached_from ps first (x ∷ xs) e = go (or_cases (leads_to ps first x.0) (list_any (λ f. leads_to ps first f.0) xs) e) (reached_from ps first xs)
   where
-    here : (o : Option (ℕ × ℕ)) → directory_address_at_path (entries_by_directory_in_thread ps) (root_directory_address_of_pairs ps) x.0 ≡ o → option_map_or (same_pair first) o false ≡ true → IsDirectoryAddressReachedBySomePath ps first
+    here : (o : Option (ℕ × ℕ)) → address_at_path (all_entries ps) (root_address ps) x.0 ≡ o → option_map_or (same_pair first) o false ≡ true → IsReachedBySome ps first
     here None leads h = absurd (cc)
     here (Some at) leads h = (x.0, at, (leads, h))
 
-    go : (leads_to ps first x.0 ≡ true) ⊎ (list_any (λ f. leads_to ps first f.0) xs ≡ true) → (list_any (λ f. leads_to ps first f.0) xs ≡ true → IsDirectoryAddressReachedBySomePath ps first) → IsDirectoryAddressReachedBySomePath ps first
-    go (inl h) ih = here (directory_address_at_path (entries_by_directory_in_thread ps) (root_directory_address_of_pairs ps) x.0) refl h
+    go : (leads_to ps first x.0 ≡ true) ⊎ (list_any (λ f. leads_to ps first f.0) xs ≡ true) → (list_any (λ f. leads_to ps first f.0) xs ≡ true → IsReachedBySome ps first) → IsReachedBySome ps first
+    go (inl h) ih = here (address_at_path (all_entries ps) (root_address ps) x.0) refl h
     go (inr h) ih = ih h
 
 abbrev pub is_other : Option Slot → Bool
 is_other None = false
 is_other (Some s) = not (is_superblock s)
 
-other_from : (o : Option Slot) → is_other o ≡ true → IsSomeSlotButNotSuperblock o
+other_from : (o : Option Slot) → is_other o ≡ true → IsEntry o
 other_from None e = absurd (cc)
 other_from (Some s) e = turned (is_superblock s) e
 
 abbrev pub names_slot : List Pair → ℕ × ℕ → ℕ → Bool
 names_slot ps pair id = list_any (λ p. same_pair pair p.at && is_other (slice_get p.content.slots id)) ps
 
-named_from : (ps : List Pair) (pair : ℕ × ℕ) (id : ℕ) → names_slot ps pair id ≡ true → IsEntrySlotInThread ps pair id
+named_from : (ps : List Pair) (pair : ℕ × ℕ) (id : ℕ) → names_slot ps pair id ≡ true → IsThreadEntry ps pair id
 named_from ps pair id e =
-    Any-as (λ p. (same_pair pair p.at && is_other (slice_get p.content.slots id)) ≡ true) (λ p. (same_pair pair p.at ≡ true) × IsSomeSlotButNotSuperblock (slice_get p.content.slots id))
+    Any-as (λ p. (same_pair pair p.at && is_other (slice_get p.content.slots id)) ≡ true) (λ p. (same_pair pair p.at ≡ true) × IsEntry (slice_get p.content.slots id))
     (λ p h. let both = and_parts (same_pair pair p.at) (is_other (slice_get p.content.slots id)) h in (both.0, other_from (slice_get p.content.slots id) both.1))
     (Any-from_list_any (λ p. same_pair pair p.at && is_other (slice_get p.content.slots id)) ps e)
   where
@@ -200,10 +200,10 @@ abbrev pub is_move : List Pair → Gstate → Bool
 is_move ps g =
     g.kind == 0x000 && (g.id == 0 && (g.pair.0 == 0 && g.pair.1 == 0)) || g.kind == 0x4ff && names_slot ps g.pair g.id
 
-move_from : (ps : List Pair) (g : Gstate) → is_move ps g ≡ true → HasValidMoveOrNone ps g
+move_from : (ps : List Pair) (g : Gstate) → is_move ps g ≡ true → HasValidMove ps g
 move_from ps g e = go (or_cases (g.kind == 0x000 && (g.id == 0 && (g.pair.0 == 0 && g.pair.1 == 0))) (g.kind == 0x4ff && names_slot ps g.pair g.id) e)
   where
-    go : ((g.kind == 0x000 && (g.id == 0 && (g.pair.0 == 0 && g.pair.1 == 0))) ≡ true) ⊎ ((g.kind == 0x4ff && names_slot ps g.pair g.id) ≡ true) → HasValidMoveOrNone ps g
+    go : ((g.kind == 0x000 && (g.id == 0 && (g.pair.0 == 0 && g.pair.1 == 0))) ≡ true) ⊎ ((g.kind == 0x4ff && names_slot ps g.pair g.id) ≡ true) → HasValidMove ps g
     go (inl h) =
         let one = and_parts (g.kind == 0x000) (g.id == 0 && (g.pair.0 == 0 && g.pair.1 == 0)) h in
         let two = and_parts (g.id == 0) (g.pair.0 == 0 && g.pair.1 == 0) one.1 in
@@ -215,12 +215,12 @@ move_from ps g e = go (or_cases (g.kind == 0x000 && (g.id == 0 && (g.pair.0 == 0
 
 abbrev pub is_struct : Disk → List ℕ → Bool
 is_struct disk bytes =
-    length bytes == 24 && (is_accepted_version disk.profile.versions (little_number 4 bytes) && (little_number 4 (drop 4 bytes) == disk.block_size && little_number 4 (drop 8 bytes) == block_count disk))
+    length bytes == 24 && (accepts_version disk.profile.versions (little_number 4 bytes) && (little_number 4 (drop 4 bytes) == disk.block_size && little_number 4 (drop 8 bytes) == block_count disk))
 
-struct_from : (disk : Disk) (bytes : List ℕ) → is_struct disk bytes ≡ true → IsSuperblockStruct disk bytes
+struct_from : (disk : Disk) (bytes : List ℕ) → is_struct disk bytes ≡ true → IsSuperblock disk bytes
 struct_from disk bytes e =
-    let one = and_parts (length bytes == 24) (is_accepted_version disk.profile.versions (little_number 4 bytes) && (little_number 4 (drop 4 bytes) == disk.block_size && little_number 4 (drop 8 bytes) == block_count disk)) e in
-    let two = and_parts (is_accepted_version disk.profile.versions (little_number 4 bytes)) (little_number 4 (drop 4 bytes) == disk.block_size && little_number 4 (drop 8 bytes) == block_count disk) one.1 in
+    let one = and_parts (length bytes == 24) (accepts_version disk.profile.versions (little_number 4 bytes) && (little_number 4 (drop 4 bytes) == disk.block_size && little_number 4 (drop 8 bytes) == block_count disk)) e in
+    let two = and_parts (accepts_version disk.profile.versions (little_number 4 bytes)) (little_number 4 (drop 4 bytes) == disk.block_size && little_number 4 (drop 8 bytes) == block_count disk) one.1 in
     let three = and_parts (little_number 4 (drop 4 bytes) == disk.block_size) (little_number 4 (drop 8 bytes) == block_count disk) two.1 in
     record {
       len = eqb-true (length bytes) 24 one.0;
@@ -235,52 +235,52 @@ tests disk ps bytes k =
     list_all (λ b. nat_lt b (block_count disk)) (blocks_of_pairs ps)
     ∷ are_apart (blocks_of_pairs ps)
     ∷ is_struct disk bytes
-    ∷ list_all (λ p. has_superblock disk.profile.versions bytes p.content.slots) (pairs_of_superblock_chain ps)
-    ∷ list_all (λ p. list_all is_entry p.content.slots) (pairs_after_superblock_chain ps)
-    ∷ is_outlined k (entries_by_directory_in_thread ps) (root_slot (root_directory_address_of_pairs ps))
-    ∷ on_branches (λ path at. rise disk.order (names_of_directory_at_address (entries_by_directory_in_thread ps) at)) (outline_in k ps)
+    ∷ list_all (λ p. has_superblock disk.profile.versions bytes p.content.slots) (chain_pairs ps)
+    ∷ list_all (λ p. list_all is_entry p.content.slots) (after_chain ps)
+    ∷ is_outlined k (all_entries ps) (root_slot (root_address ps))
+    ∷ on_branches (λ path at. rise disk.order (names_at (all_entries ps) at)) (outline_in k ps)
     ∷ on_branches (λ path at. begins ps at) (outline_in k ps)
     ∷ on_branches (is_once (outline_in k ps)) (outline_in k ps)
-    ∷ ((gstate_of_pairs ps).sync || list_all (λ d. list_any (λ f. leads_to ps d.at f.0) (outline_in k ps)) (directories_in_thread ps))
-    ∷ is_move ps (gstate_of_pairs ps)
+    ∷ ((pairs_gstate ps).sync || list_all (λ d. list_any (λ f. leads_to ps d.at f.0) (outline_in k ps)) (all_directories ps))
+    ∷ is_move ps (pairs_gstate ps)
     ∷ are_apart (used_blocks disk ps)
-    ∷ starts_with_superblock (first_pair_slots (pairs_from_root_directory_on ps))
+    ∷ starts_superblock (first_slots (pairs_from_root ps))
     ∷ []
 
 -- these pairs are on the disk, and the tests pass
 pub record IsImage (disk : Disk) (ps : List Pair) (bytes : List ℕ) (k : ℕ) : Type 0 where
-  pub links : AreLinkedByTails (Some anchor_pair_address) ps
-  pub contents : AllByRecursion (λ p. content_of_pair_at disk p.at ≡ Some p.content) ps
-  pub first : BeginsWithLogEntry (current_block_of_pair_at disk (first_pair_address (pairs_from_first_with_slots ps))) superblock_name_log_entry
-  pub named : first_slot_name (pairs_from_first_with_slots ps) ≡ Some (codes "littlefs")
-  pub lists : AllByRecursion (λ s. IsSkipListIfCtzStruct disk s.struct) (all_slots_not_moved ps)
+  pub links : AreLinked (Some anchor_address) ps
+  pub contents : AllByRecursion (λ p. content_at disk p.at ≡ Some p.content) ps
+  pub first : BeginsWith (current_block disk (first_address (from_first_slots ps))) superblock_entry
+  pub named : first_slot_name (from_first_slots ps) ≡ Some (codes "littlefs")
+  pub lists : AllByRecursion (λ s. IsWellFormedCtz disk s.struct) (all_slots_not_moved ps)
   pub pass : list_all (λ b. b) (tests disk ps bytes k) ≡ true
 
-pub image_is_outlined : (disk : Disk) (ps : List Pair) (bytes : List ℕ) (k : ℕ) → IsImage disk ps bytes k → is_outlined k (entries_by_directory_in_thread ps) (root_slot (root_directory_address_of_pairs ps)) ≡ true
+pub image_is_outlined : (disk : Disk) (ps : List Pair) (bytes : List ℕ) (k : ℕ) → IsImage disk ps bytes k → is_outlined k (all_entries ps) (root_slot (root_address ps)) ≡ true
 image_is_outlined disk ps bytes k h = (each_from (λ b. b) (tests disk ps bytes k) h.pass).1.1.1.1.1.0
 
-pub image_is_accepted : (disk : Disk) (ps : List Pair) (bytes : List ℕ) (k : ℕ) → IsImage disk ps bytes k → IsAcceptedImage disk ps
+pub image_is_accepted : (disk : Disk) (ps : List Pair) (bytes : List ℕ) (k : ℕ) → IsImage disk ps bytes k → IsAccepted disk ps
 image_is_accepted disk ps bytes k h =
     let t = each_from (λ b. b) (tests disk ps bytes k) h.pass in
     let whole = image_is_outlined disk ps bytes k h in
     record {
       thread = record {
         links = h.links;
-        contents = All-from_recursion (λ p. content_of_pair_at disk p.at ≡ Some p.content) ps h.contents;
+        contents = All-from_recursion (λ p. content_at disk p.at ≡ Some p.content) ps h.contents;
         in_range = all_from (λ b. nat_lt b (block_count disk)) (λ b. b < block_count disk) (λ b. ltb-true b (block_count disk)) (blocks_of_pairs ps) t.0;
         distinct = distinct_from (blocks_of_pairs ps) t.1.0;
       };
       first = h.first;
       named = h.named;
       root = t.1.1.1.1.1.1.1.1.1.1.1.1.0;
-      superblock = (bytes, (struct_from disk bytes t.1.1.0, all_from (λ p. has_superblock disk.profile.versions bytes p.content.slots) (λ p. HasSuperblockIfAnySlot disk.profile.versions bytes p.content.slots) (λ p. superblock_from disk.profile.versions bytes p.content.slots) (pairs_of_superblock_chain ps) t.1.1.1.0));
-      slots = all_from (λ p. list_all is_entry p.content.slots) (λ p. All IsFileOrDirectoryEntry p.content.slots) (λ p. all_from is_entry IsFileOrDirectoryEntry entry_from p.content.slots) (pairs_after_superblock_chain ps) t.1.1.1.1.0;
-      order = λ path at l. rise_from disk.order (names_of_directory_at_address (entries_by_directory_in_thread ps) at) (led k ps whole (λ path at. rise disk.order (names_of_directory_at_address (entries_by_directory_in_thread ps) at)) t.1.1.1.1.1.1.0 path at l);
-      branches = λ path at l. Any-from_list_any (λ d. same_pair d.at at) (directories_in_thread ps) (led k ps whole (λ path at. begins ps at) t.1.1.1.1.1.1.1.0 path at l);
+      superblock = (bytes, (struct_from disk bytes t.1.1.0, all_from (λ p. has_superblock disk.profile.versions bytes p.content.slots) (λ p. BeginsWithSuperblock disk.profile.versions bytes p.content.slots) (λ p. superblock_from disk.profile.versions bytes p.content.slots) (chain_pairs ps) t.1.1.1.0));
+      slots = all_from (λ p. list_all is_entry p.content.slots) (λ p. All IsTreeEntry p.content.slots) (λ p. all_from is_entry IsTreeEntry entry_from p.content.slots) (after_chain ps) t.1.1.1.1.0;
+      order = λ path at l. rise_from disk.order (names_at (all_entries ps) at) (led k ps whole (λ path at. rise disk.order (names_at (all_entries ps) at)) t.1.1.1.1.1.1.0 path at l);
+      branches = λ path at l. Any-from_list_any (λ d. same_pair d.at at) (all_directories ps) (led k ps whole (λ path at. begins ps at) t.1.1.1.1.1.1.1.0 path at l);
       once = λ path other at to l m same. one path other at to same (led k ps whole (λ other to. not (same_pair at to) || same_path path other) (led k ps whole (is_once (outline_in k ps)) t.1.1.1.1.1.1.1.1.0 path at l) other to m);
-      reached = λ clear. let here = rw clear at t.1.1.1.1.1.1.1.1.1.0 in all_from (λ d. list_any (λ f. leads_to ps d.at f.0) (outline_in k ps)) (λ d. IsDirectoryAddressReachedBySomePath ps d.at) (λ d. reached_from ps d.at (outline_in k ps)) (directories_in_thread ps) here;
-      move = move_from ps (gstate_of_pairs ps) t.1.1.1.1.1.1.1.1.1.1.0;
-      lists = All-from_recursion (λ s. IsSkipListIfCtzStruct disk s.struct) (all_slots_not_moved ps) h.lists;
+      reached = λ clear. let here = rw clear at t.1.1.1.1.1.1.1.1.1.0 in all_from (λ d. list_any (λ f. leads_to ps d.at f.0) (outline_in k ps)) (λ d. IsReachedBySome ps d.at) (λ d. reached_from ps d.at (outline_in k ps)) (all_directories ps) here;
+      move = move_from ps (pairs_gstate ps) t.1.1.1.1.1.1.1.1.1.1.0;
+      lists = All-from_recursion (λ s. IsWellFormedCtz disk s.struct) (all_slots_not_moved ps) h.lists;
       owned_once = distinct_from (used_blocks disk ps) t.1.1.1.1.1.1.1.1.1.1.1.0;
     }
   where

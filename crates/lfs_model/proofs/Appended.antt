@@ -2,21 +2,21 @@
 use Rattle.std.proofs.Common.{ℕ, ◌≡◌, ◌==◌, true, List, [], ◌∷◌, ◌++◌, Some, flat_map, refl, ap, ◌∙◌, eq-eqb}
 use Rattle.std.proofs.lemmas.List.{append-nil}
 use Rattle.std.proofs.lemmas.List.Concat.{flat_map-append}
-use Rattle.lfs_model.specs.Tag.{abstract_type_of_tag}
-use Rattle.lfs_model.specs.Log.{LogEntry, chain_of, log_entries_of_block}
-use Rattle.lfs_model.specs.Content.{RawPairContent, content_after_log_entries, empty_raw_pair_content}
+use Rattle.lfs_model.specs.format.Tag.{abstract_type}
+use Rattle.lfs_model.specs.format.Log.{LogEntry, chain_of, block_entries}
+use Rattle.lfs_model.specs.format.Content.{RawContent, content_after, empty_raw_content}
 use Rattle.lfs_model.proofs.WrittenAnew.{then}
 
 -- a checksum changes nothing
-pub checksum_stays : (c : RawPairContent) (e : LogEntry) → abstract_type_of_tag e.tag ≡ 5 → content_after_log_entries c (e ∷ []) ≡ Some c
-checksum_stays c e k = let five : abstract_type_of_tag e.tag == 5 ≡ true = eq-eqb (abstract_type_of_tag e.tag) 5 k in rw five refl
+pub checksum_stays : (c : RawContent) (e : LogEntry) → abstract_type e.tag ≡ 5 → content_after c (e ∷ []) ≡ Some c
+checksum_stays c e k = let five : abstract_type e.tag == 5 ≡ true = eq-eqb (abstract_type e.tag) 5 k in rw five refl
 
 -- these entries after earlier commits
-pub appended_content : (block : List ℕ) (cs : List (List LogEntry)) (es : List LogEntry) (checksum : LogEntry) (held after : RawPairContent)
-    → (chain_of block).commits ≡ cs ++ (es ++ checksum ∷ []) ∷ [] → abstract_type_of_tag checksum.tag ≡ 5
-    → content_after_log_entries empty_raw_pair_content (flat_map (λ c. c) cs) ≡ Some held → content_after_log_entries held es ≡ Some after → content_after_log_entries empty_raw_pair_content (log_entries_of_block block) ≡ Some after
+pub appended_content : (block : List ℕ) (cs : List (List LogEntry)) (es : List LogEntry) (checksum : LogEntry) (held after : RawContent)
+    → (chain_of block).commits ≡ cs ++ (es ++ checksum ∷ []) ∷ [] → abstract_type checksum.tag ≡ 5
+    → content_after empty_raw_content (flat_map (λ c. c) cs) ≡ Some held → content_after held es ≡ Some after → content_after empty_raw_content (block_entries block) ≡ Some after
 appended_content block cs es checksum held after are five so_far more =
-    ap (λ (ds : List (List LogEntry)). content_after_log_entries empty_raw_pair_content (flat_map (λ c. c) ds)) are
-    ∙ ap (content_after_log_entries empty_raw_pair_content) (flat_map-append (λ (c : List LogEntry). c) cs ((es ++ checksum ∷ []) ∷ []) ∙ ap (λ z. flat_map (λ (c : List LogEntry). c) cs ++ z) (append-nil (es ++ checksum ∷ [])))
-    ∙ then empty_raw_pair_content held (flat_map (λ c. c) cs) (es ++ checksum ∷ []) (Some after) so_far
+    ap (λ (ds : List (List LogEntry)). content_after empty_raw_content (flat_map (λ c. c) ds)) are
+    ∙ ap (content_after empty_raw_content) (flat_map-append (λ (c : List LogEntry). c) cs ((es ++ checksum ∷ []) ∷ []) ∙ ap (λ z. flat_map (λ (c : List LogEntry). c) cs ++ z) (append-nil (es ++ checksum ∷ [])))
+    ∙ then empty_raw_content held (flat_map (λ c. c) cs) (es ++ checksum ∷ []) (Some after) so_far
     (then held after es (checksum ∷ []) (Some after) more (checksum_stays after checksum five))

@@ -5,9 +5,9 @@ use Rattle.std.proofs.lemmas.Bool.{cases_eq}
 use Rattle.std.proofs.lemmas.List.{length-set}
 use Rattle.std.proofs.lemmas.List.Sums.{sum_by-cons, sum_by-set}
 use Rattle.std.proofs.lemmas.Option.{slice_get_within, get_or_from_slice_get, same_Some}
-use Rattle.lfs_model.specs.BlockSets.{BlockState, BlockStateList, IsBlockFree, AreExactlyTheInFlightBlocks, AreExactlyTheUsedBlocks, is_block_state_in_flight, is_used, in_flight_block_count, used_count}
-use Rattle.lfs_model.specs.BlockSets.BlockState.{Free, InFlight, Used}
-use Rattle.lfs_model.proofs.Counts.{occurrence_count_of_number, once_from_distinct, count_here}
+use Rattle.lfs_model.specs.layers.BlockSets.{BlockState, BlockStates, IsFree, AreInFlight, AreUsed, state_in_flight, is_used, in_flight_count, used_count}
+use Rattle.lfs_model.specs.layers.BlockSets.BlockState.{Free, InFlight, Used}
+use Rattle.lfs_model.proofs.Counts.{number_count, once_from_distinct, count_here}
 
 -- ---- what a list contains
 
@@ -21,18 +21,18 @@ Contains-head b bs = (0, omega arith, refl)
 pub Contains-tail : (x b : ℕ) (bs : List ℕ) → Contains bs b → Contains (x ∷ bs) b
 Contains-tail x b bs (k, lt, is) = (suc k, omega arith, is)
 
-pub occurrence_count_of_number-Contains : (bs : List ℕ) (b : ℕ) → Contains bs b → 1 ≤ occurrence_count_of_number b bs
-occurrence_count_of_number-Contains [] b has = absurd (omega (arith, has.1))
-occurrence_count_of_number-Contains (x ∷ bs) b has = ⊎_elim
-    (λ same. let here = count_here b bs in let is : occurrence_count_of_number b (x ∷ bs) ≡ occurrence_count_of_number b (b ∷ bs) = ap (λ y. occurrence_count_of_number b (y ∷ bs)) same in omega (arith, here, is))
-    (λ behind. omega (arith, occurrence_count_of_number-Contains bs b behind))
+pub number_count-Contains : (bs : List ℕ) (b : ℕ) → Contains bs b → 1 ≤ number_count b bs
+number_count-Contains [] b has = absurd (omega (arith, has.1))
+number_count-Contains (x ∷ bs) b has = ⊎_elim
+    (λ same. let here = count_here b bs in let is : number_count b (x ∷ bs) ≡ number_count b (b ∷ bs) = ap (λ y. number_count b (y ∷ bs)) same in omega (arith, here, is))
+    (λ behind. omega (arith, number_count-Contains bs b behind))
     (Contains-cons x b bs has)
 
-pub Contains-occurrence_count_of_number : (bs : List ℕ) (b : ℕ) → 1 ≤ occurrence_count_of_number b bs → Contains bs b
-Contains-occurrence_count_of_number [] b some = absurd (omega (arith, some))
-Contains-occurrence_count_of_number (x ∷ bs) b some = go (nat_eq b x) refl some (Contains-occurrence_count_of_number bs b)
+pub Contains-number_count : (bs : List ℕ) (b : ℕ) → 1 ≤ number_count b bs → Contains bs b
+Contains-number_count [] b some = absurd (omega (arith, some))
+Contains-number_count (x ∷ bs) b some = go (nat_eq b x) refl some (Contains-number_count bs b)
   where
-    go : (t : Bool) → nat_eq b x ≡ t → 1 ≤ cond t 1 0 + occurrence_count_of_number b bs → (1 ≤ occurrence_count_of_number b bs → Contains bs b) → Contains (x ∷ bs) b
+    go : (t : Bool) → nat_eq b x ≡ t → 1 ≤ cond t 1 0 + number_count b bs → (1 ≤ number_count b bs → Contains bs b) → Contains (x ∷ bs) b
     go true e k next = (0, omega arith, sym (eqb-true b x e))
     go false e k next = Contains-tail x b bs (next (omega (arith, k)))
 
@@ -42,7 +42,7 @@ tail_distinct b bs distinct = distinct.1
 
 pub not_behind : (b : ℕ) (bs : List ℕ) → IsDistinct nat_eq (b ∷ bs) → ¬ (Contains bs b)
 not_behind b bs distinct has =
-    absurd (omega (arith, once_from_distinct (b ∷ bs) distinct b, count_here b bs, occurrence_count_of_number-Contains bs b has))
+    absurd (omega (arith, once_from_distinct (b ∷ bs) distinct b, count_here b bs, number_count-Contains bs b has))
 
 -- ---- one block's state changed
 
@@ -59,10 +59,10 @@ slice_get-set_other (y ∷ xs) (suc b) zero x ne = refl
 slice_get-set_other (y ∷ xs) (suc b) (suc other) x ne = slice_get-set_other xs b other x (λ e. ne (ap suc e))
 
 -- the blocks of the list are those in that state
-abbrev pub AreIn : BlockState → BlockStateList → List ℕ → Type 0
+abbrev pub AreIn : BlockState → BlockStates → List ℕ → Type 0
 AreIn state sets bs = (b : ℕ) → (slice_get sets b ≡ Some state) ↔ Contains bs b
 
-module _ (state : BlockState) (sets : BlockStateList) (b : ℕ) where
+module _ (state : BlockState) (sets : BlockStates) (b : ℕ) where
   -- after a change to another state the block isn't in this one
   left : (to : BlockState) → to ≢ state → slice_get (set sets b to) b ≡ Some state → ⊥
   left to ne has =
@@ -84,13 +84,13 @@ module _ (state : BlockState) (sets : BlockStateList) (b : ℕ) where
 
 -- ---- how many are in a set
 
-pub count_by-set : (p : BlockState → Bool) (sets : BlockStateList) (b : ℕ) (was to : BlockState) → slice_get sets b ≡ Some was → count_by p (set sets b to) + cond (p was) 1 0 ≡ count_by p sets + cond (p to) 1 0
+pub count_by-set : (p : BlockState → Bool) (sets : BlockStates) (b : ℕ) (was to : BlockState) → slice_get sets b ≡ Some was → count_by p (set sets b to) + cond (p was) 1 0 ≡ count_by p sets + cond (p to) 1 0
 count_by-set p sets b was to is =
     ap (λ s. count_by p (set sets b to) + cond (p s) 1 0) (sym (get_or_from_slice_get sets b was Free is))
     ∙ sum_by-set (λ s. cond (p s) 1 0) sets b to Free (slice_get_within sets b was is)
 
 -- none is in it
-pub count_by-none : (p : BlockState → Bool) (sets : BlockStateList) → ((b : ℕ) (s : BlockState) → slice_get sets b ≡ Some s → p s ≡ false) → count_by p sets ≡ 0
+pub count_by-none : (p : BlockState → Bool) (sets : BlockStates) → ((b : ℕ) (s : BlockState) → slice_get sets b ≡ Some s → p s ≡ false) → count_by p sets ≡ 0
 count_by-none p [] none = refl
 count_by-none p (s ∷ sets) none =
     sum_by-cons (λ x. cond (p x) 1 0) s sets
@@ -109,7 +109,7 @@ pub record IsTestOf (p : BlockState → Bool) (state : BlockState) : Type 0 wher
 abbrev number_of : Bool → ℕ
 number_of t = cond t 1 0
 
-count_by-AreIn : (p : BlockState → Bool) (state : BlockState) → IsTestOf p state → (bs : List ℕ) (sets : BlockStateList) → IsDistinct nat_eq bs → AreIn state sets bs → count_by p sets ≡ length bs
+count_by-AreIn : (p : BlockState → Bool) (state : BlockState) → IsTestOf p state → (bs : List ℕ) (sets : BlockStates) → IsDistinct nat_eq bs → AreIn state sets bs → count_by p sets ≡ length bs
 count_by-AreIn p state test [] sets distinct are =
     count_by-none p sets (λ b s is. ⊎_elim (λ same. absurd (omega (arith, ((are b).0 (is ∙ ap Some same)).1))) (test.only s) (test.cases s))
 count_by-AreIn p state test (b ∷ bs) sets distinct are =
@@ -139,7 +139,7 @@ used_test = record {
     cases InFlight = inr (λ e. cc)
     cases Used = inl refl
 
-pub in_flight_test : IsTestOf is_block_state_in_flight InFlight
+pub in_flight_test : IsTestOf state_in_flight InFlight
 in_flight_test = record {
   passes = refl;
   only = only;
@@ -148,7 +148,7 @@ in_flight_test = record {
   differs = λ e. cc;
 }
   where
-    only : (s : BlockState) → s ≢ InFlight → is_block_state_in_flight s ≡ false
+    only : (s : BlockState) → s ≢ InFlight → state_in_flight s ≡ false
     only Free ne = refl
     only InFlight ne = absurd (ne refl)
     only Used ne = refl
@@ -159,35 +159,35 @@ in_flight_test = record {
     cases Used = inr (λ e. cc)
 
 -- each set is counted by a list of its blocks
-pub used_count-AreExactlyTheUsedBlocks : (sets : BlockStateList) (bs : List ℕ) → IsDistinct nat_eq bs → AreExactlyTheUsedBlocks sets bs → used_count sets ≡ length bs
-used_count-AreExactlyTheUsedBlocks sets bs distinct are = count_by-AreIn is_used Used used_test bs sets distinct are
+pub used_count-AreUsed : (sets : BlockStates) (bs : List ℕ) → IsDistinct nat_eq bs → AreUsed sets bs → used_count sets ≡ length bs
+used_count-AreUsed sets bs distinct are = count_by-AreIn is_used Used used_test bs sets distinct are
 
-pub in_flight_block_count-AreExactlyTheInFlightBlocks : (sets : BlockStateList) (bs : List ℕ) → IsDistinct nat_eq bs → AreExactlyTheInFlightBlocks sets bs → in_flight_block_count sets ≡ length bs
-in_flight_block_count-AreExactlyTheInFlightBlocks sets bs distinct are = count_by-AreIn is_block_state_in_flight InFlight in_flight_test bs sets distinct are
+pub in_flight_count-AreInFlight : (sets : BlockStates) (bs : List ℕ) → IsDistinct nat_eq bs → AreInFlight sets bs → in_flight_count sets ≡ length bs
+in_flight_count-AreInFlight sets bs distinct are = count_by-AreIn state_in_flight InFlight in_flight_test bs sets distinct are
 
 -- where no block is free, the two sets have all of them
-pub counts_from_none_free : (sets : BlockStateList) → ((b : ℕ) → ¬ (IsBlockFree sets b)) → used_count sets + in_flight_block_count sets ≡ length sets
+pub counts_from_none_free : (sets : BlockStates) → ((b : ℕ) → ¬ (IsFree sets b)) → used_count sets + in_flight_count sets ≡ length sets
 counts_from_none_free [] none = refl
 counts_from_none_free (s ∷ sets) none =
     let behind = counts_from_none_free sets (λ b free. none (suc b) free) in
     let used = sum_by-cons (λ x. cond (is_used x) 1 0) s sets in
-    let flying = sum_by-cons (λ x. cond (is_block_state_in_flight x) 1 0) s sets in
+    let flying = sum_by-cons (λ x. cond (state_in_flight x) 1 0) s sets in
     omega (arith, behind, used, flying, one_of s (λ e. none 0 (ap Some e)))
   where
-    one_of : (s : BlockState) → s ≢ Free → cond (is_used s) 1 0 + cond (is_block_state_in_flight s) 1 0 ≡ 1
+    one_of : (s : BlockState) → s ≢ Free → cond (is_used s) 1 0 + cond (state_in_flight s) 1 0 ≡ 1
     one_of Free ne = absurd (ne refl)
     one_of InFlight ne = refl
     one_of Used ne = refl
 
-pub counts_le : (sets : BlockStateList) → used_count sets + in_flight_block_count sets ≤ length sets
+pub counts_le : (sets : BlockStates) → used_count sets + in_flight_count sets ≤ length sets
 counts_le [] = omega arith
 counts_le (s ∷ sets) =
     let behind = counts_le sets in
     let used = sum_by-cons (λ x. cond (is_used x) 1 0) s sets in
-    let flying = sum_by-cons (λ x. cond (is_block_state_in_flight x) 1 0) s sets in
+    let flying = sum_by-cons (λ x. cond (state_in_flight x) 1 0) s sets in
     omega (arith, behind, used, flying, at_most_one s)
   where
-    at_most_one : (s : BlockState) → cond (is_used s) 1 0 + cond (is_block_state_in_flight s) 1 0 ≤ 1
+    at_most_one : (s : BlockState) → cond (is_used s) 1 0 + cond (state_in_flight s) 1 0 ≤ 1
     at_most_one Free = omega arith
     at_most_one InFlight = omega arith
     at_most_one Used = omega arith

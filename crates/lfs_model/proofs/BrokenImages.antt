@@ -5,18 +5,18 @@ use Rattle.std.specs.List.{AllByRecursion, list_all}
 use Rattle.std.specs.declared.cmp.Ordering.TheVariants.{Less}
 use Rattle.std.proofs.lemmas.List.Elements.{All-from_recursion}
 use Rattle.std.proofs.lemmas.List.Folds.{list_any-from_Any}
-use Rattle.lfs_model.specs.Content.{content_of_pair_at}
-use Rattle.lfs_model.specs.Disk.{Disk, block_count}
-use Rattle.lfs_model.specs.Names.{Name, name_cmp}
-use Rattle.lfs_model.specs.Shown.{IsDirectoryAddressReachedBySomePath, directories_in_thread, entries_by_directory_in_thread}
-use Rattle.lfs_model.specs.Slots.{Inline, Slot, same_pair}
-use Rattle.lfs_model.specs.Thread.{AreLinkedByTails, IsAddressOfDirectoryFirstPair, IsThreadOfMetadataPairs, Pair, anchor_pair_address, blocks_of_pairs, gstate_of_pairs, root_directory_address_of_pairs}
-use Rattle.lfs_model.specs.Tree.{Path, root_slot}
-use Rattle.lfs_model.specs.TreeEdits.{same_path}
-use Rattle.lfs_model.specs.View.{HasSuperblockStruct, HasValidMoveOrNone, IsFileOrDirectoryEntry, IsSkipListIfCtzStruct, is_accepted_version}
-use Rattle.lfs_model.specs.Violations.{BeginsThread, IsSuperblockOfDisk, LeadsByTails}
+use Rattle.lfs_model.specs.format.Content.{content_at}
+use Rattle.lfs_model.specs.format.Disk.{Disk, block_count}
+use Rattle.lfs_model.specs.format.Names.{Name, name_cmp}
+use Rattle.lfs_model.specs.tree.Shown.{IsReachedBySome, all_directories, all_entries}
+use Rattle.lfs_model.specs.format.Slots.{Inline, Slot, same_pair}
+use Rattle.lfs_model.specs.format.Thread.{AreLinked, BeginsAt, IsThread, Pair, anchor_address, blocks_of_pairs, pairs_gstate, root_address}
+use Rattle.lfs_model.specs.tree.Tree.{Path, root_slot}
+use Rattle.lfs_model.specs.session.TreeEdits.{same_path}
+use Rattle.lfs_model.specs.tree.View.{HasStruct, HasValidMove, IsTreeEntry, IsWellFormedCtz, accepts_version}
+use Rattle.lfs_model.specs.layers.Violations.{BeginsThread, IsDiskSuperblock, LeadsByTails}
 use Rattle.lfs_model.specs.declared.limits.AcceptedVersions.{AcceptedVersions}
-use Rattle.lfs_model.specs.EntryTypes.{superblock_fields_of_struct_bytes}
+use Rattle.lfs_model.specs.format.EntryTypes.{superblock_fields}
 use Rattle.lfs_model.specs.declared.order.NameOrder.{NameOrder}
 use Rattle.lfs_model.proofs.Acceptance.{all_from, are_apart, begins, distinct_from, is_entry, is_inline, is_move, is_struct, led, on_branches, outline_in, rise}
 use Rattle.lfs_model.proofs.Outlines.{is_outlined}
@@ -26,49 +26,49 @@ use Rattle.lfs_model.proofs.Refusals.{ctz_to, entry_to, inline_to, is_list_if_ct
 -- ---- the thread
 
 -- these pairs come first in the thread
-pub begins_with : (disk : Disk) (ps : List Pair) (next : ℕ × ℕ) → LeadsByTails (Some anchor_pair_address) ps (Some next) → AllByRecursion (λ p. content_of_pair_at disk p.at ≡ Some p.content) ps → BeginsThread disk ps next
-begins_with disk ps next links contents = record { links = links; contents = All-from_recursion (λ p. content_of_pair_at disk p.at ≡ Some p.content) ps contents }
+pub begins_with : (disk : Disk) (ps : List Pair) (next : ℕ × ℕ) → LeadsByTails (Some anchor_address) ps (Some next) → AllByRecursion (λ p. content_at disk p.at ≡ Some p.content) ps → BeginsThread disk ps next
+begins_with disk ps next links contents = record { links = links; contents = All-from_recursion (λ p. content_at disk p.at ≡ Some p.content) ps contents }
 
 -- these pairs are the thread
-pub is_thread : (disk : Disk) (ps : List Pair) → AreLinkedByTails (Some anchor_pair_address) ps → AllByRecursion (λ p. content_of_pair_at disk p.at ≡ Some p.content) ps
-    → list_all (λ b. nat_lt b (block_count disk)) (blocks_of_pairs ps) ≡ true → are_apart (blocks_of_pairs ps) ≡ true → IsThreadOfMetadataPairs (content_of_pair_at disk) (block_count disk) ps
+pub is_thread : (disk : Disk) (ps : List Pair) → AreLinked (Some anchor_address) ps → AllByRecursion (λ p. content_at disk p.at ≡ Some p.content) ps
+    → list_all (λ b. nat_lt b (block_count disk)) (blocks_of_pairs ps) ≡ true → are_apart (blocks_of_pairs ps) ≡ true → IsThread (content_at disk) (block_count disk) ps
 is_thread disk ps links contents within apart = record {
   links = links;
-  contents = All-from_recursion (λ p. content_of_pair_at disk p.at ≡ Some p.content) ps contents;
+  contents = All-from_recursion (λ p. content_at disk p.at ≡ Some p.content) ps contents;
   in_range = all_from (λ b. nat_lt b (block_count disk)) (λ b. b < block_count disk) (λ b. ltb-true b (block_count disk)) (blocks_of_pairs ps) within;
   distinct = distinct_from (blocks_of_pairs ps) apart;
 }
 
 -- ---- what fails
 
-pub no_superblock_of_disk : (disk : Disk) (s : Slot) (bytes : List ℕ) → s.struct ≡ Inline bytes → is_struct disk bytes ≡ false → ¬ IsSuperblockOfDisk disk s
+pub no_superblock_of_disk : (disk : Disk) (s : Slot) (bytes : List ℕ) → s.struct ≡ Inline bytes → is_struct disk bytes ≡ false → ¬ IsDiskSuperblock disk s
 no_superblock_of_disk disk s bytes is fails h =
     let held : h.bytes ≡ bytes = let e = sym h.inline ∙ is in cc in
     let e = struct_to disk h.bytes h.bytes h.struct (record { len = refl; version = h.struct.version; rest = refl }) in
     true≢false (sym e ∙ ap (is_struct disk) held ∙ fails)
 
-pub no_same_superblock : (versions : AcceptedVersions) (bytes : List ℕ) (s : Slot) → is_accepted_version versions (superblock_fields_of_struct_bytes bytes).version ≡ true → is_inline versions bytes s.struct ≡ false → ¬ HasSuperblockStruct versions bytes s
+pub no_same_superblock : (versions : AcceptedVersions) (bytes : List ℕ) (s : Slot) → accepts_version versions (superblock_fields bytes).version ≡ true → is_inline versions bytes s.struct ≡ false → ¬ HasStruct versions bytes s
 no_same_superblock versions bytes s accepted fails (own, (is, same)) = true≢false (sym (inline_to versions bytes bytes (record { len = refl; version = accepted; rest = refl }) s.struct own is same) ∙ fails)
 
-pub no_entry : (s : Slot) → is_entry s ≡ false → ¬ IsFileOrDirectoryEntry s
+pub no_entry : (s : Slot) → is_entry s ≡ false → ¬ IsTreeEntry s
 no_entry s fails h = true≢false (sym (entry_to s h) ∙ fails)
 
 pub no_rise : (order : NameOrder) (names : List Name) → rise order names ≡ false → ¬ AllPairs (λ a b. name_cmp order a b ≡ Less) names
 no_rise order names fails h = true≢false (sym (rise_to order names h) ∙ fails)
 
-pub no_directory_there : (ps : List Pair) (at : ℕ × ℕ) → begins ps at ≡ false → ¬ IsAddressOfDirectoryFirstPair (directories_in_thread ps) at
-no_directory_there ps at fails h = true≢false (sym (list_any-from_Any (λ d. same_pair d.at at) (directories_in_thread ps) h) ∙ fails)
+pub no_directory_there : (ps : List Pair) (at : ℕ × ℕ) → begins ps at ≡ false → ¬ BeginsAt (all_directories ps) at
+no_directory_there ps at fails h = true≢false (sym (list_any-from_Any (λ d. same_pair d.at at) (all_directories ps) h) ∙ fails)
 
 pub paths_differ : (path other : Path) → same_path path other ≡ false → ¬ (path ≡ other)
 paths_differ path other apart is = true≢false (sym (path_itself path) ∙ ap (same_path path) is ∙ apart)
 
 -- paths of at most k names lead to all directories, and none of them to this one
-pub no_path_leads : (ps : List Pair) (k : ℕ) (first : ℕ × ℕ) → is_outlined k (entries_by_directory_in_thread ps) (root_slot (root_directory_address_of_pairs ps)) ≡ true
-    → on_branches (λ path at. not (same_pair first at)) (outline_in k ps) ≡ true → ¬ IsDirectoryAddressReachedBySomePath ps first
+pub no_path_leads : (ps : List Pair) (k : ℕ) (first : ℕ × ℕ) → is_outlined k (all_entries ps) (root_slot (root_address ps)) ≡ true
+    → on_branches (λ path at. not (same_pair first at)) (outline_in k ps) ≡ true → ¬ IsReachedBySome ps first
 no_path_leads ps k first whole none (path, at, (leads, same)) = true≢false (sym (led k ps whole (λ p x. not (same_pair first x)) none path at leads) ∙ ap not same)
 
-pub no_valid_move : (ps : List Pair) → is_move ps (gstate_of_pairs ps) ≡ false → ¬ HasValidMoveOrNone ps (gstate_of_pairs ps)
-no_valid_move ps fails h = true≢false (sym (move_to ps (gstate_of_pairs ps) h) ∙ fails)
+pub no_valid_move : (ps : List Pair) → is_move ps (pairs_gstate ps) ≡ false → ¬ HasValidMove ps (pairs_gstate ps)
+no_valid_move ps fails h = true≢false (sym (move_to ps (pairs_gstate ps) h) ∙ fails)
 
-pub no_list : (disk : Disk) (s : Slot) → is_list_if_ctz disk s.struct ≡ false → ¬ IsSkipListIfCtzStruct disk s.struct
+pub no_list : (disk : Disk) (s : Slot) → is_list_if_ctz disk s.struct ≡ false → ¬ IsWellFormedCtz disk s.struct
 no_list disk s fails h = true≢false (sym (ctz_to disk s.struct h) ∙ fails)

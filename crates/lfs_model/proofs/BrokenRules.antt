@@ -8,19 +8,19 @@ use Rattle.std.proofs.lemmas.List.Concat.{flat_map-append}
 use Rattle.std.proofs.lemmas.List.Elements.{All-contains, All-head, All-tail, Contains-append_right, recursion_from_All}
 use Rattle.std.proofs.lemmas.Map.Keys.{IsDistinct-tail}
 use Rattle.std.proofs.lemmas.Option.{get_or_from_slice_get, none-some, same_Some, slice_get_within}
-use Rattle.lfs_model.specs.Content.{content_of_pair_at, current_block_of_pair_at}
-use Rattle.lfs_model.specs.Disk.{Disk, block_count, disk_in_order}
-use Rattle.lfs_model.specs.EntryTypes.{pair_address_of_bytes}
-use Rattle.lfs_model.specs.Shown.{IsDirectoryAddressReachedBySomePath, all_slots_not_moved, directories_in_thread}
-use Rattle.lfs_model.specs.Slots.{Gstate, Inline, PairContent, Slot, gstate_kind_of_set_move, is_superblock, pair_address_of_array, same_pair}
-use Rattle.lfs_model.specs.Thread.{AreLinkedByTails, IsThreadOfMetadataPairs, Pair, ThreadDirectory, anchor_pair_address, blocks_of_pairs, gstate_of_pairs, has_slots, id_of_moved_slot_in_pair, pair_address_named_by_tail, pair_count_before_root, pairs_from_first_with_slots, slots_not_moved, starts_with_superblock}
-use Rattle.lfs_model.specs.View.{BeginsWithLogEntry, HasSuperblockIfAnySlot, HasSuperblockStruct, IsAcceptedImage, IsFileOrDirectoryEntry, IsSameSuperblockStruct, IsSkipListIfCtzStruct, IsSuperblockStruct, first_pair_slots, first_slot_name, superblock_name_log_entry}
-use Rattle.lfs_model.specs.Violations.{BeginsThread, Breaks, BreaksPairs, BreaksThread, HasBlock, HasFallingNames, HasFirstSlot, HasLooseBranch, IsBlockInTwoPairs, IsBlockUsedTwice, IsNamedByThread, IsNeverReached, IsNoEntryAt, IsOtherSuperblock, IsPairInRange, IsReachedTwice, IsSuperblockOfDisk, IsUnmovedSlotAt, LeadsByTails}
+use Rattle.lfs_model.specs.format.Content.{content_at, current_block}
+use Rattle.lfs_model.specs.format.Disk.{Disk, block_count, ordered_disk}
+use Rattle.lfs_model.specs.format.EntryTypes.{read_address}
+use Rattle.lfs_model.specs.tree.Shown.{IsReachedBySome, all_slots_not_moved, all_directories}
+use Rattle.lfs_model.specs.format.Slots.{Gstate, Inline, PairContent, Slot, set_move_kind, is_superblock, array_address, same_pair}
+use Rattle.lfs_model.specs.format.Thread.{AreLinked, IsThread, Pair, ThreadDirectory, anchor_address, blocks_of_pairs, pairs_gstate, has_slots, moved_id, tail_address_of, pair_count_before_root, from_first_slots, slots_not_moved, starts_superblock}
+use Rattle.lfs_model.specs.tree.View.{BeginsWith, BeginsWithSuperblock, HasStruct, IsAccepted, IsTreeEntry, SameStructExceptVersion, IsWellFormedCtz, IsSuperblock, first_slots, first_slot_name, superblock_entry}
+use Rattle.lfs_model.specs.layers.Violations.{BeginsThread, Breaks, BreaksPairs, BreaksThread, HasBlock, NamesFall, HasFirstSlot, BranchIsLoose, IsInTwoPairs, IsUsedTwice, IsNamed, NeverReached, IsNoEntryAt, IsOtherSuperblock, IsInRange, IsReachedTwice, IsDiskSuperblock, IsUnmovedAt, LeadsByTails}
 use Rattle.lfs_model.specs.declared.limits.AcceptedVersions.{AcceptedVersions}
 use Rattle.lfs_model.specs.declared.order.NameOrder.{NameOrder}
 use Rattle.lfs_model.specs.declared.violations.Violation.{Violation}
 use Rattle.lfs_model.specs.declared.violations.Violation.TheVariants as violation
-use Rattle.lfs_model.proofs.BlockSets.{not_behind, occurrence_count_of_number-Contains}
+use Rattle.lfs_model.proofs.BlockSets.{not_behind, number_count-Contains}
 use Rattle.lfs_model.proofs.Counts.{Each, count_append, each_pieces, once_from_distinct}
 use Rattle.lfs_model.proofs.Listings.{distinct_right}
 use Rattle.lfs_model.proofs.Pairs.{pair_back, pair_on}
@@ -35,17 +35,17 @@ record HasPairBehind (ps qs : List Pair) (at : ℕ × ℕ) : Type 0 where
   are : qs ≡ ps ++ pair ∷ rest
   there : pair.at ≡ at
 
-pair_behind : (disk : Disk) (from : Option (ℕ × ℕ)) (at : ℕ × ℕ) (ps qs : List Pair) → LeadsByTails from ps (Some at) → AreLinkedByTails from qs
-    → All (λ p. content_of_pair_at disk p.at ≡ Some p.content) ps → All (λ p. content_of_pair_at disk p.at ≡ Some p.content) qs → HasPairBehind ps qs at
+pair_behind : (disk : Disk) (from : Option (ℕ × ℕ)) (at : ℕ × ℕ) (ps qs : List Pair) → LeadsByTails from ps (Some at) → AreLinked from qs
+    → All (λ p. content_at disk p.at ≡ Some p.content) ps → All (λ p. content_at disk p.at ≡ Some p.content) qs → HasPairBehind ps qs at
 pair_behind disk from at [] [] l m a b = absurd (none-some at (sym m ∙ l))
 pair_behind disk from at [] (q ∷ qs) l m a b = record { pair = q; rest = qs; are = refl; there = same_Some q.at at (sym m.0 ∙ l) }
 pair_behind disk from at (p ∷ ps) [] l m a b = absurd (none-some p.at (sym m ∙ l.0))
 pair_behind disk from at (p ∷ ps) (q ∷ qs) l m a b =
-    let P : Pair → Type 0 = λ p. content_of_pair_at disk p.at ≡ Some p.content in
+    let P : Pair → Type 0 = λ p. content_at disk p.at ≡ Some p.content in
     let here : p.at ≡ q.at = same_Some p.at q.at (sym l.0 ∙ m.0) in
-    let content : p.content ≡ q.content = same_Some p.content q.content (sym (All-head P p ps a) ∙ ap (content_of_pair_at disk) here ∙ All-head P q qs b) in
-    let next : AreLinkedByTails (pair_address_named_by_tail p.content.tail) qs = rw content m.1 in
-    let behind = pair_behind disk (pair_address_named_by_tail p.content.tail) at ps qs l.1 next (All-tail P p ps a) (All-tail P q qs b) in
+    let content : p.content ≡ q.content = same_Some p.content q.content (sym (All-head P p ps a) ∙ ap (content_at disk) here ∙ All-head P q qs b) in
+    let next : AreLinked (tail_address_of p.content.tail) qs = rw content m.1 in
+    let behind = pair_behind disk (tail_address_of p.content.tail) at ps qs l.1 next (All-tail P p ps a) (All-tail P q qs b) in
     record {
       pair = behind.pair;
       rest = behind.rest;
@@ -62,44 +62,44 @@ joined_blocks ps p rest = flat_map-append (λ (s : Pair). s.at.0 ∷ s.at.1 ∷ 
 
 -- a number in both lists is there twice
 not_in_both : (xs ys : List ℕ) (b : ℕ) → IsDistinct nat_eq (xs ++ ys) → Contains xs b → Contains ys b → ⊥
-not_in_both xs ys b distinct left right = omega (arith, once_from_distinct (xs ++ ys) distinct b, count_append b xs ys, occurrence_count_of_number-Contains xs b left, occurrence_count_of_number-Contains ys b right)
+not_in_both xs ys b distinct left right = omega (arith, once_from_distinct (xs ++ ys) distinct b, count_append b xs ys, number_count-Contains xs b left, number_count-Contains ys b right)
 
 -- what a whole thread has wherever it can be followed to
-module _ (disk : Disk) (qs : List Pair) (thread : IsThreadOfMetadataPairs (content_of_pair_at disk) (block_count disk) qs) where
+module _ (disk : Disk) (qs : List Pair) (thread : IsThread (content_at disk) (block_count disk) qs) where
   pair_after : (ps : List Pair) (at : ℕ × ℕ) → BeginsThread disk ps at → HasPairBehind ps qs at
-  pair_after ps at begins = pair_behind disk (Some anchor_pair_address) at ps qs begins.links thread.links begins.contents thread.contents
+  pair_after ps at begins = pair_behind disk (Some anchor_address) at ps qs begins.links thread.links begins.contents thread.contents
 
   distinct_blocks : (ps : List Pair) (at : ℕ × ℕ) (behind : HasPairBehind ps qs at) → IsDistinct nat_eq (blocks_of_pairs (ps ++ behind.pair ∷ behind.rest))
   distinct_blocks ps at behind = subst (λ xs. IsDistinct nat_eq (blocks_of_pairs xs)) behind.are thread.distinct
 
-  content_there : (at : ℕ × ℕ) → IsNamedByThread disk at → (content : PairContent) × (content_of_pair_at disk at ≡ Some content)
+  content_there : (at : ℕ × ℕ) → IsNamed disk at → (content : PairContent) × (content_at disk at ≡ Some content)
   content_there at (ps, begins) =
       let behind = pair_after ps at begins in
-      let held = All-contains (λ p. content_of_pair_at disk p.at ≡ Some p.content) qs behind.pair thread.contents
+      let held = All-contains (λ p. content_at disk p.at ≡ Some p.content) qs behind.pair thread.contents
       (subst (λ xs. Contains xs behind.pair) (sym behind.are) (Contains-append_right ps (behind.pair ∷ behind.rest) behind.pair (0, omega arith, refl))) in
-      (behind.pair.content, ap (content_of_pair_at disk) (sym behind.there) ∙ held)
+      (behind.pair.content, ap (content_at disk) (sym behind.there) ∙ held)
 
-  block_in_range : (at : ℕ × ℕ) (block : ℕ) → IsNamedByThread disk at → HasBlock at block → block < block_count disk
+  block_in_range : (at : ℕ × ℕ) (block : ℕ) → IsNamed disk at → HasBlock at block → block < block_count disk
   block_in_range at block (ps, begins) has =
       let behind = pair_after ps at begins in
       let here = block_here behind.pair behind.rest block (subst (λ x. HasBlock x block) (sym behind.there) has) in
       let whole = Contains-append_right (blocks_of_pairs ps) (blocks_of_pairs (behind.pair ∷ behind.rest)) block here in
       All-contains (λ b. b < block_count disk) (blocks_of_pairs qs) block thread.in_range (subst (λ bs. Contains bs block) (sym (ap blocks_of_pairs behind.are ∙ joined_blocks ps behind.pair behind.rest)) whole)
 
-  pub named_in_range : (at : ℕ × ℕ) → IsNamedByThread disk at → IsPairInRange disk at
+  pub named_in_range : (at : ℕ × ℕ) → IsNamed disk at → IsInRange disk at
   named_in_range at named = (block_in_range at at.0 named (inl refl), block_in_range at at.1 named (inr refl))
 
-  pub named_has_two_blocks : (at : ℕ × ℕ) → IsNamedByThread disk at → at.0 ≢ at.1
+  pub named_has_two_blocks : (at : ℕ × ℕ) → IsNamed disk at → at.0 ≢ at.1
   named_has_two_blocks at (ps, begins) same =
       let behind = pair_after ps at begins in
       let p = behind.pair in
       not_behind p.at.0 (p.at.1 ∷ blocks_of_pairs behind.rest) (distinct_right ps (p ∷ behind.rest) (distinct_blocks ps at behind))
       (0, omega arith, ap (λ x. x.1) behind.there ∙ sym same ∙ ap (λ x. x.0) (sym behind.there))
 
-  pub named_has_content : (at : ℕ × ℕ) → IsNamedByThread disk at → content_of_pair_at disk at ≢ None
+  pub named_has_content : (at : ℕ × ℕ) → IsNamed disk at → content_at disk at ≢ None
   named_has_content at named none = let (content, is) = content_there at named in none-some content (sym none ∙ is)
 
-  pub no_block_in_two_pairs : (at : ℕ × ℕ) (block : ℕ) → IsBlockInTwoPairs disk at block → ⊥
+  pub no_block_in_two_pairs : (at : ℕ × ℕ) (block : ℕ) → IsInTwoPairs disk at block → ⊥
   no_block_in_two_pairs at block two =
       let behind = pair_after two.before at two.begins in
       not_in_both (blocks_of_pairs two.before) (blocks_of_pairs (behind.pair ∷ behind.rest)) block
@@ -108,28 +108,28 @@ module _ (disk : Disk) (qs : List Pair) (thread : IsThreadOfMetadataPairs (conte
       (block_here behind.pair behind.rest block (subst (λ x. HasBlock x block) (sym behind.there) two.own))
 
 -- a disk that breaks a rule of the thread has no thread
-pub thread_breaks_none : (disk : Disk) (v : Violation) → BreaksThread disk v → (ps : List Pair) → IsThreadOfMetadataPairs (content_of_pair_at disk) (block_count disk) ps → ⊥
-thread_breaks_none disk (violation.OutOfRange pair) (named, past) ps thread = past (named_in_range disk ps thread (pair_address_of_array pair) named)
-thread_breaks_none disk (violation.OneBlock pair) (named, same) ps thread = named_has_two_blocks disk ps thread (pair_address_of_array pair) named same
-thread_breaks_none disk (violation.TwoPairs pair block) two ps thread = no_block_in_two_pairs disk ps thread (pair_address_of_array pair) block two
-thread_breaks_none disk (violation.NoContent pair) (named, within, none) ps thread = named_has_content disk ps thread (pair_address_of_array pair) named none
+pub thread_breaks_none : (disk : Disk) (v : Violation) → BreaksThread disk v → (ps : List Pair) → IsThread (content_at disk) (block_count disk) ps → ⊥
+thread_breaks_none disk (violation.OutOfRange pair) (named, past) ps thread = past (named_in_range disk ps thread (array_address pair) named)
+thread_breaks_none disk (violation.OneBlock pair) (named, same) ps thread = named_has_two_blocks disk ps thread (array_address pair) named same
+thread_breaks_none disk (violation.TwoPairs pair block) two ps thread = no_block_in_two_pairs disk ps thread (array_address pair) block two
+thread_breaks_none disk (violation.NoContent pair) (named, within, none) ps thread = named_has_content disk ps thread (array_address pair) named none
 thread_breaks_none disk _ h ps thread = absurd h
 
 -- the thread breaks the same rule, whatever the order of names
-pub thread_breaks_in_order : (order : NameOrder) (disk : Disk) (v : Violation) → BreaksThread disk v → BreaksThread (disk_in_order order disk) v
+pub thread_breaks_in_order : (order : NameOrder) (disk : Disk) (v : Violation) → BreaksThread disk v → BreaksThread (ordered_disk order disk) v
 thread_breaks_in_order order disk v h = go v h
   where
-    begins : (ps : List Pair) (at : ℕ × ℕ) → BeginsThread disk ps at → BeginsThread (disk_in_order order disk) ps at
+    begins : (ps : List Pair) (at : ℕ × ℕ) → BeginsThread disk ps at → BeginsThread (ordered_disk order disk) ps at
     begins ps at b = record { links = b.links; contents = b.contents }
 
-    named : (at : ℕ × ℕ) → IsNamedByThread disk at → IsNamedByThread (disk_in_order order disk) at
+    named : (at : ℕ × ℕ) → IsNamed disk at → IsNamed (ordered_disk order disk) at
     named at (ps, b) = (ps, begins ps at b)
 
-    go : (w : Violation) → BreaksThread disk w → BreaksThread (disk_in_order order disk) w
-    go (violation.OutOfRange pair) (is, past) = (named (pair_address_of_array pair) is, past)
-    go (violation.OneBlock pair) (is, same) = (named (pair_address_of_array pair) is, same)
-    go (violation.TwoPairs pair block) two = record { before = two.before; begins = begins two.before (pair_address_of_array pair) two.begins; own = two.own; earlier = two.earlier }
-    go (violation.NoContent pair) (is, within, none) = (named (pair_address_of_array pair) is, within, none)
+    go : (w : Violation) → BreaksThread disk w → BreaksThread (ordered_disk order disk) w
+    go (violation.OutOfRange pair) (is, past) = (named (array_address pair) is, past)
+    go (violation.OneBlock pair) (is, same) = (named (array_address pair) is, same)
+    go (violation.TwoPairs pair block) two = record { before = two.before; begins = begins two.before (array_address pair) two.begins; own = two.own; earlier = two.earlier }
+    go (violation.NoContent pair) (is, within, none) = (named (array_address pair) is, within, none)
     go _ k = absurd k
 
 -- ---- by number
@@ -166,31 +166,31 @@ not_twice (x ∷ xs) (suc i) (suc j) b l one other h = not_twice xs i j b (omega
 -- ---- the superblock
 
 -- a struct that is the same but for an accepted version is the disk's, too
-other_struct : (disk : Disk) (bytes own : List ℕ) → IsSuperblockStruct disk bytes → IsSameSuperblockStruct disk.profile.versions bytes own → IsSuperblockStruct disk own
+other_struct : (disk : Disk) (bytes own : List ℕ) → IsSuperblock disk bytes → SameStructExceptVersion disk.profile.versions bytes own → IsSuperblock disk own
 other_struct disk bytes own is same = record {
   len = same.len ∙ is.len;
   version = same.version;
-  block_size = ap (λ (b : List ℕ). (pair_address_of_bytes b).0) same.rest ∙ is.block_size;
-  block_count = ap (λ (b : List ℕ). (pair_address_of_bytes b).0) (sym (drop-drop 4 4 own) ∙ ap (drop 4) same.rest ∙ drop-drop 4 4 bytes) ∙ is.block_count;
+  block_size = ap (λ (b : List ℕ). (read_address b).0) same.rest ∙ is.block_size;
+  block_count = ap (λ (b : List ℕ). (read_address b).0) (sym (drop-drop 4 4 own) ∙ ap (drop 4) same.rest ∙ drop-drop 4 4 bytes) ∙ is.block_count;
 }
 
 -- slot 0 of a pair of the chain is a superblock with that struct
-first_of_chain : (v : AcceptedVersions) (bytes : List ℕ) (slots : List Slot) (s : Slot) → HasSuperblockIfAnySlot v bytes slots → slice_get slots 0 ≡ Some s → (is_superblock s ≡ true) × HasSuperblockStruct v bytes s
+first_of_chain : (v : AcceptedVersions) (bytes : List ℕ) (slots : List Slot) (s : Slot) → BeginsWithSuperblock v bytes slots → slice_get slots 0 ≡ Some s → (is_superblock s ≡ true) × HasStruct v bytes s
 first_of_chain v bytes [] s h e = absurd (cc)
-first_of_chain v bytes (t ∷ slots) s h e = subst (λ (x : Slot). (is_superblock x ≡ true) × HasSuperblockStruct v bytes x) (same_Some t s e) (h.0, h.1)
+first_of_chain v bytes (t ∷ slots) s h e = subst (λ (x : Slot). (is_superblock x ≡ true) × HasStruct v bytes x) (same_Some t s e) (h.0, h.1)
 
 -- and the slots behind it are entries
-entry_behind : (v : AcceptedVersions) (bytes : List ℕ) (slots : List Slot) (id : ℕ) (s : Slot) → HasSuperblockIfAnySlot v bytes slots → slice_get slots id ≡ Some s → 0 < id → IsFileOrDirectoryEntry s
+entry_behind : (v : AcceptedVersions) (bytes : List ℕ) (slots : List Slot) (id : ℕ) (s : Slot) → BeginsWithSuperblock v bytes slots → slice_get slots id ≡ Some s → 0 < id → IsTreeEntry s
 entry_behind v bytes [] id s h e l = absurd (cc)
 entry_behind v bytes (t ∷ slots) zero s h e l = absurd (omega (arith, l))
-entry_behind v bytes (t ∷ slots) (suc id) s h e l = holds_at IsFileOrDirectoryEntry slots id s h.2 e
+entry_behind v bytes (t ∷ slots) (suc id) s h e l = holds_at IsTreeEntry slots id s h.2 e
 
-bare : (slots : List Slot) → has_slots slots ≡ false → starts_with_superblock slots ≡ true → ⊥
+bare : (slots : List Slot) → has_slots slots ≡ false → starts_superblock slots ≡ true → ⊥
 bare [] none starts = cc
 bare (s ∷ slots) none starts = cc
 
 -- where pair n begins with a superblock, the first pair that has a slot is one of the pairs up to it
-slot_of_first : (P : Slot → Type 0) (ps : List Pair) (n m : ℕ) (s : Slot) → starts_with_superblock (first_pair_slots (drop n ps)) ≡ true → n < m
+slot_of_first : (P : Slot → Type 0) (ps : List Pair) (n m : ℕ) (s : Slot) → starts_superblock (first_slots (drop n ps)) ≡ true → n < m
     → All (λ (p : Pair). (t : Slot) → slice_get p.content.slots 0 ≡ Some t → P t) (take m ps) → HasFirstSlot ps s → P s
 slot_of_first P [] zero m s starts l all first = absurd (cc)
 slot_of_first P [] (suc n) m s starts l all first = absurd (cc)
@@ -200,47 +200,47 @@ slot_of_first P (p ∷ ps) n (suc m) s starts l all first = go (λ k. slot_of_fi
     Q : Pair → Type 0
     Q q = (t : Slot) → slice_get q.content.slots 0 ≡ Some t → P t
 
-    go : ((k : ℕ) → starts_with_superblock (first_pair_slots (drop k ps)) ≡ true → k < m → All Q (take m ps) → HasFirstSlot ps s → P s)
-        → (n : ℕ) (b : Bool) → has_slots p.content.slots ≡ b → starts_with_superblock (first_pair_slots (drop n (p ∷ ps))) ≡ true → n < suc m
-        → slice_get (first_pair_slots (cond b (p ∷ ps) (pairs_from_first_with_slots ps))) 0 ≡ Some s → P s
+    go : ((k : ℕ) → starts_superblock (first_slots (drop k ps)) ≡ true → k < m → All Q (take m ps) → HasFirstSlot ps s → P s)
+        → (n : ℕ) (b : Bool) → has_slots p.content.slots ≡ b → starts_superblock (first_slots (drop n (p ∷ ps))) ≡ true → n < suc m
+        → slice_get (first_slots (cond b (p ∷ ps) (from_first_slots ps))) 0 ≡ Some s → P s
     go later n true e k l first = All-head Q p (take m ps) all s first
     go later zero false e k l first = absurd (bare p.content.slots e k)
     go later (suc n) false e k l first = later n k (omega (arith, l)) (All-tail Q p (take m ps) all) first
 
-name_of_first : (qs : List Pair) (s : Slot) → slice_get (first_pair_slots qs) 0 ≡ Some s → first_slot_name qs ≡ Some s.name
+name_of_first : (qs : List Pair) (s : Slot) → slice_get (first_slots qs) 0 ≡ Some s → first_slot_name qs ≡ Some s.name
 name_of_first [] s first = absurd (cc)
 name_of_first (q ∷ qs) s first = ap (option_map (λ (t : Slot). t.name)) first
 
 -- ---- the slots of an accepted image
 
-module _ (disk : Disk) (ps : List Pair) (ok : IsAcceptedImage disk ps) where
-  chain_pair : (index : ℕ) (p : Pair) → slice_get ps index ≡ Some p → index ≤ pair_count_before_root ps → HasSuperblockIfAnySlot disk.profile.versions ok.superblock.0 p.content.slots
+module _ (disk : Disk) (ps : List Pair) (ok : IsAccepted disk ps) where
+  chain_pair : (index : ℕ) (p : Pair) → slice_get ps index ≡ Some p → index ≤ pair_count_before_root ps → BeginsWithSuperblock disk.profile.versions ok.superblock.0 p.content.slots
   chain_pair index p there l =
-      holds_in_take (λ (q : Pair). HasSuperblockIfAnySlot disk.profile.versions ok.superblock.0 q.content.slots) ps (pair_count_before_root ps + 1) index p ok.superblock.1.1 there (omega (arith, l))
+      holds_in_take (λ (q : Pair). BeginsWithSuperblock disk.profile.versions ok.superblock.0 q.content.slots) ps (pair_count_before_root ps + 1) index p ok.superblock.1.1 there (omega (arith, l))
 
-  accepted_entry : (index : ℕ) (p : Pair) (id : ℕ) (s : Slot) → slice_get ps index ≡ Some p → slice_get p.content.slots id ≡ Some s → (pair_count_before_root ps < index) ⊎ (0 < id) → IsFileOrDirectoryEntry s
+  accepted_entry : (index : ℕ) (p : Pair) (id : ℕ) (s : Slot) → slice_get ps index ≡ Some p → slice_get p.content.slots id ≡ Some s → (pair_count_before_root ps < index) ⊎ (0 < id) → IsTreeEntry s
   accepted_entry index p id s there slot required = go (cases_lt (pair_count_before_root ps) index) required
     where
-      go : (pair_count_before_root ps < index) ⊎ (index ≤ pair_count_before_root ps) → (pair_count_before_root ps < index) ⊎ (0 < id) → IsFileOrDirectoryEntry s
+      go : (pair_count_before_root ps < index) ⊎ (index ≤ pair_count_before_root ps) → (pair_count_before_root ps < index) ⊎ (0 < id) → IsTreeEntry s
       go (inl behind) either =
-          let entries = holds_in_drop (λ (q : Pair). All IsFileOrDirectoryEntry q.content.slots) ps (pair_count_before_root ps + 1) index p ok.slots there (omega (arith, behind)) in
-          holds_at IsFileOrDirectoryEntry p.content.slots id s entries slot
+          let entries = holds_in_drop (λ (q : Pair). All IsTreeEntry q.content.slots) ps (pair_count_before_root ps + 1) index p ok.slots there (omega (arith, behind)) in
+          holds_at IsTreeEntry p.content.slots id s entries slot
       go (inr within) (inl behind) = absurd (omega (arith, within, behind))
       go (inr within) (inr later) = entry_behind disk.profile.versions ok.superblock.0 p.content.slots id s (chain_pair index p there within) slot later
 
-  first_superblock : (s : Slot) → HasFirstSlot ps s → (is_superblock s ≡ true) × HasSuperblockStruct disk.profile.versions ok.superblock.0 s
+  first_superblock : (s : Slot) → HasFirstSlot ps s → (is_superblock s ≡ true) × HasStruct disk.profile.versions ok.superblock.0 s
   first_superblock s first =
-      slot_of_first (λ t. (is_superblock t ≡ true) × HasSuperblockStruct disk.profile.versions ok.superblock.0 t) ps (pair_count_before_root ps) (pair_count_before_root ps + 1) s ok.root (omega arith)
+      slot_of_first (λ t. (is_superblock t ≡ true) × HasStruct disk.profile.versions ok.superblock.0 t) ps (pair_count_before_root ps) (pair_count_before_root ps + 1) s ok.root (omega arith)
       (λ k d l t e. first_of_chain disk.profile.versions ok.superblock.0 (get_or (take (pair_count_before_root ps + 1) ps) k d).content.slots t (ok.superblock.1.1 k d l) e)
       first
 
   -- slot 0 of the first pair that has a slot
-  accepted_superblock : (s : Slot) → HasFirstSlot ps s → IsSuperblockOfDisk disk s
+  accepted_superblock : (s : Slot) → HasFirstSlot ps s → IsDiskSuperblock disk s
   accepted_superblock s first =
       let (kind, (own, (is, same))) = first_superblock s first in
       record {
         kind = kind;
-        name = same_Some s.name (codes "littlefs") (sym (name_of_first (pairs_from_first_with_slots ps) s first) ∙ ok.named);
+        name = same_Some s.name (codes "littlefs") (sym (name_of_first (from_first_slots ps) s first) ∙ ok.named);
         bytes = own;
         inline = is;
         struct = other_struct disk ok.superblock.0 own ok.superblock.1.0 same;
@@ -272,21 +272,21 @@ module _ (disk : Disk) (ps : List Pair) (ok : IsAcceptedImage disk ps) where
 
 -- ---- the directories of an accepted image
 
-no_falling_names : (disk : Disk) (ps : List Pair) (at : ℕ × ℕ) → IsAcceptedImage disk ps → HasFallingNames disk ps at → ⊥
+no_falling_names : (disk : Disk) (ps : List Pair) (at : ℕ × ℕ) → IsAccepted disk ps → NamesFall disk ps at → ⊥
 no_falling_names disk ps at ok h = h.falls (ok.order h.path h.to h.reached.leads)
 
-no_loose_branch : (disk : Disk) (ps : List Pair) (at : ℕ × ℕ) → IsAcceptedImage disk ps → HasLooseBranch ps at → ⊥
+no_loose_branch : (disk : Disk) (ps : List Pair) (at : ℕ × ℕ) → IsAccepted disk ps → BranchIsLoose ps at → ⊥
 no_loose_branch disk ps at ok h = h.loose (ok.branches (h.path ++ h.name ∷ []) h.target h.leads)
 
-none_reached_twice : (disk : Disk) (ps : List Pair) (at : ℕ × ℕ) → IsAcceptedImage disk ps → IsReachedTwice ps at → ⊥
+none_reached_twice : (disk : Disk) (ps : List Pair) (at : ℕ × ℕ) → IsAccepted disk ps → IsReachedTwice ps at → ⊥
 none_reached_twice disk ps at ok h =
     h.differ (ok.once h.path h.other h.to h.other_to h.reached.leads h.other_reached.leads
     (pair_on h.to at h.other_to h.reached.same (pair_back h.other_to at h.other_reached.same)))
 
-none_unreached : (disk : Disk) (ps : List Pair) (at : ℕ × ℕ) → IsAcceptedImage disk ps → IsNeverReached ps at → ⊥
+none_unreached : (disk : Disk) (ps : List Pair) (at : ℕ × ℕ) → IsAccepted disk ps → NeverReached ps at → ⊥
 none_unreached disk ps at ok h =
-    let reached = holds_at (λ (d : ThreadDirectory). IsDirectoryAddressReachedBySomePath ps d.at) (directories_in_thread ps) h.index h.directory (ok.reached h.sync) h.there in
-    h.unreached (subst (IsDirectoryAddressReachedBySomePath ps) h.at_is reached)
+    let reached = holds_at (λ (d : ThreadDirectory). IsReachedBySome ps d.at) (all_directories ps) h.index h.directory (ok.reached h.sync) h.there in
+    h.unreached (subst (IsReachedBySome ps) h.at_is reached)
 
 -- ---- the lists of an accepted image
 
@@ -308,48 +308,48 @@ left_there (s ∷ slots) (suc moved) (suc id) ne = left_there slots moved id (λ
 
 -- the index of a slot among those of its pair that no set move names
 abbrev index_in_pair : Gstate → Pair → ℕ → ℕ
-index_in_pair g p id = cond (g.kind == gstate_kind_of_set_move && same_pair g.pair p.at) (index_without g.id id) id
+index_in_pair g p id = cond (g.kind == set_move_kind && same_pair g.pair p.at) (index_without g.id id) id
 
-stays_there : (g : Gstate) (p : Pair) (id : ℕ) (s : Slot) → slice_get p.content.slots id ≡ Some s → id_of_moved_slot_in_pair g p ≢ Some id → slice_get (slots_not_moved g p) (index_in_pair g p id) ≡ Some s
-stays_there g p id s there = go (g.kind == gstate_kind_of_set_move && same_pair g.pair p.at)
+stays_there : (g : Gstate) (p : Pair) (id : ℕ) (s : Slot) → slice_get p.content.slots id ≡ Some s → moved_id g p ≢ Some id → slice_get (slots_not_moved g p) (index_in_pair g p id) ≡ Some s
+stays_there g p id s there = go (g.kind == set_move_kind && same_pair g.pair p.at)
   where
     go : (b : Bool) → cond b (Some g.id) None ≢ Some id → slice_get (cond b (remove p.content.slots g.id) p.content.slots) (cond b (index_without g.id id) id) ≡ Some s
     go true stays = left_there p.content.slots g.id id (λ e. stays (ap Some e)) ∙ there
     go false stays = there
 
 -- what holds of all slots that no set move names, holds of each of them
-pub unmoved_slot_has : (P : Slot → Type 0) (ps : List Pair) (at : ℕ × ℕ) (id : ℕ) (s : Slot) → All P (all_slots_not_moved ps) → IsUnmovedSlotAt ps at id s → P s
+pub unmoved_slot_has : (P : Slot → Type 0) (ps : List Pair) (at : ℕ × ℕ) (id : ℕ) (s : Slot) → All P (all_slots_not_moved ps) → IsUnmovedAt ps at id s → P s
 unmoved_slot_has P ps at id s all h =
-    let g : Gstate = gstate_of_pairs ps in
+    let g : Gstate = pairs_gstate ps in
     let p : Pair = h.is.pair in
     each_at P (slots_not_moved g p) (index_in_pair g p id) s (stays_there g p id s h.is.slot h.stays)
     (each_at (λ (q : Pair). Each P (slots_not_moved g q)) ps h.is.index p h.is.there
     (each_pieces P (slots_not_moved g) ps (recursion_from_All P (all_slots_not_moved ps) all)))
 
-no_wrong_list : (disk : Disk) (ps : List Pair) (at : ℕ × ℕ) (id : ℕ) (s : Slot) → IsAcceptedImage disk ps → IsUnmovedSlotAt ps at id s → IsSkipListIfCtzStruct disk s.struct
-no_wrong_list disk ps at id s ok h = unmoved_slot_has (λ (t : Slot). IsSkipListIfCtzStruct disk t.struct) ps at id s ok.lists h
+no_wrong_list : (disk : Disk) (ps : List Pair) (at : ℕ × ℕ) (id : ℕ) (s : Slot) → IsAccepted disk ps → IsUnmovedAt ps at id s → IsWellFormedCtz disk s.struct
+no_wrong_list disk ps at id s ok h = unmoved_slot_has (λ (t : Slot). IsWellFormedCtz disk t.struct) ps at id s ok.lists h
 
 -- ---- all of them
 
 -- the pairs of an accepted image break no rule
-pub pairs_break_none : (disk : Disk) (ps : List Pair) (v : Violation) → BreaksPairs disk ps v → IsAcceptedImage disk ps → ⊥
+pub pairs_break_none : (disk : Disk) (ps : List Pair) (v : Violation) → BreaksPairs disk ps v → IsAccepted disk ps → ⊥
 pairs_break_none disk ps violation.NoSuperblock h ok = true≢false (sym ok.root ∙ h)
-pairs_break_none disk ps (violation.FirstEntry pair) (is, other) ok = other (subst (λ (x : ℕ × ℕ). BeginsWithLogEntry (current_block_of_pair_at disk x) superblock_name_log_entry) is ok.first)
+pairs_break_none disk ps (violation.FirstEntry pair) (is, other) ok = other (subst (λ (x : ℕ × ℕ). BeginsWith (current_block disk x) superblock_entry) is ok.first)
 pairs_break_none disk ps (violation.Superblock pair) (is, s, (first, other)) ok = other (accepted_superblock disk ps ok s first)
-pairs_break_none disk ps (violation.OtherSuperblock pair) h ok = no_other_superblock disk ps ok (pair_address_of_array pair) h
-pairs_break_none disk ps (violation.Entry pair slot) h ok = no_wrong_entry disk ps ok (pair_address_of_array pair) slot h
-pairs_break_none disk ps (violation.Names pair) h ok = no_falling_names disk ps (pair_address_of_array pair) ok h
-pairs_break_none disk ps (violation.Branch pair) h ok = no_loose_branch disk ps (pair_address_of_array pair) ok h
-pairs_break_none disk ps (violation.TwoPaths pair) h ok = none_reached_twice disk ps (pair_address_of_array pair) ok h
-pairs_break_none disk ps (violation.NoPath pair) h ok = none_unreached disk ps (pair_address_of_array pair) ok h
+pairs_break_none disk ps (violation.OtherSuperblock pair) h ok = no_other_superblock disk ps ok (array_address pair) h
+pairs_break_none disk ps (violation.Entry pair slot) h ok = no_wrong_entry disk ps ok (array_address pair) slot h
+pairs_break_none disk ps (violation.Names pair) h ok = no_falling_names disk ps (array_address pair) ok h
+pairs_break_none disk ps (violation.Branch pair) h ok = no_loose_branch disk ps (array_address pair) ok h
+pairs_break_none disk ps (violation.TwoPaths pair) h ok = none_reached_twice disk ps (array_address pair) ok h
+pairs_break_none disk ps (violation.NoPath pair) h ok = none_unreached disk ps (array_address pair) ok h
 pairs_break_none disk ps violation.Move h ok = h ok.move
-pairs_break_none disk ps (violation.List pair slot) (s, (there, wrong)) ok = wrong (no_wrong_list disk ps (pair_address_of_array pair) slot s ok there)
-pairs_break_none disk ps (violation.TwoOwners pair slot block) h ok = let two : IsBlockUsedTwice disk ps (pair_address_of_array pair) slot block = h in not_twice _ two.i two.j block two.apart two.one two.other ok.owned_once
+pairs_break_none disk ps (violation.List pair slot) (s, (there, wrong)) ok = wrong (no_wrong_list disk ps (array_address pair) slot s ok there)
+pairs_break_none disk ps (violation.TwoOwners pair slot block) h ok = let two : IsUsedTwice disk ps (array_address pair) slot block = h in not_twice _ two.i two.j block two.apart two.one two.other ok.owned_once
 pairs_break_none disk ps _ h ok = absurd h
 
 -- an image that breaks a rule isn't accepted
-pub accepted_breaks_none : (disk : Disk) (v : Violation) → Breaks disk v → (ps : List Pair) → IsAcceptedImage disk ps → ⊥
+pub accepted_breaks_none : (disk : Disk) (v : Violation) → Breaks disk v → (ps : List Pair) → IsAccepted disk ps → ⊥
 accepted_breaks_none disk v (inl broken) ps ok = thread_breaks_none disk v broken ps ok.thread
 accepted_breaks_none disk v (inr (qs, (thread, broken))) ps ok =
-    let same : qs ≡ ps = one_thread (content_of_pair_at disk) (block_count disk) qs ps thread ok.thread in
+    let same : qs ≡ ps = one_thread (content_at disk) (block_count disk) qs ps thread ok.thread in
     pairs_break_none disk ps v (subst (λ (xs : List Pair). BreaksPairs disk xs v) same broken) ok

@@ -5,8 +5,8 @@ use Rattle.std.proofs.lemmas.Bool.{ltb-false}
 use Rattle.std.proofs.lemmas.Bool.Decides.{nat_tests}
 use Rattle.std.proofs.lemmas.Option.{cond_some}
 use Rattle.std.proofs.lemmas.List.{length-take, length-drop}
-use Rattle.lfs_model.specs.Tag.{tag_data_size, tag_for_decoding_next_tag}
-use Rattle.lfs_model.specs.Log.{LogEntry, tag_at, entry_at, end_offset_of_log_entry, is_checksum_entry, closes, Commit, CommitSequence, commit_with_entry_first, commit_sequence_with_commit_first, commit_within, commit_at, commit_sequence_or_empty, chain_within, longest_commit_sequence_at, IsCommit, AreAdjacentCommitsInBlock}
+use Rattle.lfs_model.specs.format.Tag.{tag_data_size, tag_before_next}
+use Rattle.lfs_model.specs.format.Log.{LogEntry, tag_at, entry_at, entry_end, is_checksum_entry, closes, Commit, CommitSequence, with_entry, with_commit, commit_within, commit_at, or_empty, chain_within, longest_sequence, IsCommit, AreAdjacent}
 
 -- where a commit ends, and what its last tag carries
 abbrev pub stop : Commit → ℕ × ℕ
@@ -61,12 +61,12 @@ commit_fuel (suc n) (suc m) block start at before p q =
       | None ↦ λ is. refl
       | Some e ↦ λ is.
           let l = lies block at before e is in
-          ap (λ (o : Option Commit). cond (is_checksum_entry e) (cond (closes block start at e) (Some (record { entries = e ∷ []; end = end_offset_of_log_entry at e; last = tag_for_decoding_next_tag e.tag })) None) (option_map (commit_with_entry_first e) o))
-          (commit_fuel n m block start (end_offset_of_log_entry at e) e.tag (omega (arith, l.within)) (omega (arith, l.within)))
+          ap (λ (o : Option Commit). cond (is_checksum_entry e) (cond (closes block start at e) (Some (record { entries = e ∷ []; end = entry_end at e; last = tag_before_next e.tag })) None) (option_map (with_entry e) o))
+          (commit_fuel n m block start (entry_end at e) e.tag (omega (arith, l.within)) (omega (arith, l.within)))
     ] refl
   where
     step : Option LogEntry → ℕ → Option Commit
-    step o k = option_and_then (λ e. cond (is_checksum_entry e) (cond (closes block start at e) (Some (record { entries = e ∷ []; end = end_offset_of_log_entry at e; last = tag_for_decoding_next_tag e.tag })) None) (option_map (commit_with_entry_first e) (commit_within k block start (end_offset_of_log_entry at e) e.tag))) o
+    step o k = option_and_then (λ e. cond (is_checksum_entry e) (cond (closes block start at e) (Some (record { entries = e ∷ []; end = entry_end at e; last = tag_before_next e.tag })) None) (option_map (with_entry e) (commit_within k block start (entry_end at e) e.tag))) o
 
 commit_more : (block : List ℕ) (start at before : ℕ) → commit_at block start at before ≡ commit_within (suc (length block - at)) block start at before
 commit_more block start at before = commit_fuel (length block - at) (suc (length block - at)) block start at before (omega arith) (omega arith)
@@ -76,7 +76,7 @@ unfolding commit_within
 commit_none block start at before is = commit_more block start at before ∙ rw is refl
 
 pub commit_closed : (block : List ℕ) (start at before : ℕ) (e : LogEntry) → entry_at block at before ≡ Some e → is_checksum_entry e ≡ true → closes block start at e ≡ true
-    → commit_at block start at before ≡ Some (record { entries = e ∷ []; end = end_offset_of_log_entry at e; last = tag_for_decoding_next_tag e.tag })
+    → commit_at block start at before ≡ Some (record { entries = e ∷ []; end = entry_end at e; last = tag_before_next e.tag })
 unfolding commit_within
 commit_closed block start at before e is sum right = commit_more block start at before ∙ rw (is, sum, right) refl
 
@@ -86,20 +86,20 @@ unfolding commit_within
 commit_refused block start at before e is sum wrong = commit_more block start at before ∙ rw (is, sum, wrong) refl
 
 pub commit_on : (block : List ℕ) (start at before : ℕ) (e : LogEntry) → entry_at block at before ≡ Some e → is_checksum_entry e ≡ false
-    → commit_at block start at before ≡ option_map (commit_with_entry_first e) (commit_at block start (end_offset_of_log_entry at e) e.tag)
+    → commit_at block start at before ≡ option_map (with_entry e) (commit_at block start (entry_end at e) e.tag)
 unfolding commit_within
 commit_on block start at before e is other =
     let l = lies block at before e is in
-    commit_more block start at before ∙ rw (is, other) (ap (option_map (commit_with_entry_first e)) (commit_fuel (length block - at) (length block - end_offset_of_log_entry at e) block start (end_offset_of_log_entry at e) e.tag (omega (arith, l.within)) (omega arith)))
+    commit_more block start at before ∙ rw (is, other) (ap (option_map (with_entry e)) (commit_fuel (length block - at) (length block - entry_end at e) block start (entry_end at e) e.tag (omega (arith, l.within)) (omega arith)))
 
-pub stop-with : (e : LogEntry) (o : Option Commit) → option_map stop (option_map (commit_with_entry_first e) o) ≡ option_map stop o
+pub stop-with : (e : LogEntry) (o : Option Commit) → option_map stop (option_map (with_entry e) o) ≡ option_map stop o
 stop-with e None = refl
 stop-with e (Some c) = refl
 
 -- ---- what is computed is a commit, and each commit is computed
 
 commit-more : (block : List ℕ) (start at before : ℕ) (e : LogEntry) (es : List LogEntry) (end last : ℕ) → entry_at block at before ≡ Some e → is_checksum_entry e ≡ false
-    → IsCommit block start (end_offset_of_log_entry at e) e.tag es end last → IsCommit block start at before (e ∷ es) end last
+    → IsCommit block start (entry_end at e) e.tag es end last → IsCommit block start at before (e ∷ es) end last
 commit-more block start at before e [] end last is other rest = absurd rest
 commit-more block start at before e (f ∷ es) end last is other rest = (is, other, rest)
 
@@ -113,29 +113,29 @@ commit_sound (suc n) block start at before c h =
     elim (entry_at block at before) as (λ o. entry_at block at before ≡ o → step o n ≡ Some c → IsCommitOf block start at before c) [
       | None ↦ λ is h. absurd cc
       | Some e ↦ λ is h.
-          elim (is_checksum_entry e) as (λ b. is_checksum_entry e ≡ b → cond b (cond (closes block start at e) (Some (record { entries = e ∷ []; end = end_offset_of_log_entry at e; last = tag_for_decoding_next_tag e.tag })) None) (option_map (commit_with_entry_first e) (commit_within n block start (end_offset_of_log_entry at e) e.tag)) ≡ Some c → IsCommitOf block start at before c) [
+          elim (is_checksum_entry e) as (λ b. is_checksum_entry e ≡ b → cond b (cond (closes block start at e) (Some (record { entries = e ∷ []; end = entry_end at e; last = tag_before_next e.tag })) None) (option_map (with_entry e) (commit_within n block start (entry_end at e) e.tag)) ≡ Some c → IsCommitOf block start at before c) [
             | true ↦ λ sum h.
-                let right = cond_some (closes block start at e) (record { entries = e ∷ []; end = end_offset_of_log_entry at e; last = tag_for_decoding_next_tag e.tag }) c h in
+                let right = cond_some (closes block start at e) (record { entries = e ∷ []; end = entry_end at e; last = tag_before_next e.tag }) c h in
                 subst (IsCommitOf block start at before) right.1 (is, sum, right.0, refl, refl)
             | false ↦ λ other h.
-                elim (commit_within n block start (end_offset_of_log_entry at e) e.tag) as (λ o. commit_within n block start (end_offset_of_log_entry at e) e.tag ≡ o → option_map (commit_with_entry_first e) o ≡ Some c → IsCommitOf block start at before c) [
+                elim (commit_within n block start (entry_end at e) e.tag) as (λ o. commit_within n block start (entry_end at e) e.tag ≡ o → option_map (with_entry e) o ≡ Some c → IsCommitOf block start at before c) [
                   | None ↦ λ rest h. absurd cc
                   | Some d ↦ λ rest h.
-                      let same : commit_with_entry_first e d ≡ c = cc in
-                      subst (IsCommitOf block start at before) same (commit-more block start at before e d.entries d.end d.last is other (commit_sound n block start (end_offset_of_log_entry at e) e.tag d rest))
+                      let same : with_entry e d ≡ c = cc in
+                      subst (IsCommitOf block start at before) same (commit-more block start at before e d.entries d.end d.last is other (commit_sound n block start (entry_end at e) e.tag d rest))
                 ] refl h
           ] refl h
     ] refl h
   where
     step : Option LogEntry → ℕ → Option Commit
-    step o k = option_and_then (λ e. cond (is_checksum_entry e) (cond (closes block start at e) (Some (record { entries = e ∷ []; end = end_offset_of_log_entry at e; last = tag_for_decoding_next_tag e.tag })) None) (option_map (commit_with_entry_first e) (commit_within k block start (end_offset_of_log_entry at e) e.tag))) o
+    step o k = option_and_then (λ e. cond (is_checksum_entry e) (cond (closes block start at e) (Some (record { entries = e ∷ []; end = entry_end at e; last = tag_before_next e.tag })) None) (option_map (with_entry e) (commit_within k block start (entry_end at e) e.tag))) o
 
 pub commit_complete : (block : List ℕ) (start at before : ℕ) (es : List LogEntry) (end last : ℕ) → IsCommit block start at before es end last
     → commit_at block start at before ≡ Some (record { entries = es; end = end; last = last })
 commit_complete block start at before [] end last h = absurd h
 commit_complete block start at before (e ∷ []) end last h = rw (h.3, h.4) (commit_closed block start at before e h.0 h.1 h.2)
 commit_complete block start at before (e ∷ f ∷ es) end last h =
-    commit_on block start at before e h.0 h.1 ∙ ap (option_map (commit_with_entry_first e)) (commit_complete block start (end_offset_of_log_entry at e) e.tag (f ∷ es) end last h.2)
+    commit_on block start at before e h.0 h.1 ∙ ap (option_map (with_entry e)) (commit_complete block start (entry_end at e) e.tag (f ∷ es) end last h.2)
 
 -- a commit takes space within the block
 pub record Within (block : List ℕ) (at end : ℕ) : Type 0 where
@@ -146,7 +146,7 @@ pub commit_space : (block : List ℕ) (start at before : ℕ) (es : List LogEntr
 commit_space block start at before [] end last h = absurd h
 commit_space block start at before (e ∷ []) end last h = let l = lies block at before e h.0 in record { after = omega (arith, h.3); within = omega (arith, h.3, l.within) }
 commit_space block start at before (e ∷ f ∷ es) end last h =
-    let ih = commit_space block start (end_offset_of_log_entry at e) e.tag (f ∷ es) end last h.2 in
+    let ih = commit_space block start (entry_end at e) e.tag (f ∷ es) end last h.2 in
     record { after = omega (arith, ih.after); within = ih.within }
 
 -- ---- chains
@@ -164,28 +164,28 @@ chain_fuel (suc n) (suc m) block start at before p q =
       | None ↦ λ is. refl
       | Some c ↦ λ is.
           let w = commit_space block start at before c.entries c.end c.last (commit_sound (length block - at) block start at before c is) in
-          ap (commit_sequence_with_commit_first c.entries) (chain_fuel n m block c.end c.end c.last (omega (arith, w.after)) (omega (arith, w.after)))
+          ap (with_commit c.entries) (chain_fuel n m block c.end c.end c.last (omega (arith, w.after)) (omega (arith, w.after)))
     ] refl
   where
     step : ℕ → Option Commit → CommitSequence
-    step k o = commit_sequence_or_empty at before (option_map (λ c. commit_sequence_with_commit_first c.entries (chain_within k block c.end c.end c.last)) o)
+    step k o = or_empty at before (option_map (λ c. with_commit c.entries (chain_within k block c.end c.end c.last)) o)
 
-chain_more : (block : List ℕ) (start at before : ℕ) → longest_commit_sequence_at block start at before ≡ chain_within (suc (length block - at)) block start at before
+chain_more : (block : List ℕ) (start at before : ℕ) → longest_sequence block start at before ≡ chain_within (suc (length block - at)) block start at before
 chain_more block start at before = chain_fuel (length block - at) (suc (length block - at)) block start at before (omega arith) (omega arith)
 
-pub chain_none : (block : List ℕ) (start at before : ℕ) → commit_at block start at before ≡ None → longest_commit_sequence_at block start at before ≡ record { commits = []; end = at; last = before }
+pub chain_none : (block : List ℕ) (start at before : ℕ) → commit_at block start at before ≡ None → longest_sequence block start at before ≡ record { commits = []; end = at; last = before }
 unfolding chain_within
 chain_none block start at before is = chain_more block start at before ∙ rw is refl
 
 pub chain_on : (block : List ℕ) (start at before : ℕ) (c : Commit) → commit_at block start at before ≡ Some c
-    → longest_commit_sequence_at block start at before ≡ commit_sequence_with_commit_first c.entries (longest_commit_sequence_at block c.end c.end c.last)
+    → longest_sequence block start at before ≡ with_commit c.entries (longest_sequence block c.end c.end c.last)
 unfolding chain_within
 chain_on block start at before c is =
     let w = commit_space block start at before c.entries c.end c.last (commit_sound (length block - at) block start at before c is) in
-    chain_more block start at before ∙ rw is (ap (commit_sequence_with_commit_first c.entries) (chain_fuel (length block - at) (length block - c.end) block c.end c.end c.last (omega (arith, w.after)) (omega arith)))
+    chain_more block start at before ∙ rw is (ap (with_commit c.entries) (chain_fuel (length block - at) (length block - c.end) block c.end c.end c.last (omega (arith, w.after)) (omega arith)))
 
 abbrev pub IsChainAt : List ℕ → ℕ → ℕ → ℕ → CommitSequence → Type 0
-IsChainAt block start at before c = AreAdjacentCommitsInBlock block start at before c.commits c.end c.last
+IsChainAt block start at before c = AreAdjacent block start at before c.commits c.end c.last
 
 pub chain_sound : (n : ℕ) (block : List ℕ) (start at before : ℕ) → IsChainAt block start at before (chain_within n block start at before)
 unfolding chain_within
@@ -197,10 +197,10 @@ chain_sound (suc n) block start at before =
     ] refl
   where
     step : Option Commit → CommitSequence
-    step o = commit_sequence_or_empty at before (option_map (λ c. commit_sequence_with_commit_first c.entries (chain_within n block c.end c.end c.last)) o)
+    step o = or_empty at before (option_map (λ c. with_commit c.entries (chain_within n block c.end c.end c.last)) o)
 
 -- no chain is longer
-pub chain_longest : (block : List ℕ) (start at before : ℕ) (cs : List (List LogEntry)) (end last : ℕ) → AreAdjacentCommitsInBlock block start at before cs end last → length cs ≤ length (longest_commit_sequence_at block start at before).commits
+pub chain_longest : (block : List ℕ) (start at before : ℕ) (cs : List (List LogEntry)) (end last : ℕ) → AreAdjacent block start at before cs end last → length cs ≤ length (longest_sequence block start at before).commits
 chain_longest block start at before [] end last h = omega arith
 chain_longest block start at before (c ∷ cs) end last (mid, carry, commit, rest) =
     let on = chain_on block start at before (record { entries = c; end = mid; last = carry }) (commit_complete block start at before c mid carry commit) in
@@ -208,7 +208,7 @@ chain_longest block start at before (c ∷ cs) end last (mid, carry, commit, res
     rw on (omega (arith, ih))
 
 -- and each is a beginning of the one that is computed
-pub chain_beginning : (block : List ℕ) (start at before : ℕ) (cs : List (List LogEntry)) (end last : ℕ) → AreAdjacentCommitsInBlock block start at before cs end last → take (length cs) (longest_commit_sequence_at block start at before).commits ≡ cs
+pub chain_beginning : (block : List ℕ) (start at before : ℕ) (cs : List (List LogEntry)) (end last : ℕ) → AreAdjacent block start at before cs end last → take (length cs) (longest_sequence block start at before).commits ≡ cs
 chain_beginning block start at before [] end last h = refl
 chain_beginning block start at before (c ∷ cs) end last (mid, carry, commit, rest) =
     let on = chain_on block start at before (record { entries = c; end = mid; last = carry }) (commit_complete block start at before c mid carry commit) in
@@ -220,19 +220,19 @@ abbrev pub chain_stop : CommitSequence → ℕ × ℕ
 chain_stop c = (c.end, c.last)
 
 pub chain_follows : (block : List ℕ) (start at before : ℕ) (r : ℕ × ℕ) → Some r ≡ option_map stop (commit_at block start at before)
-    → chain_stop (longest_commit_sequence_at block start at before) ≡ chain_stop (longest_commit_sequence_at block r.0 r.0 r.1)
+    → chain_stop (longest_sequence block start at before) ≡ chain_stop (longest_sequence block r.0 r.0 r.1)
 chain_follows block start at before r h =
-    elim (commit_at block start at before) as (λ o. commit_at block start at before ≡ o → Some r ≡ option_map stop o → chain_stop (longest_commit_sequence_at block start at before) ≡ chain_stop (longest_commit_sequence_at block r.0 r.0 r.1)) [
+    elim (commit_at block start at before) as (λ o. commit_at block start at before ≡ o → Some r ≡ option_map stop o → chain_stop (longest_sequence block start at before) ≡ chain_stop (longest_sequence block r.0 r.0 r.1)) [
       | None ↦ λ is h. absurd cc
       | Some c ↦ λ is h.
           let same : r ≡ (c.end, c.last) = cc in
-          ap chain_stop (chain_on block start at before c is) ∙ sym (ap (λ (s : ℕ × ℕ). chain_stop (longest_commit_sequence_at block s.0 s.0 s.1)) same)
+          ap chain_stop (chain_on block start at before c is) ∙ sym (ap (λ (s : ℕ × ℕ). chain_stop (longest_sequence block s.0 s.0 s.1)) same)
     ] refl h
 
 pub chain_stops : (block : List ℕ) (start at before : ℕ) → None ≡ option_map stop (commit_at block start at before)
-    → chain_stop (longest_commit_sequence_at block start at before) ≡ (at, before)
+    → chain_stop (longest_sequence block start at before) ≡ (at, before)
 chain_stops block start at before h =
-    elim (commit_at block start at before) as (λ o. commit_at block start at before ≡ o → None ≡ option_map stop o → chain_stop (longest_commit_sequence_at block start at before) ≡ (at, before)) [
+    elim (commit_at block start at before) as (λ o. commit_at block start at before ≡ o → None ≡ option_map stop o → chain_stop (longest_sequence block start at before) ≡ (at, before)) [
       | None ↦ λ is h. ap chain_stop (chain_none block start at before is)
       | Some c ↦ λ is h. absurd cc
     ] refl h

@@ -8,7 +8,7 @@ use Rattle.std.proofs.lemmas.Bool.Decides.{nat_tests}
 use Rattle.std.proofs.lemmas.Nat.{xor_comm, xor_lt, xor_block, xor_shr, xor_mod, pow-add, pow_pos, same_from_place, mul-add-lt}
 use Rattle.std.specs.Prelude.{All}
 use Rattle.std.proofs.lemmas.List.Elements.{All-head, All-tail}
-use Rattle.lfs_model.specs.Crc.{generator_polynomial, low_bits, polynomial, times_generator, IsCrcRemainderOfPolynomial, message_polynomial, IsCrcOfBytesFromStartValue, crc_after_bit, next_bits, crc_of}
+use Rattle.lfs_model.specs.format.Crc.{generator_polynomial, low_bits, polynomial, times_generator, IsRemainder, message_polynomial, IsCrcFrom, crc_after_bit, next_bits, crc_of}
 
 -- ---- sums
 
@@ -115,11 +115,11 @@ small_multiple (c ∷ cs) h =
 
 -- ---- remainders
 
-pub from_multiple : (p r : ℕ) → r < 2 ^ 32 → IsMultiple (bit_xor p r) → IsCrcRemainderOfPolynomial p r
+pub from_multiple : (p r : ℕ) → r < 2 ^ 32 → IsMultiple (bit_xor p r) → IsRemainder p r
 from_multiple p r lt m = record { quotient = m.quotient; small = lt; sum = rw (← m.is, xor_comm p r, xor_comm (bit_xor r p) r) (sym (xor_cancel r p)) }
 
 -- a polynomial has one remainder
-pub one_remainder : (p r s : ℕ) → IsCrcRemainderOfPolynomial p r → IsCrcRemainderOfPolynomial p s → r ≡ s
+pub one_remainder : (p r s : ℕ) → IsRemainder p r → IsRemainder p s → r ≡ s
 one_remainder p r s a b =
     let q = times_generator a.quotient in
     let t = times_generator b.quotient in
@@ -326,11 +326,11 @@ crc_multiple x (b ∷ bs) lt fits =
     (crc_multiple next bs (next_bits_lt 8 (bit_xor x b) mixed_lt) (AreBytes-rest b bs fits))
 
 -- what is computed is the remainder
-pub crc_is_remainder : (start : ℕ) (bytes : List ℕ) → start < 2 ^ 32 → AreBytes bytes → IsCrcOfBytesFromStartValue start bytes (crc_of start bytes)
+pub crc_is_remainder : (start : ℕ) (bytes : List ℕ) → start < 2 ^ 32 → AreBytes bytes → IsCrcFrom start bytes (crc_of start bytes)
 crc_is_remainder start bytes lt fits = from_multiple (dividend start bytes) (turned 32 (crc_of start bytes)) (turned_lt 32 (crc_of start bytes)) (crc_multiple start bytes lt fits)
 
 -- and nothing else is
-pub one_checksum : (start : ℕ) (bytes : List ℕ) (x y : ℕ) → x < 2 ^ 32 → y < 2 ^ 32 → IsCrcOfBytesFromStartValue start bytes x → IsCrcOfBytesFromStartValue start bytes y → x ≡ y
+pub one_checksum : (start : ℕ) (bytes : List ℕ) (x y : ℕ) → x < 2 ^ 32 → y < 2 ^ 32 → IsCrcFrom start bytes x → IsCrcFrom start bytes y → x ≡ y
 one_checksum start bytes x y p q a b = turned_same 32 x y p q (one_remainder (dividend start bytes) (turned 32 x) (turned 32 y) a b)
 
 -- ---- the checksum of parts

@@ -7,80 +7,80 @@ use Rattle.std.proofs.lemmas.Bool.{ne_eqb, le-leb, lt-ltb, and_from, or_right}
 use Rattle.std.proofs.lemmas.List.{append-nil, length-take-le}
 use Rattle.std.proofs.lemmas.List.Edits.{length-insert}
 use Rattle.std.proofs.Math.Seq.{set-append_seam, get_or-append_seam}
-use Rattle.lfs_model.specs.Tag.{tag_of_type_id_and_length, type_of_tag, id_of_tag, length_of_tag, abstract_type_of_tag}
-use Rattle.lfs_model.specs.Log.{LogEntry}
-use Rattle.lfs_model.specs.Slots.{Gstate}
-use Rattle.lfs_model.specs.Content.{RawSlot, RawPairContent, content_after_log_entry, content_after_log_entries, slots_after_log_entry, raw_slots_with_function_applied_at_id, slots_padded_to_id, empty_slot, slot_of_id, attributes_with_attribute, attributes_without_attribute}
-use Rattle.lfs_model.specs.EntryTypes.{is_tag_of_known_type_and_length, tag_type_allows_any_length, tag_type_requires_eight_data_bytes, tag_type_requires_no_data_bytes, move_state_type, has_tag_id_if_needed, is_attribute_removal, no_id, create_tag_type, delete_tag_type, tail_to_pair_if_any}
-use Rattle.lfs_model.specs.WrittenContent.{log_entry_of_type_id_and_bytes, lowest_attribute_type}
-use Rattle.lfs_model.specs.LoggedContent.{IsNameOrStructTheFormatAllows, Are32BitPairAddresses, AreMoveStateFieldsWithinBitWidths}
-use Rattle.lfs_model.specs.Changes.{PairContentChange, Create, Delete, PutStruct, PutAttribute, RemoveAttribute, PutTail, PutMove, log_entries_of_change, log_entries_of_changes, is_storable_pair_content_change, raw_pair_content_after_changes}
-use Rattle.lfs_model.proofs.WrittenAnew.{type_of_tag-tag_of_type_id_and_length, id_of_tag-tag_of_type_id_and_length, length_of_tag-tag_of_type_id_and_length, then, pair_address_of_bytes-bytes_of_pair_address, gstate_of_bytes-bytes_of_move_state}
+use Rattle.lfs_model.specs.format.Tag.{make_tag, tag_type, tag_id, tag_length, abstract_type}
+use Rattle.lfs_model.specs.format.Log.{LogEntry}
+use Rattle.lfs_model.specs.format.Slots.{Gstate}
+use Rattle.lfs_model.specs.format.Content.{RawSlot, RawContent, content_after_one, content_after, slots_after, changed_at, slots_padded_to, empty_slot, slot_of_id, attributes_with, attributes_without}
+use Rattle.lfs_model.specs.format.EntryTypes.{is_known_tag, allows_any_length, requires_eight_bytes, requires_no_bytes, move_type, has_needed_id, is_attribute_removal, no_id, create_tag_type, delete_tag_type, tail_to_pair}
+use Rattle.lfs_model.specs.layers.WrittenContent.{log_entry_of, lowest_type}
+use Rattle.lfs_model.specs.layers.LoggedContent.{IsAllowed, AreWords, MoveStateFits}
+use Rattle.lfs_model.specs.layers.Changes.{PairChange, Create, Delete, PutStruct, PutAttribute, RemoveAttribute, PutTail, PutMove, change_entries, entries_of_changes, is_storable, changed_content_of}
+use Rattle.lfs_model.proofs.WrittenAnew.{tag_type-make_tag, tag_id-make_tag, tag_length-make_tag, then, read_address-address_bytes, read_gstate-bytes_of_move_state}
 
 -- ---- one after the other
 
 -- the change can be stored, and makes that
-pub record Does (change : PairContentChange) (c d : RawPairContent) : Type 0 where
-  pub storable : is_storable_pair_content_change change ≡ true
-  pub makes : content_after_log_entries c (log_entries_of_change change) ≡ Some d
+pub record Does (change : PairChange) (c d : RawContent) : Type 0 where
+  pub storable : is_storable change ≡ true
+  pub makes : content_after c (change_entries change) ≡ Some d
 
-pub does_nothing : (c : RawPairContent) → raw_pair_content_after_changes c [] ≡ Some c
+pub does_nothing : (c : RawContent) → changed_content_of c [] ≡ Some c
 does_nothing c = refl
 
-pub does_first : (change : PairContentChange) (changes : List PairContentChange) (c d e : RawPairContent) → Does change c d → raw_pair_content_after_changes d changes ≡ Some e → raw_pair_content_after_changes c (change ∷ changes) ≡ Some e
-does_first change changes c d e first others = go (list_all is_storable_pair_content_change changes) refl others
+pub does_first : (change : PairChange) (changes : List PairChange) (c d e : RawContent) → Does change c d → changed_content_of d changes ≡ Some e → changed_content_of c (change ∷ changes) ≡ Some e
+does_first change changes c d e first others = go (list_all is_storable changes) refl others
   where
-    go : (b : Bool) → list_all is_storable_pair_content_change changes ≡ b → cond b (content_after_log_entries d (log_entries_of_changes changes)) None ≡ Some e → raw_pair_content_after_changes c (change ∷ changes) ≡ Some e
-    go true s f = ap (λ b. cond b (content_after_log_entries c (log_entries_of_changes (change ∷ changes))) None) (and_from (is_storable_pair_content_change change) (list_all is_storable_pair_content_change changes) first.storable s)
-        ∙ then c d (log_entries_of_change change) (log_entries_of_changes changes) (Some e) first.makes f
+    go : (b : Bool) → list_all is_storable changes ≡ b → cond b (content_after d (entries_of_changes changes)) None ≡ Some e → changed_content_of c (change ∷ changes) ≡ Some e
+    go true s f = ap (λ b. cond b (content_after c (entries_of_changes (change ∷ changes))) None) (and_from (is_storable change) (list_all is_storable changes) first.storable s)
+        ∙ then c d (change_entries change) (entries_of_changes changes) (Some e) first.makes f
     go false s f = absurd (cc)
 
 -- ---- an entry about a slot
 
-by_slots : (c : RawPairContent) (e : LogEntry) → abstract_type_of_tag e.tag < 5 → is_tag_of_known_type_and_length e.tag ≡ true → id_of_tag e.tag < 0x3ff
-    → content_after_log_entry c e ≡ option_map (λ slots. record c { slots = slots }) (slots_after_log_entry c.slots e)
+by_slots : (c : RawContent) (e : LogEntry) → abstract_type e.tag < 5 → is_known_tag e.tag ≡ true → tag_id e.tag < 0x3ff
+    → content_after_one c e ≡ option_map (λ slots. record c { slots = slots }) (slots_after c.slots e)
 by_slots c e k t i =
-    let five : abstract_type_of_tag e.tag == 5 ≡ false = ne_eqb (abstract_type_of_tag e.tag) 5 (λ h. omega arith) in
-    let six : abstract_type_of_tag e.tag == 6 ≡ false = ne_eqb (abstract_type_of_tag e.tag) 6 (λ h. omega arith) in
-    let seven : abstract_type_of_tag e.tag == 7 ≡ false = ne_eqb (abstract_type_of_tag e.tag) 7 (λ h. omega arith) in
-    let other : id_of_tag e.tag == no_id ≡ false = ne_eqb (id_of_tag e.tag) no_id (λ h. omega arith) in
-    let its : has_tag_id_if_needed e.tag ≡ true = or_right (nat_le 5 (abstract_type_of_tag e.tag)) (not (id_of_tag e.tag == no_id)) (ap not other) in
+    let five : abstract_type e.tag == 5 ≡ false = ne_eqb (abstract_type e.tag) 5 (λ h. omega arith) in
+    let six : abstract_type e.tag == 6 ≡ false = ne_eqb (abstract_type e.tag) 6 (λ h. omega arith) in
+    let seven : abstract_type e.tag == 7 ≡ false = ne_eqb (abstract_type e.tag) 7 (λ h. omega arith) in
+    let other : tag_id e.tag == no_id ≡ false = ne_eqb (tag_id e.tag) no_id (λ h. omega arith) in
+    let its : has_needed_id e.tag ≡ true = or_right (nat_le 5 (abstract_type e.tag)) (not (tag_id e.tag == no_id)) (ap not other) in
     rw (five, t, its, six, seven) refl
 
-one_entry : (c d : RawPairContent) (e : LogEntry) → content_after_log_entry c e ≡ Some d → content_after_log_entries c (e ∷ []) ≡ Some d
+one_entry : (c d : RawContent) (e : LogEntry) → content_after_one c e ≡ Some d → content_after c (e ∷ []) ≡ Some d
 one_entry c d e h = ap (option_and_then (λ x. Some x)) h
 
 -- the part is in the table under any id
-in_table_at : (class : ℕ) (part : ℕ × List ℕ) (id : ℕ) → class < 5 → id < 2 ^ 10 → IsNameOrStructTheFormatAllows class part → is_tag_of_known_type_and_length (tag_of_type_id_and_length part.0 id (length part.1)) ≡ true
+in_table_at : (class : ℕ) (part : ℕ × List ℕ) (id : ℕ) → class < 5 → id < 2 ^ 10 → IsAllowed class part → is_known_tag (make_tag part.0 id (length part.1)) ≡ true
 in_table_at class part id c i h =
     let of : part.0 / 2 ^ 8 ≡ class = h.of_class in
     let short : length part.1 < 0x3ff = h.short in
-    let kind : type_of_tag (tag_of_type_id_and_length part.0 id (length part.1)) ≡ type_of_tag (tag_of_type_id_and_length part.0 0 (length part.1)) = omega arith in
-    let len : length_of_tag (tag_of_type_id_and_length part.0 id (length part.1)) ≡ length_of_tag (tag_of_type_id_and_length part.0 0 (length part.1)) = omega arith in
+    let kind : tag_type (make_tag part.0 id (length part.1)) ≡ tag_type (make_tag part.0 0 (length part.1)) = omega arith in
+    let len : tag_length (make_tag part.0 id (length part.1)) ≡ tag_length (make_tag part.0 0 (length part.1)) = omega arith in
     rw (kind, len) h.in_table
 
 -- ---- delete
 
-pub deletes : (c : RawPairContent) (id : ℕ) → id < 0x3ff → id < length c.slots → Does (Delete id) c (record c { slots = remove c.slots id })
+pub deletes : (c : RawContent) (id : ℕ) → id < 0x3ff → id < length c.slots → Does (Delete id) c (record c { slots = remove c.slots id })
 deletes c id small there = record {
   storable = lt-ltb id no_id small;
-  makes = one_entry c (record c { slots = remove c.slots id }) (log_entry_of_type_id_and_bytes delete_tag_type id [])
-      (by_slots c (log_entry_of_type_id_and_bytes delete_tag_type id []) (omega arith) in_table (omega arith) ∙ ap (option_map (λ slots. record c { slots = slots })) after);
+  makes = one_entry c (record c { slots = remove c.slots id }) (log_entry_of delete_tag_type id [])
+      (by_slots c (log_entry_of delete_tag_type id []) (omega arith) in_table (omega arith) ∙ ap (option_map (λ slots. record c { slots = slots })) after);
 }
   where
-    kind : type_of_tag (tag_of_type_id_and_length delete_tag_type id 0) ≡ delete_tag_type
-    kind = type_of_tag-tag_of_type_id_and_length delete_tag_type id 0 (omega arith) (omega arith) (omega arith)
+    kind : tag_type (make_tag delete_tag_type id 0) ≡ delete_tag_type
+    kind = tag_type-make_tag delete_tag_type id 0 (omega arith) (omega arith) (omega arith)
 
-    len : length_of_tag (tag_of_type_id_and_length delete_tag_type id 0) ≡ 0
-    len = length_of_tag-tag_of_type_id_and_length delete_tag_type id 0 (omega arith)
+    len : tag_length (make_tag delete_tag_type id 0) ≡ 0
+    len = tag_length-make_tag delete_tag_type id 0 (omega arith)
 
-    at : id_of_tag (tag_of_type_id_and_length delete_tag_type id 0) ≡ id
-    at = id_of_tag-tag_of_type_id_and_length delete_tag_type id 0 (omega arith) (omega arith)
+    at : tag_id (make_tag delete_tag_type id 0) ≡ id
+    at = tag_id-make_tag delete_tag_type id 0 (omega arith) (omega arith)
 
-    in_table : is_tag_of_known_type_and_length (tag_of_type_id_and_length delete_tag_type id 0) ≡ true
+    in_table : is_known_tag (make_tag delete_tag_type id 0) ≡ true
     in_table = rw (kind, len) refl
 
-    after : slots_after_log_entry c.slots (log_entry_of_type_id_and_bytes delete_tag_type id []) ≡ Some (remove c.slots id)
+    after : slots_after c.slots (log_entry_of delete_tag_type id []) ≡ Some (remove c.slots id)
     after = rw (kind, at, lt-ltb id (length c.slots) there) refl
 
 -- ---- structs and attributes
@@ -91,12 +91,12 @@ IsNamed slots id = is_some (slot_of_id slots id).name ≡ true
 abbrev pub with_struct : ℕ × List ℕ → RawSlot → RawSlot
 with_struct part s = record s { struct = Some part }
 
-pub puts_struct : (c : RawPairContent) (id kind : ℕ) (bytes : List ℕ) → id < 0x3ff → IsNamed c.slots id → IsNameOrStructTheFormatAllows 2 (kind, bytes)
-    → Does (PutStruct id kind bytes) c (record c { slots = raw_slots_with_function_applied_at_id (with_struct (kind, bytes)) c.slots id })
+pub puts_struct : (c : RawContent) (id kind : ℕ) (bytes : List ℕ) → id < 0x3ff → IsNamed c.slots id → IsAllowed 2 (kind, bytes)
+    → Does (PutStruct id kind bytes) c (record c { slots = changed_at (with_struct (kind, bytes)) c.slots id })
 puts_struct c id type bytes small named part = record {
   storable = and_from _ _ (lt-ltb id no_id small) (and_from _ _ (and_from _ _ (le-leb 0x200 type (omega arith)) (lt-ltb type 0x300 (omega arith))) (le-leb (length bytes) 1022 (omega arith)));
-  makes = one_entry c (record c { slots = raw_slots_with_function_applied_at_id (with_struct (type, bytes)) c.slots id }) (log_entry_of_type_id_and_bytes type id bytes)
-      (by_slots c (log_entry_of_type_id_and_bytes type id bytes) (omega arith) (in_table_at 2 (type, bytes) id (omega arith) (omega arith) part) (omega arith)
+  makes = one_entry c (record c { slots = changed_at (with_struct (type, bytes)) c.slots id }) (log_entry_of type id bytes)
+      (by_slots c (log_entry_of type id bytes) (omega arith) (in_table_at 2 (type, bytes) id (omega arith) (omega arith) part) (omega arith)
       ∙ ap (option_map (λ slots. record c { slots = slots })) after);
 }
   where
@@ -106,13 +106,13 @@ puts_struct c id type bytes small named part = record {
     short : length bytes < 0x3ff
     short = part.short
 
-    kind : type_of_tag (tag_of_type_id_and_length type id (length bytes)) ≡ type
-    kind = type_of_tag-tag_of_type_id_and_length type id (length bytes) (omega arith) (omega arith) (omega arith)
+    kind : tag_type (make_tag type id (length bytes)) ≡ type
+    kind = tag_type-make_tag type id (length bytes) (omega arith) (omega arith) (omega arith)
 
-    at : id_of_tag (tag_of_type_id_and_length type id (length bytes)) ≡ id
-    at = id_of_tag-tag_of_type_id_and_length type id (length bytes) (omega arith) (omega arith)
+    at : tag_id (make_tag type id (length bytes)) ≡ id
+    at = tag_id-make_tag type id (length bytes) (omega arith) (omega arith)
 
-    after : slots_after_log_entry c.slots (log_entry_of_type_id_and_bytes type id bytes) ≡ Some (raw_slots_with_function_applied_at_id (with_struct (type, bytes)) c.slots id)
+    after : slots_after c.slots (log_entry_of type id bytes) ≡ Some (changed_at (with_struct (type, bytes)) c.slots id)
     after =
         let not_name : type / 2 ^ 8 == 0 ≡ false = ne_eqb (type / 2 ^ 8) 0 (λ h. omega arith) in
         let not_create : type == create_tag_type ≡ false = ne_eqb type create_tag_type (λ h. omega arith) in
@@ -121,75 +121,75 @@ puts_struct c id type bytes small named part = record {
         rw (kind, at) (rw (not_name, not_create, not_delete, is_struct, named) refl)
 
 -- an entry of an attribute's type
-attribute_after : (slots : List RawSlot) (e : LogEntry) (id attribute : ℕ) → attribute < 0x100 → type_of_tag e.tag ≡ lowest_attribute_type + attribute → id_of_tag e.tag ≡ id → IsNamed slots id
-    → slots_after_log_entry slots e ≡ Some (raw_slots_with_function_applied_at_id (λ s. record s { attributes = cond (is_attribute_removal e.tag) (attributes_without_attribute attribute s.attributes) (attributes_with_attribute attribute e.bytes s.attributes) }) slots id)
+attribute_after : (slots : List RawSlot) (e : LogEntry) (id attribute : ℕ) → attribute < 0x100 → tag_type e.tag ≡ lowest_type + attribute → tag_id e.tag ≡ id → IsNamed slots id
+    → slots_after slots e ≡ Some (changed_at (λ s. record s { attributes = cond (is_attribute_removal e.tag) (attributes_without attribute s.attributes) (attributes_with attribute e.bytes s.attributes) }) slots id)
 attribute_after slots e id attribute small kind at named =
-    let not_name : (lowest_attribute_type + attribute) / 2 ^ 8 == 0 ≡ false = ne_eqb ((lowest_attribute_type + attribute) / 2 ^ 8) 0 (λ h. omega arith) in
-    let not_create : lowest_attribute_type + attribute == create_tag_type ≡ false = ne_eqb (lowest_attribute_type + attribute) create_tag_type (λ h. omega arith) in
-    let not_delete : lowest_attribute_type + attribute == delete_tag_type ≡ false = ne_eqb (lowest_attribute_type + attribute) delete_tag_type (λ h. omega arith) in
-    let not_struct : (lowest_attribute_type + attribute) / 2 ^ 8 == 2 ≡ false = ne_eqb ((lowest_attribute_type + attribute) / 2 ^ 8) 2 (λ h. omega arith) in
-    let chunk : (lowest_attribute_type + attribute) % 2 ^ 8 ≡ attribute = omega arith in
+    let not_name : (lowest_type + attribute) / 2 ^ 8 == 0 ≡ false = ne_eqb ((lowest_type + attribute) / 2 ^ 8) 0 (λ h. omega arith) in
+    let not_create : lowest_type + attribute == create_tag_type ≡ false = ne_eqb (lowest_type + attribute) create_tag_type (λ h. omega arith) in
+    let not_delete : lowest_type + attribute == delete_tag_type ≡ false = ne_eqb (lowest_type + attribute) delete_tag_type (λ h. omega arith) in
+    let not_struct : (lowest_type + attribute) / 2 ^ 8 == 2 ≡ false = ne_eqb ((lowest_type + attribute) / 2 ^ 8) 2 (λ h. omega arith) in
+    let chunk : (lowest_type + attribute) % 2 ^ 8 ≡ attribute = omega arith in
     rw (kind, at) (rw (not_name, not_create, not_delete, not_struct, chunk, named) refl)
 
-attribute_in_table : (tag attribute : ℕ) → attribute < 0x100 → type_of_tag tag ≡ lowest_attribute_type + attribute → is_tag_of_known_type_and_length tag ≡ true
+attribute_in_table : (tag attribute : ℕ) → attribute < 0x100 → tag_type tag ≡ lowest_type + attribute → is_known_tag tag ≡ true
 attribute_in_table tag attribute small kind = go (is_attribute_removal tag)
   where
-    third : (lowest_attribute_type + attribute) / 2 ^ 8 == 3 ≡ true
-    third = eq-eqb ((lowest_attribute_type + attribute) / 2 ^ 8) 3 (omega arith)
+    third : (lowest_type + attribute) / 2 ^ 8 == 3 ≡ true
+    third = eq-eqb ((lowest_type + attribute) / 2 ^ 8) 3 (omega arith)
 
-    go : (b : Bool) → cond b (abstract_type_of_tag tag == 3) (cond (tag_type_allows_any_length tag) true (cond (tag_type_requires_eight_data_bytes tag) (length_of_tag tag == 8) (cond (tag_type_requires_no_data_bytes tag) (length_of_tag tag == 0) (type_of_tag tag == move_state_type && length_of_tag tag == 12)))) ≡ true
+    go : (b : Bool) → cond b (abstract_type tag == 3) (cond (allows_any_length tag) true (cond (requires_eight_bytes tag) (tag_length tag == 8) (cond (requires_no_bytes tag) (tag_length tag == 0) (tag_type tag == move_type && tag_length tag == 12)))) ≡ true
     go true = rw (kind, third) refl
     go false = rw (kind, third) refl
 
 abbrev pub with_attribute_put : ℕ → List ℕ → RawSlot → RawSlot
-with_attribute_put attribute bytes s = record s { attributes = attributes_with_attribute attribute bytes s.attributes }
+with_attribute_put attribute bytes s = record s { attributes = attributes_with attribute bytes s.attributes }
 
 abbrev pub with_attribute_removed : ℕ → RawSlot → RawSlot
-with_attribute_removed attribute s = record s { attributes = attributes_without_attribute attribute s.attributes }
+with_attribute_removed attribute s = record s { attributes = attributes_without attribute s.attributes }
 
 abbrev put_entry : ℕ → ℕ → List ℕ → LogEntry
-put_entry id attribute bytes = log_entry_of_type_id_and_bytes (lowest_attribute_type + attribute) id bytes
+put_entry id attribute bytes = log_entry_of (lowest_type + attribute) id bytes
 
 abbrev remove_entry : ℕ → ℕ → LogEntry
-remove_entry id attribute = record { tag = tag_of_type_id_and_length (lowest_attribute_type + attribute) id 0x3ff; bytes = [] }
+remove_entry id attribute = record { tag = make_tag (lowest_type + attribute) id 0x3ff; bytes = [] }
 
-pub puts_attribute : (c : RawPairContent) (id attribute : ℕ) (bytes : List ℕ) → id < 0x3ff → attribute < 0x100 → length bytes < 0x3ff → IsNamed c.slots id
-    → Does (PutAttribute id attribute bytes) c (record c { slots = raw_slots_with_function_applied_at_id (with_attribute_put attribute bytes) c.slots id })
+pub puts_attribute : (c : RawContent) (id attribute : ℕ) (bytes : List ℕ) → id < 0x3ff → attribute < 0x100 → length bytes < 0x3ff → IsNamed c.slots id
+    → Does (PutAttribute id attribute bytes) c (record c { slots = changed_at (with_attribute_put attribute bytes) c.slots id })
 puts_attribute c id attribute bytes small low short named = record {
   storable = and_from _ _ (lt-ltb id no_id small) (and_from _ _ (lt-ltb attribute 0x100 low) (le-leb (length bytes) 1022 (omega arith)));
-  makes = one_entry c (record c { slots = raw_slots_with_function_applied_at_id (with_attribute_put attribute bytes) c.slots id }) (put_entry id attribute bytes)
+  makes = one_entry c (record c { slots = changed_at (with_attribute_put attribute bytes) c.slots id }) (put_entry id attribute bytes)
       (by_slots c (put_entry id attribute bytes) (omega arith) (attribute_in_table (put_entry id attribute bytes).tag attribute low kind) (omega arith) ∙ ap (option_map (λ slots. record c { slots = slots }))
       (attribute_after c.slots (put_entry id attribute bytes) id attribute low kind at named
-      ∙ ap (λ b. Some (raw_slots_with_function_applied_at_id (λ s. record s { attributes = cond b (attributes_without_attribute attribute s.attributes) (attributes_with_attribute attribute bytes s.attributes) }) c.slots id)) stays));
+      ∙ ap (λ b. Some (changed_at (λ s. record s { attributes = cond b (attributes_without attribute s.attributes) (attributes_with attribute bytes s.attributes) }) c.slots id)) stays));
 }
   where
-    kind : type_of_tag (tag_of_type_id_and_length (lowest_attribute_type + attribute) id (length bytes)) ≡ lowest_attribute_type + attribute
-    kind = type_of_tag-tag_of_type_id_and_length (lowest_attribute_type + attribute) id (length bytes) (omega arith) (omega arith) (omega arith)
+    kind : tag_type (make_tag (lowest_type + attribute) id (length bytes)) ≡ lowest_type + attribute
+    kind = tag_type-make_tag (lowest_type + attribute) id (length bytes) (omega arith) (omega arith) (omega arith)
 
-    at : id_of_tag (tag_of_type_id_and_length (lowest_attribute_type + attribute) id (length bytes)) ≡ id
-    at = id_of_tag-tag_of_type_id_and_length (lowest_attribute_type + attribute) id (length bytes) (omega arith) (omega arith)
+    at : tag_id (make_tag (lowest_type + attribute) id (length bytes)) ≡ id
+    at = tag_id-make_tag (lowest_type + attribute) id (length bytes) (omega arith) (omega arith)
 
-    stays : is_attribute_removal (tag_of_type_id_and_length (lowest_attribute_type + attribute) id (length bytes)) ≡ false
-    stays = ne_eqb (length_of_tag (tag_of_type_id_and_length (lowest_attribute_type + attribute) id (length bytes))) 0x3ff (λ h. omega arith)
+    stays : is_attribute_removal (make_tag (lowest_type + attribute) id (length bytes)) ≡ false
+    stays = ne_eqb (tag_length (make_tag (lowest_type + attribute) id (length bytes))) 0x3ff (λ h. omega arith)
 
-pub removes_attribute : (c : RawPairContent) (id attribute : ℕ) → id < 0x3ff → attribute < 0x100 → IsNamed c.slots id
-    → Does (RemoveAttribute id attribute) c (record c { slots = raw_slots_with_function_applied_at_id (with_attribute_removed attribute) c.slots id })
+pub removes_attribute : (c : RawContent) (id attribute : ℕ) → id < 0x3ff → attribute < 0x100 → IsNamed c.slots id
+    → Does (RemoveAttribute id attribute) c (record c { slots = changed_at (with_attribute_removed attribute) c.slots id })
 removes_attribute c id attribute small low named = record {
   storable = and_from _ _ (lt-ltb id no_id small) (lt-ltb attribute 0x100 low);
-  makes = one_entry c (record c { slots = raw_slots_with_function_applied_at_id (with_attribute_removed attribute) c.slots id }) (remove_entry id attribute)
+  makes = one_entry c (record c { slots = changed_at (with_attribute_removed attribute) c.slots id }) (remove_entry id attribute)
       (by_slots c (remove_entry id attribute) (omega arith) (attribute_in_table (remove_entry id attribute).tag attribute low kind) (omega arith) ∙ ap (option_map (λ slots. record c { slots = slots }))
       (attribute_after c.slots (remove_entry id attribute) id attribute low kind at named
-      ∙ ap (λ b. Some (raw_slots_with_function_applied_at_id (λ s. record s { attributes = cond b (attributes_without_attribute attribute s.attributes) (attributes_with_attribute attribute [] s.attributes) }) c.slots id)) goes));
+      ∙ ap (λ b. Some (changed_at (λ s. record s { attributes = cond b (attributes_without attribute s.attributes) (attributes_with attribute [] s.attributes) }) c.slots id)) goes));
 }
   where
-    kind : type_of_tag (tag_of_type_id_and_length (lowest_attribute_type + attribute) id 0x3ff) ≡ lowest_attribute_type + attribute
-    kind = type_of_tag-tag_of_type_id_and_length (lowest_attribute_type + attribute) id 0x3ff (omega arith) (omega arith) (omega arith)
+    kind : tag_type (make_tag (lowest_type + attribute) id 0x3ff) ≡ lowest_type + attribute
+    kind = tag_type-make_tag (lowest_type + attribute) id 0x3ff (omega arith) (omega arith) (omega arith)
 
-    at : id_of_tag (tag_of_type_id_and_length (lowest_attribute_type + attribute) id 0x3ff) ≡ id
-    at = id_of_tag-tag_of_type_id_and_length (lowest_attribute_type + attribute) id 0x3ff (omega arith) (omega arith)
+    at : tag_id (make_tag (lowest_type + attribute) id 0x3ff) ≡ id
+    at = tag_id-make_tag (lowest_type + attribute) id 0x3ff (omega arith) (omega arith)
 
-    goes : is_attribute_removal (tag_of_type_id_and_length (lowest_attribute_type + attribute) id 0x3ff) ≡ true
-    goes = eq-eqb (length_of_tag (tag_of_type_id_and_length (lowest_attribute_type + attribute) id 0x3ff)) 0x3ff (length_of_tag-tag_of_type_id_and_length (lowest_attribute_type + attribute) id 0x3ff (omega arith))
+    goes : is_attribute_removal (make_tag (lowest_type + attribute) id 0x3ff) ≡ true
+    goes = eq-eqb (tag_length (make_tag (lowest_type + attribute) id 0x3ff)) 0x3ff (tag_length-make_tag (lowest_type + attribute) id 0x3ff (omega arith))
 
 -- ---- create
 
@@ -205,24 +205,24 @@ put_inserted : (slots : List RawSlot) (id : ℕ) (s t : RawSlot) → id ≤ leng
 put_inserted slots id s t fits =
     ap (λ k. slice_set (insert slots id s) k t) (sym (length-take-le id slots fits)) ∙ set-append_seam (take id slots) s (drop id slots) t
 
-pub changed_inserted : (f : RawSlot → RawSlot) (slots : List RawSlot) (id : ℕ) (s : RawSlot) → id ≤ length slots → raw_slots_with_function_applied_at_id f (insert slots id s) id ≡ insert slots id (f s)
+pub changed_inserted : (f : RawSlot → RawSlot) (slots : List RawSlot) (id : ℕ) (s : RawSlot) → id ≤ length slots → changed_at f (insert slots id s) id ≡ insert slots id (f s)
 changed_inserted f slots id s fits = ap (λ t. slice_set (insert slots id s) id (f t)) (inserted_at slots id s fits) ∙ put_inserted slots id s (f s) fits
 
 -- slots that reach past an id stay
-long_enough : (slots : List RawSlot) (id : ℕ) → id < length slots → slots_padded_to_id slots id ≡ slots
+long_enough : (slots : List RawSlot) (id : ℕ) → id < length slots → slots_padded_to slots id ≡ slots
 long_enough slots id there =
     let none : id + 1 - length slots ≡ 0 = omega arith in
     ap (λ n. slots ++ replicate n empty_slot) none ∙ append-nil slots
 
-pub creates : (c : RawPairContent) (id type : ℕ) (name : List ℕ) → id < 0x3ff → id ≤ length c.slots → IsNameOrStructTheFormatAllows 0 (type, name)
+pub creates : (c : RawContent) (id type : ℕ) (name : List ℕ) → id < 0x3ff → id ≤ length c.slots → IsAllowed 0 (type, name)
     → Does (Create id type name) c (record c { slots = insert c.slots id (slot_named (type, name)) })
 creates c id type name small fits part = record {
   storable = and_from _ _ (lt-ltb id no_id small) (and_from _ _ (lt-ltb type 0x100 (omega arith)) (le-leb (length name) 1022 (omega arith)));
-  makes = then c (record c { slots = insert c.slots id empty_slot }) (log_entry_of_type_id_and_bytes create_tag_type id [] ∷ []) (log_entry_of_type_id_and_bytes type id name ∷ []) _
-      (one_entry c (record c { slots = insert c.slots id empty_slot }) (log_entry_of_type_id_and_bytes create_tag_type id [])
-      (by_slots c (log_entry_of_type_id_and_bytes create_tag_type id []) (omega arith) create_in_table (omega arith) ∙ ap (option_map (λ slots. record c { slots = slots })) create_after))
-      (one_entry (record c { slots = insert c.slots id empty_slot }) (record c { slots = insert c.slots id (slot_named (type, name)) }) (log_entry_of_type_id_and_bytes type id name)
-      (by_slots (record c { slots = insert c.slots id empty_slot }) (log_entry_of_type_id_and_bytes type id name) (omega arith) (in_table_at 0 (type, name) id (omega arith) (omega arith) part) (omega arith)
+  makes = then c (record c { slots = insert c.slots id empty_slot }) (log_entry_of create_tag_type id [] ∷ []) (log_entry_of type id name ∷ []) _
+      (one_entry c (record c { slots = insert c.slots id empty_slot }) (log_entry_of create_tag_type id [])
+      (by_slots c (log_entry_of create_tag_type id []) (omega arith) create_in_table (omega arith) ∙ ap (option_map (λ slots. record c { slots = slots })) create_after))
+      (one_entry (record c { slots = insert c.slots id empty_slot }) (record c { slots = insert c.slots id (slot_named (type, name)) }) (log_entry_of type id name)
+      (by_slots (record c { slots = insert c.slots id empty_slot }) (log_entry_of type id name) (omega arith) (in_table_at 0 (type, name) id (omega arith) (omega arith) part) (omega arith)
       ∙ ap (option_map (λ slots. record c { slots = slots })) name_after));
 }
   where
@@ -232,71 +232,71 @@ creates c id type name small fits part = record {
     short : length name < 0x3ff
     short = part.short
 
-    create_kind : type_of_tag (tag_of_type_id_and_length create_tag_type id 0) ≡ create_tag_type
-    create_kind = type_of_tag-tag_of_type_id_and_length create_tag_type id 0 (omega arith) (omega arith) (omega arith)
+    create_kind : tag_type (make_tag create_tag_type id 0) ≡ create_tag_type
+    create_kind = tag_type-make_tag create_tag_type id 0 (omega arith) (omega arith) (omega arith)
 
-    create_len : length_of_tag (tag_of_type_id_and_length create_tag_type id 0) ≡ 0
-    create_len = length_of_tag-tag_of_type_id_and_length create_tag_type id 0 (omega arith)
+    create_len : tag_length (make_tag create_tag_type id 0) ≡ 0
+    create_len = tag_length-make_tag create_tag_type id 0 (omega arith)
 
-    create_at : id_of_tag (tag_of_type_id_and_length create_tag_type id 0) ≡ id
-    create_at = id_of_tag-tag_of_type_id_and_length create_tag_type id 0 (omega arith) (omega arith)
+    create_at : tag_id (make_tag create_tag_type id 0) ≡ id
+    create_at = tag_id-make_tag create_tag_type id 0 (omega arith) (omega arith)
 
-    create_in_table : is_tag_of_known_type_and_length (tag_of_type_id_and_length create_tag_type id 0) ≡ true
+    create_in_table : is_known_tag (make_tag create_tag_type id 0) ≡ true
     create_in_table = rw (create_kind, create_len) refl
 
-    create_after : slots_after_log_entry c.slots (log_entry_of_type_id_and_bytes create_tag_type id []) ≡ Some (insert c.slots id empty_slot)
+    create_after : slots_after c.slots (log_entry_of create_tag_type id []) ≡ Some (insert c.slots id empty_slot)
     create_after = rw (create_kind, create_at, le-leb id (length c.slots) fits) refl
 
-    kind : type_of_tag (tag_of_type_id_and_length type id (length name)) ≡ type
-    kind = type_of_tag-tag_of_type_id_and_length type id (length name) (omega arith) (omega arith) (omega arith)
+    kind : tag_type (make_tag type id (length name)) ≡ type
+    kind = tag_type-make_tag type id (length name) (omega arith) (omega arith) (omega arith)
 
-    at : id_of_tag (tag_of_type_id_and_length type id (length name)) ≡ id
-    at = id_of_tag-tag_of_type_id_and_length type id (length name) (omega arith) (omega arith)
+    at : tag_id (make_tag type id (length name)) ≡ id
+    at = tag_id-make_tag type id (length name) (omega arith) (omega arith)
 
     longer : length (insert c.slots id empty_slot) ≡ length c.slots + 1
     longer = length-insert c.slots id empty_slot fits
 
-    name_after : slots_after_log_entry (insert c.slots id empty_slot) (log_entry_of_type_id_and_bytes type id name) ≡ Some (insert c.slots id (slot_named (type, name)))
+    name_after : slots_after (insert c.slots id empty_slot) (log_entry_of type id name) ≡ Some (insert c.slots id (slot_named (type, name)))
     name_after =
         let is_name : type / 2 ^ 8 == 0 ≡ true = eq-eqb (type / 2 ^ 8) 0 of_class in
-        rw (kind, at) (rw is_name (ap (λ slots. Some (raw_slots_with_function_applied_at_id (λ s. record s { name = Some (type, name) }) slots id)) (long_enough (insert c.slots id empty_slot) id (omega (arith, longer)))
+        rw (kind, at) (rw is_name (ap (λ slots. Some (changed_at (λ s. record s { name = Some (type, name) }) slots id)) (long_enough (insert c.slots id empty_slot) id (omega (arith, longer)))
         ∙ ap Some (changed_inserted (λ s. record s { name = Some (type, name) }) c.slots id empty_slot fits)))
 
 -- a slot with its struct
 abbrev pub slot_with : ℕ × List ℕ → ℕ × List ℕ → RawSlot
 slot_with name part = record { name = Some name; struct = Some part; attributes = [] }
 
-pub creates_with_struct : (c : RawPairContent) (id type : ℕ) (name : List ℕ) (kind : ℕ) (bytes : List ℕ) (changes : List PairContentChange) (e : RawPairContent) →
-    id < 0x3ff → id ≤ length c.slots → IsNameOrStructTheFormatAllows 0 (type, name) → IsNameOrStructTheFormatAllows 2 (kind, bytes) →
-    raw_pair_content_after_changes (record c { slots = insert c.slots id (slot_with (type, name) (kind, bytes)) }) changes ≡ Some e →
-    raw_pair_content_after_changes c (Create id type name ∷ PutStruct id kind bytes ∷ changes) ≡ Some e
+pub creates_with_struct : (c : RawContent) (id type : ℕ) (name : List ℕ) (kind : ℕ) (bytes : List ℕ) (changes : List PairChange) (e : RawContent) →
+    id < 0x3ff → id ≤ length c.slots → IsAllowed 0 (type, name) → IsAllowed 2 (kind, bytes) →
+    changed_content_of (record c { slots = insert c.slots id (slot_with (type, name) (kind, bytes)) }) changes ≡ Some e →
+    changed_content_of c (Create id type name ∷ PutStruct id kind bytes ∷ changes) ≡ Some e
 creates_with_struct c id type name kind bytes changes e small fits is_name is_struct others =
     does_first (Create id type name) (PutStruct id kind bytes ∷ changes) c created e (creates c id type name small fits is_name)
-    (does_first (PutStruct id kind bytes) changes created (record c { slots = raw_slots_with_function_applied_at_id (with_struct (kind, bytes)) created.slots id }) e
+    (does_first (PutStruct id kind bytes) changes created (record c { slots = changed_at (with_struct (kind, bytes)) created.slots id }) e
     (puts_struct created id kind bytes small (ap (λ s. is_some s.name) (inserted_at c.slots id (slot_named (type, name)) fits)) is_struct)
-    (ap (λ slots. raw_pair_content_after_changes (record c { slots = slots }) changes) (changed_inserted (with_struct (kind, bytes)) c.slots id (slot_named (type, name)) fits) ∙ others))
+    (ap (λ slots. changed_content_of (record c { slots = slots }) changes) (changed_inserted (with_struct (kind, bytes)) c.slots id (slot_named (type, name)) fits) ∙ others))
   where
-    created : RawPairContent
+    created : RawContent
     created = record c { slots = insert c.slots id (slot_named (type, name)) }
 
 -- ---- tails and move states
 
-tail_after : (c : RawPairContent) (hard : Bool) (pair : ℕ × ℕ) → Are32BitPairAddresses pair → content_after_log_entries c (log_entries_of_change (PutTail hard (Some pair))) ≡ Some (record c { tail = tail_to_pair_if_any hard pair })
-tail_after c true pair h = ap (λ p. Some (record c { tail = tail_to_pair_if_any true p })) (pair_address_of_bytes-bytes_of_pair_address pair h)
-tail_after c false pair h = ap (λ p. Some (record c { tail = tail_to_pair_if_any false p })) (pair_address_of_bytes-bytes_of_pair_address pair h)
+tail_after : (c : RawContent) (hard : Bool) (pair : ℕ × ℕ) → AreWords pair → content_after c (change_entries (PutTail hard (Some pair))) ≡ Some (record c { tail = tail_to_pair hard pair })
+tail_after c true pair h = ap (λ p. Some (record c { tail = tail_to_pair true p })) (read_address-address_bytes pair h)
+tail_after c false pair h = ap (λ p. Some (record c { tail = tail_to_pair false p })) (read_address-address_bytes pair h)
 
-pub puts_tail : (c : RawPairContent) (hard : Bool) (pair : ℕ × ℕ) → Are32BitPairAddresses pair → Does (PutTail hard (Some pair)) c (record c { tail = tail_to_pair_if_any hard pair })
+pub puts_tail : (c : RawContent) (hard : Bool) (pair : ℕ × ℕ) → AreWords pair → Does (PutTail hard (Some pair)) c (record c { tail = tail_to_pair hard pair })
 puts_tail c hard pair h = record {
   storable = and_from _ _ (lt-ltb pair.0 (2 ^ 32) h.0) (lt-ltb pair.1 (2 ^ 32) h.1);
   makes = tail_after c hard pair h;
 }
 
-pub ends_tail : (c : RawPairContent) (hard : Bool) → Does (PutTail hard None) c (record c { tail = None })
+pub ends_tail : (c : RawContent) (hard : Bool) → Does (PutTail hard None) c (record c { tail = None })
 ends_tail c true = record { storable = refl; makes = refl }
 ends_tail c false = record { storable = refl; makes = refl }
 
-pub puts_move : (c : RawPairContent) (g : Gstate) → AreMoveStateFieldsWithinBitWidths g → Does (PutMove g) c (record c { move = g })
+pub puts_move : (c : RawContent) (g : Gstate) → MoveStateFits g → Does (PutMove g) c (record c { move = g })
 puts_move c g h = record {
   storable = and_from _ _ (lt-ltb g.kind (2 ^ 11) h.kind) (and_from _ _ (lt-ltb g.id (2 ^ 10) h.id) (and_from _ _ (lt-ltb g.pair.0 (2 ^ 32) h.pair.0) (lt-ltb g.pair.1 (2 ^ 32) h.pair.1)));
-  makes = ap (λ m. Some (record c { move = m })) (gstate_of_bytes-bytes_of_move_state g h);
+  makes = ap (λ m. Some (record c { move = m })) (read_gstate-bytes_of_move_state g h);
 }

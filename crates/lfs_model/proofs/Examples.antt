@@ -1,21 +1,21 @@
 -- What images show, from what computes.
 use Rattle.std.proofs.Common.{ℕ, ◌≡◌, Bool, true, false, List, [], ◌∷◌, Option, Some, refl, sym, ap, ◌∙◌, option_map, cond, map}
 use Rattle.std.specs.Prelude.{find}
-use Rattle.lfs_model.specs.Disk.{Disk, default_profile}
-use Rattle.lfs_model.specs.Slots.{Slot, File, Directory, Inline, Ctz, Branch, Tail, Gstate}
-use Rattle.lfs_model.specs.Thread.{Pair, gstate_of_pairs, root_directory_address_of_pairs}
-use Rattle.lfs_model.specs.Tree.{Path, Node, root_slot, node_of_struct_and_attributes}
-use Rattle.lfs_model.specs.View.{HasDiskView, view_of_disk}
-use Rattle.lfs_model.specs.Shown.{entries_by_directory_in_thread, skip_list_bytes_on_disk, tree_on_disk, used_blocks}
-use Rattle.lfs_model.specs.TreeEdits.{same_path}
-use Rattle.lfs_model.specs.Fresh.{superblock_slot}
-use Rattle.lfs_model.specs.examples.Images.{tree_of_nodes, disk_view_of_nodes}
+use Rattle.lfs_model.specs.format.Disk.{Disk, default_profile}
+use Rattle.lfs_model.specs.format.Slots.{Slot, File, Directory, Inline, Ctz, Branch, Tail, Gstate}
+use Rattle.lfs_model.specs.format.Thread.{Pair, pairs_gstate, root_address}
+use Rattle.lfs_model.specs.tree.Tree.{Path, Node, root_slot, struct_node}
+use Rattle.lfs_model.specs.tree.View.{HasDiskView, disk_view}
+use Rattle.lfs_model.specs.tree.Shown.{all_entries, struct_list_bytes, tree_on_disk, used_blocks}
+use Rattle.lfs_model.specs.session.TreeEdits.{same_path}
+use Rattle.lfs_model.specs.tree.Fresh.{superblock_slot}
+use Rattle.lfs_model.specs.examples.Images.{tree_of_nodes, nodes_view}
 use Rattle.lfs_model.proofs.Outlines.{Outline, found_in, outlined}
 use Rattle.lfs_model.proofs.Acceptance.{IsImage, image_is_accepted, image_is_outlined, outline_in}
 
 -- the nodes of the outline
 abbrev pub nodes_in : Disk → List Pair → ℕ → List (Path × Node)
-nodes_in disk ps k = map (λ f. (f.0, node_of_struct_and_attributes (skip_list_bytes_on_disk disk) (entries_by_directory_in_thread ps) f.1.attributes f.1.struct)) (outline_in k ps)
+nodes_in disk ps k = map (λ f. (f.0, struct_node (struct_list_bytes disk) (all_entries ps) f.1.attributes f.1.struct)) (outline_in k ps)
 
 found_nodes : (node : Slot → Node) (xs : Outline) (path : Path) → tree_of_nodes (map (λ (f : Path × Slot). (f.0, node f.1)) xs) path ≡ option_map node (found_in path xs)
 found_nodes node [] path = refl
@@ -27,16 +27,16 @@ found_nodes node (x ∷ xs) path = go (same_path path x.0) (found_nodes node xs 
     go false ih = ih
 
 pub image_shows : (disk : Disk) (ps : List Pair) (bytes : List ℕ) (k : ℕ) → IsImage disk ps bytes k →
-    (nodes : List (Path × Node)) (gstate : Gstate) (used : List ℕ) → nodes_in disk ps k ≡ nodes → gstate_of_pairs ps ≡ gstate → used_blocks disk ps ≡ used → HasDiskView disk (disk_view_of_nodes nodes gstate used)
+    (nodes : List (Path × Node)) (gstate : Gstate) (used : List ℕ) → nodes_in disk ps k ≡ nodes → pairs_gstate ps ≡ gstate → used_blocks disk ps ≡ used → HasDiskView disk (nodes_view nodes gstate used)
 image_shows disk ps bytes k h nodes gstate used nodes_are gstate_is used_are =
     let tree : tree_on_disk disk ps ≡ tree_of_nodes nodes = (λ i path. tree_at path i) ∙ ap tree_of_nodes nodes_are in
-    let view : view_of_disk disk ps ≡ disk_view_of_nodes nodes gstate used = λ i. record { tree = tree i; gstate = gstate_is i; used = used_are i } in
+    let view : disk_view disk ps ≡ nodes_view nodes gstate used = λ i. record { tree = tree i; gstate = gstate_is i; used = used_are i } in
     (ps, (image_is_accepted disk ps bytes k h, sym view))
   where
     tree_at : (path : Path) → tree_on_disk disk ps path ≡ tree_of_nodes (nodes_in disk ps k) path
     tree_at path =
-        ap (option_map (λ s. node_of_struct_and_attributes (skip_list_bytes_on_disk disk) (entries_by_directory_in_thread ps) s.attributes s.struct)) (sym (outlined k (entries_by_directory_in_thread ps) (root_slot (root_directory_address_of_pairs ps)) (image_is_outlined disk ps bytes k h) path))
-        ∙ sym (found_nodes (λ s. node_of_struct_and_attributes (skip_list_bytes_on_disk disk) (entries_by_directory_in_thread ps) s.attributes s.struct) (outline_in k ps) path)
+        ap (option_map (λ s. struct_node (struct_list_bytes disk) (all_entries ps) s.attributes s.struct)) (sym (outlined k (all_entries ps) (root_slot (root_address ps)) (image_is_outlined disk ps bytes k h) path))
+        ∙ sym (found_nodes (λ s. struct_node (struct_list_bytes disk) (all_entries ps) s.attributes s.struct) (outline_in k ps) path)
 
 -- ---- pairs, written out
 

@@ -3,79 +3,79 @@ use Rattle.std.proofs.Common.{ℕ, zero, suc, ◌≡◌, ◌+◌, ◌*◌, ◌-�
 use Rattle.std.specs.Prelude.{All, slice_index}
 use Rattle.std.specs.List.{enumerate_from}
 use Rattle.std.proofs.lemmas.List.Elements.{All-from_recursion}
-use Rattle.lfs_model.specs.Blocks.{Blocks, block_bytes_by_number}
-use Rattle.lfs_model.specs.Disk.{Disk, SameGeometry}
-use Rattle.lfs_model.specs.Slots.{Struct, Inline, Ctz, Branch}
-use Rattle.lfs_model.specs.SkipLists.{word_at_offset, pointer_count_of_list_block, list_block_count_for_size, list_blocks_from_head, AreListBlocks, IsSkipList, data_of_list_block, bytes_of_skip_list}
-use Rattle.lfs_model.specs.Shown.{skip_list_bytes_on_disk, skip_list_blocks_of_struct}
-use Rattle.lfs_model.specs.View.{IsSkipListIfCtzStruct}
+use Rattle.lfs_model.specs.format.Blocks.{Blocks, block_bytes}
+use Rattle.lfs_model.specs.format.Disk.{Disk, SameGeometry}
+use Rattle.lfs_model.specs.format.Slots.{Struct, Inline, Ctz, Branch}
+use Rattle.lfs_model.specs.format.SkipLists.{word_at, pointer_count, block_count_for, blocks_to_head, AreListBlocks, IsSkipList, block_data, list_bytes}
+use Rattle.lfs_model.specs.tree.Shown.{struct_list_bytes, struct_blocks}
+use Rattle.lfs_model.specs.tree.View.{IsWellFormedCtz}
 use Rattle.lfs_model.proofs.Counts.{Each, each_left, each_right}
-use Rattle.lfs_model.specs.Steps.{HasSameFileBlocksOfStructOnDisks}
-pub use Rattle.lfs_model.specs.Steps.{HasSameFileBlocksOfStructOnDisks}
+use Rattle.lfs_model.specs.layers.Steps.{SameFileBlocks}
+pub use Rattle.lfs_model.specs.layers.Steps.{SameFileBlocks}
 
 abbrev pub Same : Blocks → Blocks → List ℕ → Type 0
-Same d e = Each (λ b. block_bytes_by_number e b ≡ block_bytes_by_number d b)
+Same d e = Each (λ b. block_bytes e b ≡ block_bytes d b)
 
-pub back_same : (d e : Blocks) (n head : ℕ) → Same d e (list_blocks_from_head d n head) → list_blocks_from_head e n head ≡ list_blocks_from_head d n head
+pub back_same : (d e : Blocks) (n head : ℕ) → Same d e (blocks_to_head d n head) → blocks_to_head e n head ≡ blocks_to_head d n head
 back_same d e zero head h = refl
 back_same d e (suc zero) head h = refl
 back_same d e (suc (suc n)) head h =
-    let same : word_at_offset (block_bytes_by_number e head) 0 ≡ word_at_offset (block_bytes_by_number d head) 0 = ap (λ z. word_at_offset z 0) (each_right (λ b. block_bytes_by_number e b ≡ block_bytes_by_number d b) (list_blocks_from_head d (suc n) (word_at_offset (block_bytes_by_number d head) 0)) (head ∷ []) h).0 in
-    ap (λ z. list_blocks_from_head e (suc n) z ++ head ∷ []) same
-    ∙ ap (λ z. z ++ head ∷ []) (back_same d e (suc n) (word_at_offset (block_bytes_by_number d head) 0) (each_left (λ b. block_bytes_by_number e b ≡ block_bytes_by_number d b) (list_blocks_from_head d (suc n) (word_at_offset (block_bytes_by_number d head) 0)) (head ∷ []) h))
+    let same : word_at (block_bytes e head) 0 ≡ word_at (block_bytes d head) 0 = ap (λ z. word_at z 0) (each_right (λ b. block_bytes e b ≡ block_bytes d b) (blocks_to_head d (suc n) (word_at (block_bytes d head) 0)) (head ∷ []) h).0 in
+    ap (λ z. blocks_to_head e (suc n) z ++ head ∷ []) same
+    ∙ ap (λ z. z ++ head ∷ []) (back_same d e (suc n) (word_at (block_bytes d head) 0) (each_left (λ b. block_bytes e b ≡ block_bytes d b) (blocks_to_head d (suc n) (word_at (block_bytes d head) 0)) (head ∷ []) h))
 
-pub length_back : (d : Blocks) (n head : ℕ) → length (list_blocks_from_head d n head) ≡ n
+pub length_back : (d : Blocks) (n head : ℕ) → length (blocks_to_head d n head) ≡ n
 length_back d zero head = refl
 length_back d (suc zero) head = refl
-length_back d (suc (suc n)) head = length-append (list_blocks_from_head d (suc n) (word_at_offset (block_bytes_by_number d head) 0)) (head ∷ []) ∙ ap (λ z. z + 1) (length_back d (suc n) (word_at_offset (block_bytes_by_number d head) 0)) ∙ omega arith
+length_back d (suc (suc n)) head = length-append (blocks_to_head d (suc n) (word_at (block_bytes d head) 0)) (head ∷ []) ∙ ap (λ z. z + 1) (length_back d (suc n) (word_at (block_bytes d head) 0)) ∙ omega arith
 
 -- the first blocks of a list that grows
-pub chain_same : (d e : Blocks) (count head : ℕ) → length e ≡ length d → Same d e (list_blocks_from_head d count head) → AreListBlocks d count head → AreListBlocks e count head
+pub chain_same : (d e : Blocks) (count head : ℕ) → length e ≡ length d → Same d e (blocks_to_head d count head) → AreListBlocks d count head → AreListBlocks e count head
 chain_same d e count head l h ok = record {
-  in_range = subst (λ bs. All (λ b. b < length e) bs) (sym back) (subst (λ n. All (λ b. b < n) (list_blocks_from_head d count head)) (sym l) ok.in_range);
+  in_range = subst (λ bs. All (λ b. b < length e) bs) (sym back) (subst (λ n. All (λ b. b < n) (blocks_to_head d count head)) (sym l) ok.in_range);
   distinct = rw back ok.distinct;
-  pointers = λ i k m j. ap (λ bs. word_at_offset (block_bytes_by_number e (slice_index bs i)) (4 * k)) back
-      ∙ ap (λ z. word_at_offset z (4 * k)) (All-from_recursion (λ b. block_bytes_by_number e b ≡ block_bytes_by_number d b) (list_blocks_from_head d count head) h i 0 (let n = length_back d count head in omega arith))
+  pointers = λ i k m j. ap (λ bs. word_at (block_bytes e (slice_index bs i)) (4 * k)) back
+      ∙ ap (λ z. word_at z (4 * k)) (All-from_recursion (λ b. block_bytes e b ≡ block_bytes d b) (blocks_to_head d count head) h i 0 (let n = length_back d count head in omega arith))
       ∙ ok.pointers i k m j ∙ ap (λ bs. slice_index bs (i - 2 ^ k)) (sym back);
 }
   where
-    back : list_blocks_from_head e count head ≡ list_blocks_from_head d count head
+    back : blocks_to_head e count head ≡ blocks_to_head d count head
     back = back_same d e count head h
 
-pub list_same : (d e : Blocks) (block_size head size : ℕ) → length e ≡ length d → Same d e (list_blocks_from_head d (list_block_count_for_size block_size size) head) →
+pub list_same : (d e : Blocks) (block_size head size : ℕ) → length e ≡ length d → Same d e (blocks_to_head d (block_count_for block_size size) head) →
     IsSkipList d block_size head size → IsSkipList e block_size head size
 list_same d e block_size head size l h ok = record {
   size_low = ok.size_low;
   size_high = ok.size_high;
-  blocks = chain_same d e (list_block_count_for_size block_size size) head l h ok.blocks;
+  blocks = chain_same d e (block_count_for block_size size) head l h ok.blocks;
 }
 
-pub data_same : (d e : Blocks) (n : ℕ) (bs : List ℕ) → Same d e bs → flat_map (data_of_list_block e) (enumerate_from n bs) ≡ flat_map (data_of_list_block d) (enumerate_from n bs)
+pub data_same : (d e : Blocks) (n : ℕ) (bs : List ℕ) → Same d e bs → flat_map (block_data e) (enumerate_from n bs) ≡ flat_map (block_data d) (enumerate_from n bs)
 data_same d e n [] h = refl
-data_same d e n (b ∷ bs) h = ap₂ (λ y z. drop (4 * pointer_count_of_list_block n) y ++ z) h.0 (data_same d e (n + 1) bs h.1)
+data_same d e n (b ∷ bs) h = ap₂ (λ y z. drop (4 * pointer_count n) y ++ z) h.0 (data_same d e (n + 1) bs h.1)
 
-pub bytes_same : (d e : Blocks) (block_size head size : ℕ) → Same d e (list_blocks_from_head d (list_block_count_for_size block_size size) head) →
-    bytes_of_skip_list e block_size head size ≡ bytes_of_skip_list d block_size head size
+pub bytes_same : (d e : Blocks) (block_size head size : ℕ) → Same d e (blocks_to_head d (block_count_for block_size size) head) →
+    list_bytes e block_size head size ≡ list_bytes d block_size head size
 bytes_same d e block_size head size h =
-    ap (λ bs. take size (flat_map (data_of_list_block e) (enumerate_from 0 bs))) (back_same d e (list_block_count_for_size block_size size) head h)
-    ∙ ap (take size) (data_same d e 0 (list_blocks_from_head d (list_block_count_for_size block_size size) head) h)
+    ap (λ bs. take size (flat_map (block_data e) (enumerate_from 0 bs))) (back_same d e (block_count_for block_size size) head h)
+    ∙ ap (take size) (data_same d e 0 (blocks_to_head d (block_count_for block_size size) head) h)
 
 -- ---- of a disk
 
-pub file_blocks_same : (disk new : Disk) (s : Struct) → SameGeometry disk new → HasSameFileBlocksOfStructOnDisks disk new s → skip_list_blocks_of_struct new s ≡ skip_list_blocks_of_struct disk s
+pub file_blocks_same : (disk new : Disk) (s : Struct) → SameGeometry disk new → SameFileBlocks disk new s → struct_blocks new s ≡ struct_blocks disk s
 file_blocks_same disk new (Inline bytes) g h = refl
 file_blocks_same disk new (Branch to) g h = refl
 file_blocks_same disk new (Ctz head size) g h =
-    ap (λ b. list_blocks_from_head new.blocks (list_block_count_for_size b size) head) g.block_size ∙ back_same disk.blocks new.blocks (list_block_count_for_size disk.block_size size) head h
+    ap (λ b. blocks_to_head new.blocks (block_count_for b size) head) g.block_size ∙ back_same disk.blocks new.blocks (block_count_for disk.block_size size) head h
 
-pub is_list_same : (disk new : Disk) (s : Struct) → SameGeometry disk new → HasSameFileBlocksOfStructOnDisks disk new s → IsSkipListIfCtzStruct disk s → IsSkipListIfCtzStruct new s
+pub is_list_same : (disk new : Disk) (s : Struct) → SameGeometry disk new → SameFileBlocks disk new s → IsWellFormedCtz disk s → IsWellFormedCtz new s
 is_list_same disk new (Inline bytes) g h ok = tt
 is_list_same disk new (Branch to) g h ok = tt
 is_list_same disk new (Ctz head size) g h ok =
     subst (λ b. IsSkipList new.blocks b head size) (sym g.block_size) (list_same disk.blocks new.blocks disk.block_size head size g.count h ok)
 
-pub contents_same : (disk new : Disk) (s : Struct) (head size : ℕ) → s ≡ Ctz head size → SameGeometry disk new → HasSameFileBlocksOfStructOnDisks disk new s →
-    skip_list_bytes_on_disk new head size ≡ skip_list_bytes_on_disk disk head size
+pub contents_same : (disk new : Disk) (s : Struct) (head size : ℕ) → s ≡ Ctz head size → SameGeometry disk new → SameFileBlocks disk new s →
+    struct_list_bytes new head size ≡ struct_list_bytes disk head size
 contents_same disk new s head size e g h =
-    ap (λ b. bytes_of_skip_list new.blocks b head size) g.block_size
-    ∙ bytes_same disk.blocks new.blocks disk.block_size head size (subst (HasSameFileBlocksOfStructOnDisks disk new) e h)
+    ap (λ b. list_bytes new.blocks b head size) g.block_size
+    ∙ bytes_same disk.blocks new.blocks disk.block_size head size (subst (SameFileBlocks disk new) e h)

@@ -4,21 +4,21 @@ use Rattle.std.specs.Prelude.{slice_get, codes}
 use Rattle.std.specs.Option.{option_and_then, option_map}
 use Rattle.std.proofs.lemmas.Bool.{ne_eqb}
 use Rattle.std.proofs.lemmas.Option.{same_Some}
-use Rattle.lfs_model.specs.Slots.{Slot, KindOfSlot, PairContent, File, Directory, Superblock, is_superblock_kind}
-use Rattle.lfs_model.specs.Tag.{tag_of_type_id_and_length, type_of_tag, length_of_tag}
-use Rattle.lfs_model.specs.LoggedContent.{IsNameOrStructTheFormatAllows, IsNameOrStructTheFormatAllowsIfSome, IsWellFormedRawSlot, AreWellFormedRawSlots}
-use Rattle.lfs_model.specs.Content.{RawSlot, RawPairContent, slot_if_name_and_struct_present, slots_if_names_and_structs_present, pair_content_if_slots_complete, kind_of_name_type, struct_of_type_and_bytes}
-use Rattle.lfs_model.specs.EntryTypes.{is_tag_of_known_type_and_length, tag_type_allows_any_length, tag_type_requires_eight_data_bytes, tag_type_requires_no_data_bytes, is_attribute_removal, file_name_type, directory_name_type, superblock_name_type, inline_struct_type, directory_struct_type, ctz_struct_type, soft_tail_type, hard_tail_type, create_tag_type, delete_tag_type, move_state_type}
-use Rattle.lfs_model.specs.WrittenContent.{log_entries_of_content, log_entries_of_slots, log_entry_of_type_id_and_bytes, log_entries_of_tail, log_entries_of_move_state}
-use Rattle.lfs_model.specs.Thread.{starts_with_superblock}
-use Rattle.lfs_model.specs.View.{superblock_name_log_entry}
+use Rattle.lfs_model.specs.format.Slots.{Slot, SlotKind, PairContent, File, Directory, Superblock, names_superblock}
+use Rattle.lfs_model.specs.format.Tag.{make_tag, tag_type, tag_length}
+use Rattle.lfs_model.specs.layers.LoggedContent.{IsAllowed, AllowsIfSome, IsSlotWellFormed, AreWellFormed}
+use Rattle.lfs_model.specs.format.Content.{RawSlot, RawContent, complete_slot, complete_slots, complete_content, kind_of_type, read_struct}
+use Rattle.lfs_model.specs.format.EntryTypes.{is_known_tag, allows_any_length, requires_eight_bytes, requires_no_bytes, is_attribute_removal, file_name_type, directory_name_type, superblock_name_type, inline_type, directory_type, ctz_type, soft_tail_type, hard_tail_type, create_tag_type, delete_tag_type, move_type}
+use Rattle.lfs_model.specs.layers.WrittenContent.{content_entries, entries_of_slots, log_entry_of, tail_entries, move_state_entries}
+use Rattle.lfs_model.specs.format.Thread.{starts_superblock}
+use Rattle.lfs_model.specs.tree.View.{superblock_entry}
 use Rattle.lfs_model.proofs.Completed.{complete_parts, completed_parts}
-use Rattle.lfs_model.proofs.WrittenAnew.{type_of_tag-tag_of_type_id_and_length, length_of_tag-tag_of_type_id_and_length}
+use Rattle.lfs_model.proofs.WrittenAnew.{tag_type-make_tag, tag_length-make_tag}
 
 -- ---- the types of names
 
 -- a name that is neither a file's nor a directory's is a superblock's
-pub superblock_type : (type : ℕ) (bytes : List ℕ) → IsNameOrStructTheFormatAllows 0 (type, bytes) → (type == file_name_type) ≡ false → (type == directory_name_type) ≡ false → type ≡ superblock_name_type
+pub superblock_type : (type : ℕ) (bytes : List ℕ) → IsAllowed 0 (type, bytes) → (type == file_name_type) ≡ false → (type == directory_name_type) ≡ false → type ≡ superblock_name_type
 superblock_type type bytes h e f = go (type == superblock_name_type) refl
   where
     of_class : type / 2 ^ 8 ≡ 0
@@ -27,34 +27,34 @@ superblock_type type bytes h e f = go (type == superblock_name_type) refl
     short : length bytes < 0x3ff
     short = h.short
 
-    kind : type_of_tag (tag_of_type_id_and_length type 0 (length bytes)) ≡ type
-    kind = type_of_tag-tag_of_type_id_and_length type 0 (length bytes) (omega arith) (omega arith) (omega arith)
+    kind : tag_type (make_tag type 0 (length bytes)) ≡ type
+    kind = tag_type-make_tag type 0 (length bytes) (omega arith) (omega arith) (omega arith)
 
-    len : length_of_tag (tag_of_type_id_and_length type 0 (length bytes)) ≡ length bytes
-    len = length_of_tag-tag_of_type_id_and_length type 0 (length bytes) (omega arith)
+    len : tag_length (make_tag type 0 (length bytes)) ≡ length bytes
+    len = tag_length-make_tag type 0 (length bytes) (omega arith)
 
     go : (c : Bool) → (type == superblock_name_type) ≡ c → type ≡ superblock_name_type
     go true g = eqb-true type superblock_name_type g
     go false g =
-        let any : tag_type_allows_any_length (tag_of_type_id_and_length type 0 (length bytes)) ≡ false
-        = rw kind (rw (ne_eqb (type / 2 ^ 8) 3 (λ i. omega arith), e, f, ne_eqb type inline_struct_type (λ i. omega arith)) refl) in
-        let eight : tag_type_requires_eight_data_bytes (tag_of_type_id_and_length type 0 (length bytes)) ≡ false
-        = rw kind (rw (g, ne_eqb type directory_struct_type (λ i. omega arith), ne_eqb type ctz_struct_type (λ i. omega arith), ne_eqb type soft_tail_type (λ i. omega arith), ne_eqb type hard_tail_type (λ i. omega arith)) refl) in
-        let none : tag_type_requires_no_data_bytes (tag_of_type_id_and_length type 0 (length bytes)) ≡ false
+        let any : allows_any_length (make_tag type 0 (length bytes)) ≡ false
+        = rw kind (rw (ne_eqb (type / 2 ^ 8) 3 (λ i. omega arith), e, f, ne_eqb type inline_type (λ i. omega arith)) refl) in
+        let eight : requires_eight_bytes (make_tag type 0 (length bytes)) ≡ false
+        = rw kind (rw (g, ne_eqb type directory_type (λ i. omega arith), ne_eqb type ctz_type (λ i. omega arith), ne_eqb type soft_tail_type (λ i. omega arith), ne_eqb type hard_tail_type (λ i. omega arith)) refl) in
+        let none : requires_no_bytes (make_tag type 0 (length bytes)) ≡ false
         = rw kind (rw (ne_eqb type create_tag_type (λ i. omega arith), ne_eqb type delete_tag_type (λ i. omega arith)) refl) in
-        let gone : is_attribute_removal (tag_of_type_id_and_length type 0 (length bytes)) ≡ false = rw len (ne_eqb (length bytes) 0x3ff (λ i. omega arith)) in
-        let moved : (type_of_tag (tag_of_type_id_and_length type 0 (length bytes)) == move_state_type) ≡ false = rw kind (ne_eqb type move_state_type (λ i. omega arith)) in
-        let not_there : is_tag_of_known_type_and_length (tag_of_type_id_and_length type 0 (length bytes)) ≡ false = rw (gone, any, eight, none, moved) refl in
+        let gone : is_attribute_removal (make_tag type 0 (length bytes)) ≡ false = rw len (ne_eqb (length bytes) 0x3ff (λ i. omega arith)) in
+        let moved : (tag_type (make_tag type 0 (length bytes)) == move_type) ≡ false = rw kind (ne_eqb type move_type (λ i. omega arith)) in
+        let not_there : is_known_tag (make_tag type 0 (length bytes)) ≡ false = rw (gone, any, eight, none, moved) refl in
         absurd (let t = h.in_table in cc)
 
 -- the type of a name of that kind
-abbrev pub type_of : KindOfSlot → ℕ
+abbrev pub type_of : SlotKind → ℕ
 type_of File = file_name_type
 type_of Directory = directory_name_type
 type_of Superblock = superblock_name_type
 
 -- a name's type says its kind, and the kind the type
-pub type_is : (type : ℕ) (bytes : List ℕ) → IsNameOrStructTheFormatAllows 0 (type, bytes) → type ≡ type_of (kind_of_name_type type)
+pub type_is : (type : ℕ) (bytes : List ℕ) → IsAllowed 0 (type, bytes) → type ≡ type_of (kind_of_type type)
 type_is type bytes h = go (type == file_name_type) (type == directory_name_type) refl refl
   where
     go : (a b : Bool) → (type == file_name_type) ≡ a → (type == directory_name_type) ≡ b → type ≡ type_of (cond a File (cond b Directory Superblock))
@@ -63,10 +63,10 @@ type_is type bytes h = go (type == file_name_type) (type == directory_name_type)
     go false false e f = superblock_type type bytes h e f
 
 -- a name is a file's, a directory's or a superblock's
-pub name_types : (type : ℕ) (bytes : List ℕ) → IsNameOrStructTheFormatAllows 0 (type, bytes) → (type ≡ file_name_type) ⊎ ((type ≡ directory_name_type) ⊎ (type ≡ superblock_name_type))
-name_types type bytes h = go (kind_of_name_type type) (type_is type bytes h)
+pub name_types : (type : ℕ) (bytes : List ℕ) → IsAllowed 0 (type, bytes) → (type ≡ file_name_type) ⊎ ((type ≡ directory_name_type) ⊎ (type ≡ superblock_name_type))
+name_types type bytes h = go (kind_of_type type) (type_is type bytes h)
   where
-    go : (k : KindOfSlot) → type ≡ type_of k → (type ≡ file_name_type) ⊎ ((type ≡ directory_name_type) ⊎ (type ≡ superblock_name_type))
+    go : (k : SlotKind) → type ≡ type_of k → (type ≡ file_name_type) ⊎ ((type ≡ directory_name_type) ⊎ (type ≡ superblock_name_type))
     go File e = inl e
     go Directory e = inr (inl e)
     go Superblock e = inr (inr e)
@@ -77,23 +77,23 @@ name_types type bytes h = go (kind_of_name_type type) (type_is type bytes h)
 pub record IsNamed (s : RawSlot) (t : Slot) : Type 0 where
   pub is : s.name ≡ Some (type_of t.kind, t.name)
 
-part_some : (o : Option (ℕ × List ℕ)) (part : ℕ × List ℕ) → o ≡ Some part → IsNameOrStructTheFormatAllowsIfSome 0 o → IsNameOrStructTheFormatAllows 0 part
+part_some : (o : Option (ℕ × List ℕ)) (part : ℕ × List ℕ) → o ≡ Some part → AllowsIfSome 0 o → IsAllowed 0 part
 part_some None part e k = absurd (cc)
-part_some (Some p) part e k = subst (IsNameOrStructTheFormatAllows 0) (same_Some p part e) k
+part_some (Some p) part e k = subst (IsAllowed 0) (same_Some p part e) k
 
-pub is_named : (s : RawSlot) (t : Slot) → IsWellFormedRawSlot s → slot_if_name_and_struct_present s ≡ Some t → IsNamed s t
+pub is_named : (s : RawSlot) (t : Slot) → IsSlotWellFormed s → complete_slot s ≡ Some t → IsNamed s t
 is_named s t parts h = go s.name refl s.struct h
   where
     go : (o : Option (ℕ × List ℕ)) → s.name ≡ o → (p : Option (ℕ × List ℕ)) → option_and_then (λ name. option_map (λ struct. record {
-      kind = kind_of_name_type name.0;
+      kind = kind_of_type name.0;
       name = name.1;
-      struct = struct_of_type_and_bytes struct.0 struct.1;
+      struct = read_struct struct.0 struct.1;
       attributes = s.attributes;
     }) p) o ≡ Some t → IsNamed s t
     go None e p k = absurd (cc)
     go (Some n) e None k = absurd (cc)
     go (Some n) e (Some p) k =
-        let same = same_Some (record { kind = kind_of_name_type n.0; name = n.1; struct = struct_of_type_and_bytes p.0 p.1; attributes = s.attributes }) t k in
+        let same = same_Some (record { kind = kind_of_type n.0; name = n.1; struct = read_struct p.0 p.1; attributes = s.attributes }) t k in
         let type : n.0 ≡ type_of t.kind = type_is n.0 n.1 (part_some s.name n e parts.name) ∙ ap (λ (x : Slot). type_of x.kind) same in
         record { is = e ∙ ap₂ (λ a b. Some (a, b)) type (ap (λ (x : Slot). x.name) same) }
 
@@ -103,32 +103,32 @@ same_first : (x y : Slot) (xs ys : List Slot) → x ∷ xs ≡ y ∷ ys → x �
 same_first x y xs ys k = cc
 
 -- a complete content that is written anew begins with the name in slot 0
-pub named_anew : (raw : RawPairContent) (c : PairContent) (t : Slot) → AreWellFormedRawSlots raw.slots → pair_content_if_slots_complete raw ≡ Some c → slice_get c.slots 0 ≡ Some t → slice_get (log_entries_of_content raw) 0 ≡ Some (log_entry_of_type_id_and_bytes (type_of t.kind) 0 t.name)
+pub named_anew : (raw : RawContent) (c : PairContent) (t : Slot) → AreWellFormed raw.slots → complete_content raw ≡ Some c → slice_get c.slots 0 ≡ Some t → slice_get (content_entries raw) 0 ≡ Some (log_entry_of (type_of t.kind) 0 t.name)
 named_anew raw c t have h at = go raw.slots refl c.slots refl
   where
-    go : (slots : List RawSlot) → raw.slots ≡ slots → (all : List Slot) → c.slots ≡ all → slice_get (log_entries_of_content raw) 0 ≡ Some (log_entry_of_type_id_and_bytes (type_of t.kind) 0 t.name)
+    go : (slots : List RawSlot) → raw.slots ≡ slots → (all : List Slot) → c.slots ≡ all → slice_get (content_entries raw) 0 ≡ Some (log_entry_of (type_of t.kind) 0 t.name)
     go slots e [] f = let none : List Slot = [] in absurd (let k : slice_get none 0 ≡ Some t = ap (λ (z : List Slot). slice_get z 0) (sym f) ∙ at in cc)
-    go [] e (u ∷ us) f = absurd (let k : slots_if_names_and_structs_present [] ≡ Some (u ∷ us) = ap slots_if_names_and_structs_present (sym e) ∙ (completed_parts raw c h).slots ∙ ap Some f in cc)
+    go [] e (u ∷ us) f = absurd (let k : complete_slots [] ≡ Some (u ∷ us) = ap complete_slots (sym e) ∙ (completed_parts raw c h).slots ∙ ap Some f in cc)
     go (s ∷ slots) e (u ∷ us) f =
-        let p = complete_parts s slots (u ∷ us) (ap slots_if_names_and_structs_present (sym e) ∙ (completed_parts raw c h).slots ∙ ap Some f) in
+        let p = complete_parts s slots (u ∷ us) (ap complete_slots (sym e) ∙ (completed_parts raw c h).slots ∙ ap Some f) in
         let same : t ≡ p.first = sym (same_Some u t (ap (λ (z : List Slot). slice_get z 0) (sym f) ∙ at)) ∙ same_first u p.first us p.others p.all_are in
-        let n = is_named s t (subst AreWellFormedRawSlots e have).0 (p.is_first ∙ ap Some (sym same)) in
-        ap (λ (z : List RawSlot). slice_get (log_entries_of_slots 0 z ++ log_entries_of_tail raw.tail ++ log_entries_of_move_state raw.move) 0) e
-        ∙ ap (λ (o : Option (ℕ × List ℕ)). slice_get (log_entries_of_slots 0 (record s { name = o } ∷ slots) ++ log_entries_of_tail raw.tail ++ log_entries_of_move_state raw.move) 0) n.is
+        let n = is_named s t (subst AreWellFormed e have).0 (p.is_first ∙ ap Some (sym same)) in
+        ap (λ (z : List RawSlot). slice_get (entries_of_slots 0 z ++ tail_entries raw.tail ++ move_state_entries raw.move) 0) e
+        ∙ ap (λ (o : Option (ℕ × List ℕ)). slice_get (entries_of_slots 0 (record s { name = o } ∷ slots) ++ tail_entries raw.tail ++ move_state_entries raw.move) 0) n.is
 
 -- with the superblock in slot 0, it begins with the superblock's entry
-pub superblock_anew : (raw : RawPairContent) (c : PairContent) → AreWellFormedRawSlots raw.slots → pair_content_if_slots_complete raw ≡ Some c → starts_with_superblock c.slots ≡ true → option_map (λ s. s.name) (slice_get c.slots 0) ≡ Some (codes "littlefs")
-    → slice_get (log_entries_of_content raw) 0 ≡ Some superblock_name_log_entry
+pub superblock_anew : (raw : RawContent) (c : PairContent) → AreWellFormed raw.slots → complete_content raw ≡ Some c → starts_superblock c.slots ≡ true → option_map (λ s. s.name) (slice_get c.slots 0) ≡ Some (codes "littlefs")
+    → slice_get (content_entries raw) 0 ≡ Some superblock_entry
 superblock_anew raw c have h first name = go c.slots refl
   where
-    kind_is : (k : KindOfSlot) → is_superblock_kind k ≡ true → k ≡ Superblock
+    kind_is : (k : SlotKind) → names_superblock k ≡ true → k ≡ Superblock
     kind_is File e = absurd (cc)
     kind_is Directory e = absurd (cc)
     kind_is Superblock e = refl
 
-    go : (all : List Slot) → c.slots ≡ all → slice_get (log_entries_of_content raw) 0 ≡ Some superblock_name_log_entry
-    go [] f = absurd (let k : starts_with_superblock [] ≡ true = ap starts_with_superblock (sym f) ∙ first in cc)
+    go : (all : List Slot) → c.slots ≡ all → slice_get (content_entries raw) 0 ≡ Some superblock_entry
+    go [] f = absurd (let k : starts_superblock [] ≡ true = ap starts_superblock (sym f) ∙ first in cc)
     go (t ∷ ts) f =
-        let kind : t.kind ≡ Superblock = kind_is t.kind (ap starts_with_superblock (sym f) ∙ first) in
+        let kind : t.kind ≡ Superblock = kind_is t.kind (ap starts_superblock (sym f) ∙ first) in
         let called : t.name ≡ codes "littlefs" = same_Some t.name (codes "littlefs") (ap (λ (z : List Slot). option_map (λ (x : Slot). x.name) (slice_get z 0)) (sym f) ∙ name) in
-        named_anew raw c t have h (ap (λ (z : List Slot). slice_get z 0) f) ∙ ap₂ (λ k (b : List ℕ). Some (log_entry_of_type_id_and_bytes (type_of k) 0 b)) kind called
+        named_anew raw c t have h (ap (λ (z : List Slot). slice_get z 0) f) ∙ ap₂ (λ k (b : List ℕ). Some (log_entry_of (type_of k) 0 b)) kind called

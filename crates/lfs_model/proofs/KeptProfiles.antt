@@ -2,13 +2,13 @@
 use Rattle.std.proofs.Common.{ℕ, zero, suc, ◌≡◌, ◌≢◌, ◌+◌, ◌≤◌, ◌∙◌, Bool, true, false, List, [], ◌∷◌, Some, drop, sym, ap, subst, arith}
 use Rattle.std.specs.Prelude.{All, slice_get}
 use Rattle.std.proofs.lemmas.Option.{get_or_from_slice_get, none-some, same_Some, slice_get_within}
-use Rattle.lfs_model.specs.Disk.{Disk, attr_max_of, file_max_of, name_max_of}
-use Rattle.lfs_model.specs.EntryTypes.{SuperblockFields, superblock_fields_of_struct_bytes}
-use Rattle.lfs_model.specs.Profile.{AreNoEmptyPairsAfterHardTails, HasSuperblockLimitsOfProfile, IsSlotWithinWritableLimits, IsWritableImage}
-use Rattle.lfs_model.specs.ProfileBreaches.{BreaksProfile, IsContentSmallEnough, IsOtherLimit, IsSuperblockWithOtherLimit}
-use Rattle.lfs_model.specs.Slots.{IsContentFittingPair, Slot, pair_address_of_array}
-use Rattle.lfs_model.specs.Thread.{Pair, is_hard_tail, pair_count_before_root}
-use Rattle.lfs_model.specs.Violations.{IsSlotAt}
+use Rattle.lfs_model.specs.format.Disk.{Disk, attr_max_of, file_max_of, name_max_of}
+use Rattle.lfs_model.specs.format.EntryTypes.{SuperblockFields, superblock_fields}
+use Rattle.lfs_model.specs.tree.Profile.{HasNoEmpties, HasLimits, IsWritableSlot, IsWritable}
+use Rattle.lfs_model.specs.layers.ProfileBreaches.{BreaksProfile, IsSmallEnough, IsOtherLimit, HasOtherLimit}
+use Rattle.lfs_model.specs.format.Slots.{FitsInPair, Slot, array_address}
+use Rattle.lfs_model.specs.format.Thread.{Pair, is_hard_tail, pair_count_before_root}
+use Rattle.lfs_model.specs.layers.Violations.{IsSlotAt}
 use Rattle.lfs_model.specs.declared.breaches.OtherLimit.{OtherLimit}
 use Rattle.lfs_model.specs.declared.breaches.OtherLimit.TheVariants as limit
 use Rattle.lfs_model.specs.declared.breaches.ProfileBreach.{ProfileBreach}
@@ -24,41 +24,41 @@ no_other_field profile f (limit.Name n) name file attr (is, differs) = differs (
 no_other_field profile f (limit.File n) name file attr (is, differs) = differs (sym is ∙ file)
 no_other_field profile f (limit.Attr n) name file attr (is, differs) = differs (sym is ∙ attr)
 
-no_other_limit : (profile : Profile) (other : OtherLimit) (s : Slot) → HasSuperblockLimitsOfProfile profile s → ¬ IsSuperblockWithOtherLimit profile other s
+no_other_limit : (profile : Profile) (other : OtherLimit) (s : Slot) → HasLimits profile s → ¬ HasOtherLimit profile other s
 no_other_limit profile other s (bytes, (inline, name, file, attr)) broken =
     let same : bytes ≡ broken.bytes = let e = sym inline ∙ broken.inline in cc in
-    no_other_field profile (superblock_fields_of_struct_bytes bytes) other name file attr (subst (λ b. IsOtherLimit profile (superblock_fields_of_struct_bytes b) other) (sym same) broken.differs)
+    no_other_field profile (superblock_fields bytes) other name file attr (subst (λ b. IsOtherLimit profile (superblock_fields b) other) (sym same) broken.differs)
 
 -- a pair that a hard tail names has slots, from the root on
-filled_next : (after : Bool) (ps : List Pair) (i : ℕ) (before pair : Pair) → AreNoEmptyPairsAfterHardTails after ps → slice_get ps i ≡ Some before → slice_get ps (suc i) ≡ Some pair → is_hard_tail before.content.tail ≡ true → pair.content.slots ≢ []
+filled_next : (after : Bool) (ps : List Pair) (i : ℕ) (before pair : Pair) → HasNoEmpties after ps → slice_get ps i ≡ Some before → slice_get ps (suc i) ≡ Some pair → is_hard_tail before.content.tail ≡ true → pair.content.slots ≢ []
 filled_next after [] i before pair filled first next hard = absurd (none-some before first)
 filled_next after (p ∷ []) zero before pair filled first next hard = absurd (none-some pair next)
 filled_next after (p ∷ q ∷ ps) zero before pair filled first next hard =
     subst (λ (x : Pair). x.content.slots ≢ []) (same_Some q pair next) (filled.1.0 (ap (λ (x : Pair). is_hard_tail x.content.tail) (same_Some p before first) ∙ hard))
 filled_next after (p ∷ ps) (suc i) before pair filled first next hard = filled_next (is_hard_tail p.content.tail) ps i before pair filled.1 first next hard
 
-filled_behind : (root : ℕ) (ps : List Pair) (i : ℕ) (before pair : Pair) → AreNoEmptyPairsAfterHardTails false (drop root ps) → root ≤ i → slice_get ps i ≡ Some before → slice_get ps (suc i) ≡ Some pair → is_hard_tail before.content.tail ≡ true → pair.content.slots ≢ []
+filled_behind : (root : ℕ) (ps : List Pair) (i : ℕ) (before pair : Pair) → HasNoEmpties false (drop root ps) → root ≤ i → slice_get ps i ≡ Some before → slice_get ps (suc i) ≡ Some pair → is_hard_tail before.content.tail ≡ true → pair.content.slots ≢ []
 filled_behind zero ps i before pair filled behind first next hard = filled_next false ps i before pair filled first next hard
 filled_behind (suc root) [] i before pair filled behind first next hard = absurd (none-some before first)
 filled_behind (suc root) (p ∷ ps) zero before pair filled behind first next hard = absurd (omega (arith, behind))
 filled_behind (suc root) (p ∷ ps) (suc i) before pair filled behind first next hard = filled_behind root ps i before pair filled (omega (arith, behind)) first next hard
 
-module _ (disk : Disk) (ps : List Pair) (writable : IsWritableImage disk ps) where
-  slot_fits : (at : ℕ × ℕ) (id : ℕ) (s : Slot) → IsSlotAt ps at id s → IsSlotWithinWritableLimits disk.profile disk.block_size disk.page s
+module _ (disk : Disk) (ps : List Pair) (writable : IsWritable disk ps) where
+  slot_fits : (at : ℕ × ℕ) (id : ℕ) (s : Slot) → IsSlotAt ps at id s → IsWritableSlot disk.profile disk.block_size disk.page s
   slot_fits at id s is =
-      holds_there (IsSlotWithinWritableLimits disk.profile disk.block_size disk.page) is.pair.content.slots id s
-      (holds_there (λ (p : Pair). All (IsSlotWithinWritableLimits disk.profile disk.block_size disk.page) p.content.slots) ps is.index is.pair writable.slots is.there) is.slot
+      holds_there (IsWritableSlot disk.profile disk.block_size disk.page) is.pair.content.slots id s
+      (holds_there (λ (p : Pair). All (IsWritableSlot disk.profile disk.block_size disk.page) p.content.slots) ps is.index is.pair writable.slots is.there) is.slot
 
-  small : (i : ℕ) (p : Pair) → slice_get ps i ≡ Some p → IsContentSmallEnough disk.profile disk.block_size disk.page p.content
+  small : (i : ℕ) (p : Pair) → slice_get ps i ≡ Some p → IsSmallEnough disk.profile disk.block_size disk.page p.content
   small i p there = record {
-    pair = holds_there (λ (q : Pair). IsContentFittingPair disk.block_size disk.page q.content) ps i p writable.pairs there;
-    entries = λ k d l entry. (((holds_there (λ (q : Pair). All (IsSlotWithinWritableLimits disk.profile disk.block_size disk.page) q.content.slots) ps i p writable.slots there) k d l).1 entry).charge;
+    pair = holds_there (λ (q : Pair). FitsInPair disk.block_size disk.page q.content) ps i p writable.pairs there;
+    entries = λ k d l entry. (((holds_there (λ (q : Pair). All (IsWritableSlot disk.profile disk.block_size disk.page) q.content.slots) ps i p writable.slots there) k d l).1 entry).charge;
   }
 
-pub writable_breaks_none : (disk : Disk) (ps : List Pair) (b : ProfileBreach) → IsWritableImage disk ps → ¬ BreaksProfile disk ps b
+pub writable_breaks_none : (disk : Disk) (ps : List Pair) (b : ProfileBreach) → IsWritable disk ps → ¬ BreaksProfile disk ps b
 writable_breaks_none disk ps (breach.OtherLimits pair slot limit) writable (s, (is, broken)) =
-    no_other_limit disk.profile limit s ((slot_fits disk ps writable (pair_address_of_array pair) slot s is).0 broken.kind) broken
-writable_breaks_none disk ps (breach.LongInline pair slot) writable (s, (is, (entry, long))) = long ((slot_fits disk ps writable (pair_address_of_array pair) slot s is).1 entry).inline
+    no_other_limit disk.profile limit s ((slot_fits disk ps writable (array_address pair) slot s is).0 broken.kind) broken
+writable_breaks_none disk ps (breach.LongInline pair slot) writable (s, (is, (entry, long))) = long ((slot_fits disk ps writable (array_address pair) slot s is).1 entry).inline
 writable_breaks_none disk ps (breach.EmptyPair pair) writable e =
     let next : e.index + 1 ≡ suc e.index = omega arith in
     filled_behind (pair_count_before_root ps) ps e.index e.before e.pair writable.no_empty_pair e.root e.first (ap (slice_get ps) (sym next) ∙ e.next) e.hard e.empty

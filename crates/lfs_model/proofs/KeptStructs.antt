@@ -2,46 +2,46 @@
 use Rattle.std.proofs.Common.{ℕ, ◌≡◌, Bool, true, false, ◌||◌, List, [], Option, Some, None, refl, sym, ap, ◌∙◌}
 use Rattle.std.specs.Prelude.{is_some}
 use Rattle.std.specs.Option.{option_map}
-use Rattle.lfs_model.specs.Disk.{Disk}
-use Rattle.lfs_model.specs.Slots.{Slot, Struct, Inline, Ctz, Branch, Attributes}
-use Rattle.lfs_model.specs.Thread.{Pair}
-use Rattle.lfs_model.specs.Tree.{Path, Node, Tree, branch_address_of_struct, node_of_struct_and_attributes}
-use Rattle.lfs_model.specs.Shown.{skip_list_bytes_on_disk, entries_by_directory_in_thread, tree_on_disk}
-use Rattle.lfs_model.specs.TreeEdits.{same_path, path_without_prefix, is_file, tree_after_creation, tree_after_removal, tree_after_rename, tree_after_change_of_node}
-use Rattle.lfs_model.specs.Operations as ops
-use Rattle.lfs_model.specs.Operations.{Operation}
-use Rattle.lfs_model.specs.Session.{Session, Writing, FileWriter, open_file_with_number}
-use Rattle.lfs_model.specs.Refusals.{path_of_bytes_or_root}
-use Rattle.lfs_model.specs.Effects.{node_with_bytes}
-use Rattle.lfs_model.specs.SlotEdits.{slot_of_path}
-use Rattle.lfs_model.specs.Keeping.{removes_or_moves_path_or_ancestor, is_optional_open_file_at_path, may_store_contents_at_path, struct_of_path, KeepsStructsOfUntouchedFiles}
+use Rattle.lfs_model.specs.format.Disk.{Disk}
+use Rattle.lfs_model.specs.format.Slots.{Slot, Struct, Inline, Ctz, Branch, Attributes}
+use Rattle.lfs_model.specs.format.Thread.{Pair}
+use Rattle.lfs_model.specs.tree.Tree.{Path, Node, Tree, branch_address, struct_node}
+use Rattle.lfs_model.specs.tree.Shown.{struct_list_bytes, all_entries, tree_on_disk}
+use Rattle.lfs_model.specs.session.TreeEdits.{same_path, without_prefix, is_file, tree_creating, tree_removing, tree_renaming, tree_with_change}
+use Rattle.lfs_model.specs.session.Operations as ops
+use Rattle.lfs_model.specs.session.Operations.{Operation}
+use Rattle.lfs_model.specs.session.Session.{Session, Writing, FileWriter, file_numbered}
+use Rattle.lfs_model.specs.session.Refusals.{path_or_root}
+use Rattle.lfs_model.specs.session.Effects.{file_with_bytes}
+use Rattle.lfs_model.specs.session.SlotEdits.{slot_of}
+use Rattle.lfs_model.specs.layers.Keeping.{takes_away, is_open_at, may_store_at, struct_at, KeepsStructs}
 use Rattle.lfs_model.proofs.Paths.{Paths, path_alike, path_unlike, paths}
 use Rattle.lfs_model.proofs.Trees.{not_before}
-use Rattle.lfs_model.proofs.Laws.{DirectoryAddressByPath}
-use Rattle.lfs_model.proofs.LeftFiles.{LeavesBytesOfFileAtPathUnchanged, KeepsStructOfFileSlot, added_leaves, removed_leaves, renamed_leaves, change_leaves}
-use Rattle.lfs_model.proofs.Changes.{IsImageAfterTreeChange}
+use Rattle.lfs_model.proofs.Laws.{PathAddresses}
+use Rattle.lfs_model.proofs.LeftFiles.{KeepsFileBytes, KeepsStruct, added_leaves, removed_leaves, renamed_leaves, change_leaves}
+use Rattle.lfs_model.proofs.Changes.{IsChangedImage}
 
 -- what the change makes of a tree leaves the bytes of the files that the operation isn't about
 abbrev pub LeavesFiles : Tree → Session → Operation → (Tree → Tree) → Type 0
-LeavesFiles t s op change = (q : Path) → is_file (t q) ≡ true → removes_or_moves_path_or_ancestor op q ≡ false → may_store_contents_at_path s op q ≡ false → LeavesBytesOfFileAtPathUnchanged change q
+LeavesFiles t s op change = (q : Path) → is_file (t q) ≡ true → takes_away op q ≡ false → may_store_at s op q ≡ false → KeepsFileBytes change q
 
 -- where a tree shows a file there is a file's slot
-pub struct_stays : (disk : Disk) (ps qs : List Pair) (q : Path) → is_file (tree_on_disk disk ps q) ≡ true → KeepsStructOfFileSlot (slot_of_path ps q) (slot_of_path qs q) → struct_of_path qs q ≡ struct_of_path ps q
-struct_stays disk ps qs q file stays = go (slot_of_path ps q) refl file
+pub struct_stays : (disk : Disk) (ps qs : List Pair) (q : Path) → is_file (tree_on_disk disk ps q) ≡ true → KeepsStruct (slot_of ps q) (slot_of qs q) → struct_at qs q ≡ struct_at ps q
+struct_stays disk ps qs q file stays = go (slot_of ps q) refl file
   where
-    none : (attributes : Attributes) (t : Struct) → is_file (Some (node_of_struct_and_attributes (skip_list_bytes_on_disk disk) (entries_by_directory_in_thread ps) attributes t)) ≡ true → branch_address_of_struct t ≡ None
+    none : (attributes : Attributes) (t : Struct) → is_file (Some (struct_node (struct_list_bytes disk) (all_entries ps) attributes t)) ≡ true → branch_address t ≡ None
     none attributes (Inline bytes) e = refl
     none attributes (Ctz head size) e = refl
     none attributes (Branch to) e = absurd (cc)
 
-    go : (o : Option Slot) → slot_of_path ps q ≡ o → is_file (option_map (λ (u : Slot). node_of_struct_and_attributes (skip_list_bytes_on_disk disk) (entries_by_directory_in_thread ps) u.attributes u.struct) o) ≡ true → struct_of_path qs q ≡ struct_of_path ps q
+    go : (o : Option Slot) → slot_of ps q ≡ o → is_file (option_map (λ (u : Slot). struct_node (struct_list_bytes disk) (all_entries ps) u.attributes u.struct) o) ≡ true → struct_at qs q ≡ struct_at ps q
     go None e h = absurd (cc)
     go (Some u) e h =
         let k = stays u e (none u.attributes u.struct h) in
         ap (option_map (λ (z : Slot). z.struct)) k.1.0 ∙ ap Some k.1.1 ∙ sym (ap (option_map (λ (z : Slot). z.struct)) e)
 
-pub structs_left : (disk : Disk) (ps : List Pair) (new : Disk) (qs : List Pair) (change : Tree → Tree) (walk : DirectoryAddressByPath → DirectoryAddressByPath) (s : Session) (op : Operation) →
-    IsImageAfterTreeChange disk ps new qs change walk → LeavesFiles (tree_on_disk disk ps) s op change → KeepsStructsOfUntouchedFiles disk ps s op qs
+pub structs_left : (disk : Disk) (ps : List Pair) (new : Disk) (qs : List Pair) (change : Tree → Tree) (walk : PathAddresses → PathAddresses) (s : Session) (op : Operation) →
+    IsChangedImage disk ps new qs change walk → LeavesFiles (tree_on_disk disk ps) s op change → KeepsStructs disk ps s op qs
 structs_left disk ps new qs change walk s op follows leaves q file off elsewhere = struct_stays disk ps qs q file (follows.stays q (leaves q file off elsewhere))
 
 -- ---- the operations
@@ -55,31 +55,31 @@ neither true b e = absurd (cc)
 neither false b e = (refl, e)
 
 -- an entry comes where none was
-pub creation_leaves : (t : Tree) (s : Session) (op : Operation) (p : Path) (node : Node) → t p ≡ None → LeavesFiles t s op (tree_after_creation p node)
+pub creation_leaves : (t : Tree) (s : Session) (op : Operation) (p : Path) (node : Node) → t p ≡ None → LeavesFiles t s op (tree_creating p node)
 creation_leaves t s op p node absent q file off elsewhere = go (paths p q)
   where
-    go : Paths p q → LeavesBytesOfFileAtPathUnchanged (tree_after_creation p node) q
+    go : Paths p q → KeepsFileBytes (tree_creating p node) q
     go (path_alike e f) = absurd (let k = sym (ap (λ z. is_file (t z)) (sym e) ∙ ap is_file absent) ∙ file in cc)
     go (path_unlike n f) = added_leaves p node q f
 
-pub removal_leaves : (t : Tree) (s : Session) (path : List ℕ) (p : Path) → path_of_bytes_or_root path ≡ p → LeavesFiles t s (ops.Remove path) (tree_after_removal p)
-removal_leaves t s path p is q file off elsewhere = removed_leaves p q (not_before p q (none_left (path_without_prefix p q) (ap (λ z. is_some (path_without_prefix z q)) (sym is) ∙ off)))
+pub removal_leaves : (t : Tree) (s : Session) (path : List ℕ) (p : Path) → path_or_root path ≡ p → LeavesFiles t s (ops.Remove path) (tree_removing p)
+removal_leaves t s path p is q file off elsewhere = removed_leaves p q (not_before p q (none_left (without_prefix p q) (ap (λ z. is_some (without_prefix z q)) (sym is) ∙ off)))
 
-pub renaming_leaves : (t : Tree) (s : Session) (old_bytes new_bytes : List ℕ) (old new : Path) → path_of_bytes_or_root old_bytes ≡ old → path_of_bytes_or_root new_bytes ≡ new →
-    LeavesFiles t s (ops.Rename old_bytes new_bytes) (tree_after_rename old new)
+pub renaming_leaves : (t : Tree) (s : Session) (old_bytes new_bytes : List ℕ) (old new : Path) → path_or_root old_bytes ≡ old → path_or_root new_bytes ≡ new →
+    LeavesFiles t s (ops.Rename old_bytes new_bytes) (tree_renaming old new)
 renaming_leaves t s old_bytes new_bytes old new old_is new_is q file off elsewhere =
-    let both = neither (is_some (path_without_prefix (path_of_bytes_or_root old_bytes) q)) (is_some (path_without_prefix (path_of_bytes_or_root new_bytes) q)) off in
-    renamed_leaves old new q (none_left (path_without_prefix old q) (ap (λ z. is_some (path_without_prefix z q)) (sym old_is) ∙ both.0))
-    (none_left (path_without_prefix new q) (ap (λ z. is_some (path_without_prefix z q)) (sym new_is) ∙ both.1))
+    let both = neither (is_some (without_prefix (path_or_root old_bytes) q)) (is_some (without_prefix (path_or_root new_bytes) q)) off in
+    renamed_leaves old new q (none_left (without_prefix old q) (ap (λ z. is_some (without_prefix z q)) (sym old_is) ∙ both.0))
+    (none_left (without_prefix new q) (ap (λ z. is_some (without_prefix z q)) (sym new_is) ∙ both.1))
 
 -- a writer's contents come into its own slot
-pub storing_leaves : (s : Session) (fd : ℕ) (writer : FileWriter) (p : Path) (bytes : List ℕ) → open_file_with_number s.files fd ≡ Some (Writing writer) → writer.path ≡ p →
-    (q : Path) → is_optional_open_file_at_path (open_file_with_number s.files fd) q ≡ false → LeavesBytesOfFileAtPathUnchanged (tree_after_change_of_node p (node_with_bytes bytes)) q
+pub storing_leaves : (s : Session) (fd : ℕ) (writer : FileWriter) (p : Path) (bytes : List ℕ) → file_numbered s.files fd ≡ Some (Writing writer) → writer.path ≡ p →
+    (q : Path) → is_open_at (file_numbered s.files fd) q ≡ false → KeepsFileBytes (tree_with_change p (file_with_bytes bytes)) q
 storing_leaves s fd writer p bytes opened is q elsewhere =
-    change_leaves p (node_with_bytes bytes) q (ap (λ z. same_path z q) (sym is) ∙ ap (λ o. is_optional_open_file_at_path o q) (sym opened) ∙ elsewhere)
+    change_leaves p (file_with_bytes bytes) q (ap (λ z. same_path z q) (sym is) ∙ ap (λ o. is_open_at o q) (sym opened) ∙ elsewhere)
 
 -- with no open file nothing is stored
-pub none_stored : (t : Tree) (op : Operation) (q : Path) → may_store_contents_at_path (record { tree = t; files = [] }) op q ≡ false
+pub none_stored : (t : Tree) (op : Operation) (q : Path) → may_store_at (record { tree = t; files = [] }) op q ≡ false
 none_stored t (ops.Open path flags) q = refl
 none_stored t (ops.Read fd count) q = refl
 none_stored t (ops.Write fd bytes) q = refl

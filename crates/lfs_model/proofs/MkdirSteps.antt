@@ -1,48 +1,48 @@
 -- A directory is made by the steps themselves: one commit to the last pair of its parent, or one to it and one to the pair where the name belongs.
 use Rattle.std.proofs.Common.{ℕ, ◌≡◌, true, List, [], ◌∷◌, ◌++◌, refl, sym, ap, subst, ◌∙◌, append_assoc, append-nil, subst₂}
-use Rattle.lfs_model.specs.Disk.{Disk}
-use Rattle.lfs_model.specs.Names.{Name}
-use Rattle.lfs_model.specs.Slots.{Slot, zero_gstate, same_pair, IsContentFittingPair}
-use Rattle.lfs_model.specs.Thread.{Pair, first_pair_address, gstate_of_pairs, pair_count_before_root}
-use Rattle.lfs_model.specs.Tree.{Path, DirectoryNode, directory_address_at_path_from_slot}
-use Rattle.lfs_model.specs.View.{IsAcceptedImage}
-use Rattle.lfs_model.specs.Profile.{IsWritableImage}
-use Rattle.lfs_model.specs.Shown.{IsPathToDirectory, entries_by_directory_in_thread, tree_on_disk}
-use Rattle.lfs_model.specs.TreeEdits.{tree_after_creation, tree_after_subtree_replacement}
-use Rattle.lfs_model.specs.Operations as ops
-use Rattle.lfs_model.specs.Session.{Session}
-use Rattle.lfs_model.specs.Refusals.{path_of_bytes_or_root}
-use Rattle.lfs_model.specs.SlotEdits.{pair_with_slots, new_directory_slot}
-use Rattle.lfs_model.specs.Layout.{IsContentFittingPairOnDisk}
+use Rattle.lfs_model.specs.format.Disk.{Disk}
+use Rattle.lfs_model.specs.format.Names.{Name}
+use Rattle.lfs_model.specs.format.Slots.{Slot, zero_gstate, same_pair, FitsInPair}
+use Rattle.lfs_model.specs.format.Thread.{Pair, first_address, pairs_gstate, pair_count_before_root}
+use Rattle.lfs_model.specs.tree.Tree.{Path, DirectoryNode, address_from_slot}
+use Rattle.lfs_model.specs.tree.View.{IsAccepted}
+use Rattle.lfs_model.specs.tree.Profile.{IsWritable}
+use Rattle.lfs_model.specs.tree.Shown.{LeadsTo, all_entries, tree_on_disk}
+use Rattle.lfs_model.specs.session.TreeEdits.{tree_creating, tree_with_subtree}
+use Rattle.lfs_model.specs.session.Operations as ops
+use Rattle.lfs_model.specs.session.Session.{Session}
+use Rattle.lfs_model.specs.session.Refusals.{path_or_root}
+use Rattle.lfs_model.specs.session.SlotEdits.{pair_with_slots, directory_slot}
+use Rattle.lfs_model.specs.session.Layout.{FitsPair}
 use Rattle.lfs_model.proofs.Names.{IsPlace}
 use Rattle.lfs_model.proofs.Sites.{Site, thread_at, begin_of}
 use Rattle.lfs_model.proofs.Moves.{IsStep, place_at}
 use Rattle.lfs_model.proofs.Beside.{last_site, IsStepBeside, directory_comes_beside, threaded}
-use Rattle.lfs_model.proofs.Alike.{ArePairsWithSameAddressesAndSlots, alike_itself, alike_append}
-use Rattle.lfs_model.proofs.Committed.{IsImageAfterCompletedOperation, recovered_from}
+use Rattle.lfs_model.proofs.Alike.{SameSlots, alike_itself, alike_append}
+use Rattle.lfs_model.proofs.Committed.{IsCompletion, recovered_from}
 use Rattle.lfs_model.proofs.MadeDirectory.{Cut, IsMkdir, mkdir_completed, none_there}
-use Rattle.lfs_model.proofs.Changes.{IsImageAfterTreeChange}
+use Rattle.lfs_model.proofs.Changes.{IsChangedImage}
 use Rattle.lfs_model.proofs.Became.{Became}
 use Rattle.lfs_model.proofs.Profiles.{step_writable}
 use Rattle.lfs_model.proofs.Chained.{InTwo, mkdir_in_two}
-use Rattle.lfs_model.proofs.StepsTaken.{IsWritableImageAfterTreeChange, IsPut, IsPutBeside, beside_taken, put_within, put_filled}
+use Rattle.lfs_model.proofs.StepsTaken.{IsWritableChange, IsPut, IsPutBeside, beside_taken, put_within, put_filled}
 
 -- ---- in one commit
 
 module _ (disk new : Disk) (chain before left after : List Pair) (p q : Pair) (more : List Pair) (f : Pair) (extra : List ℕ) (l r : List Slot) (P : Path) (name : Name)
-    (step : IsStepBeside disk new chain before left after p [] q more f extra [] l [] (new_directory_slot name f.at ∷ []) r)
-    (put : IsPutBeside disk (last_site chain before left after) p q more f l [] (new_directory_slot name f.at ∷ []) r)
-    (a : ℕ × ℕ) (leads : IsPathToDirectory (thread_at (last_site chain before left after) (p ∷ [])) P a) (same : same_pair (begin_of (last_site chain before left after) (p ∷ [])) a ≡ true)
-    (place : IsPlace disk.order (entries_by_directory_in_thread (thread_at (last_site chain before left after) (p ∷ [])) a) (place_at (last_site chain before left after) l) name)
-    (settled : gstate_of_pairs (thread_at (last_site chain before left after) (p ∷ [])) ≡ zero_gstate)
-    (still : gstate_of_pairs (thread_at (last_site chain before left after) (q ∷ (more ++ f ∷ []))) ≡ zero_gstate) where
+    (step : IsStepBeside disk new chain before left after p [] q more f extra [] l [] (directory_slot name f.at ∷ []) r)
+    (put : IsPutBeside disk (last_site chain before left after) p q more f l [] (directory_slot name f.at ∷ []) r)
+    (a : ℕ × ℕ) (leads : LeadsTo (thread_at (last_site chain before left after) (p ∷ [])) P a) (same : same_pair (begin_of (last_site chain before left after) (p ∷ [])) a ≡ true)
+    (place : IsPlace disk.order (all_entries (thread_at (last_site chain before left after) (p ∷ [])) a) (place_at (last_site chain before left after) l) name)
+    (settled : pairs_gstate (thread_at (last_site chain before left after) (p ∷ [])) ≡ zero_gstate)
+    (still : pairs_gstate (thread_at (last_site chain before left after) (q ∷ (more ++ f ∷ []))) ≡ zero_gstate) where
   abbrev w : Site
   w = last_site chain before left after
 
-  taken : IsWritableImageAfterTreeChange disk (thread_at (last_site chain before left after) (p ∷ [])) new (thread_at (last_site chain before left after) (q ∷ (more ++ f ∷ []))) (tree_after_creation (P ++ name ∷ []) (DirectoryNode [] []))
-      (tree_after_subtree_replacement (P ++ name ∷ []) (directory_address_at_path_from_slot (entries_by_directory_in_thread (thread_at (last_site chain before left after) (p ∷ []))) (new_directory_slot name f.at)))
-  taken = beside_taken disk new chain before left after p q more f l [] (new_directory_slot name f.at ∷ []) r put extra [] _ _ step P a leads same
-      (directory_comes_beside disk new chain before left after p [] q more f extra l r (new_directory_slot name f.at) step P a leads same place refl (λ e. (recovered_from disk (thread_at (last_site chain before left after) (p ∷ [])) step.accepted settled).reached))
+  taken : IsWritableChange disk (thread_at (last_site chain before left after) (p ∷ [])) new (thread_at (last_site chain before left after) (q ∷ (more ++ f ∷ []))) (tree_creating (P ++ name ∷ []) (DirectoryNode [] []))
+      (tree_with_subtree (P ++ name ∷ []) (address_from_slot (all_entries (thread_at (last_site chain before left after) (p ∷ []))) (directory_slot name f.at)))
+  taken = beside_taken disk new chain before left after p q more f l [] (directory_slot name f.at ∷ []) r put extra [] _ _ step P a leads same
+      (directory_comes_beside disk new chain before left after p [] q more f extra l r (directory_slot name f.at) step P a leads same place refl (λ e. (recovered_from disk (thread_at (last_site chain before left after) (p ∷ [])) step.accepted settled).reached))
 
   placed : thread_at (last_site chain before left after) (q ∷ (more ++ f ∷ [])) ≡ (chain ++ ((before ++ left) ++ (q ∷ more))) ++ (f ∷ after)
   placed = ap (λ z. chain ++ ((before ++ left) ++ q ∷ z)) (append_assoc more (f ∷ []) after)
@@ -65,7 +65,7 @@ module _ (disk new : Disk) (chain before left after : List Pair) (p q : Pair) (m
     cut = put.cut;
     empty = put.empty;
     placed = placed;
-    alike = subst (ArePairsWithSameAddressesAndSlots (chain ++ ((before ++ left) ++ ((q ∷ more) ++ after))))
+    alike = subst (SameSlots (chain ++ ((before ++ left) ++ ((q ∷ more) ++ after))))
         (ap (λ z. chain ++ z) (sym (append_assoc (before ++ left) (q ∷ more) after)) ∙ sym (append_assoc chain ((before ++ left) ++ (q ∷ more)) after))
         (alike_itself (chain ++ ((before ++ left) ++ ((q ∷ more) ++ after))));
   }
@@ -75,15 +75,15 @@ module _ (disk new : Disk) (chain before left after : List Pair) (p q : Pair) (m
 module _ (disk middle new : Disk) (chain before front mid after : List Pair) (x y f : Pair) (extra : List ℕ) (l0 r0 : List Slot) (p q : Pair) (more : List Pair) (extra2 : List ℕ) (l r : List Slot) (P : Path) (name : Name)
     (step : IsStepBeside disk middle chain before (front ++ p ∷ mid) after x [] y [] f extra [] l0 [] [] r0)
     (put : IsPutBeside disk (last_site chain before (front ++ p ∷ mid) after) x y [] f l0 [] [] r0)
-    (step2 : IsStep middle new (record { chain = chain; before = before; left = front; right = mid ++ y ∷ []; after = f ∷ after }) p [] q more extra2 [] l [] (new_directory_slot name f.at ∷ []) r)
-    (put2 : IsPut middle (record { chain = chain; before = before; left = front; right = mid ++ y ∷ []; after = f ∷ after }) p q more l [] (new_directory_slot name f.at ∷ []) r)
-    (a : ℕ × ℕ) (leads : IsPathToDirectory (thread_at (last_site chain before (front ++ p ∷ mid) after) (x ∷ [])) P a)
+    (step2 : IsStep middle new (record { chain = chain; before = before; left = front; right = mid ++ y ∷ []; after = f ∷ after }) p [] q more extra2 [] l [] (directory_slot name f.at ∷ []) r)
+    (put2 : IsPut middle (record { chain = chain; before = before; left = front; right = mid ++ y ∷ []; after = f ∷ after }) p q more l [] (directory_slot name f.at ∷ []) r)
+    (a : ℕ × ℕ) (leads : LeadsTo (thread_at (last_site chain before (front ++ p ∷ mid) after) (x ∷ [])) P a)
     (same : same_pair (begin_of (last_site chain before (front ++ p ∷ mid) after) (x ∷ [])) a ≡ true)
-    (place : IsPlace middle.order (entries_by_directory_in_thread (thread_at (record { chain = chain; before = before; left = front; right = mid ++ y ∷ []; after = f ∷ after }) (p ∷ [])) a)
+    (place : IsPlace middle.order (all_entries (thread_at (record { chain = chain; before = before; left = front; right = mid ++ y ∷ []; after = f ∷ after }) (p ∷ [])) a)
     (place_at (record { chain = chain; before = before; left = front; right = mid ++ y ∷ []; after = f ∷ after }) l) name)
-    (sync : (gstate_of_pairs (thread_at (last_site chain before (front ++ p ∷ mid) after) (y ∷ ([] ++ f ∷ [])))).sync ≡ true)
-    (settled : gstate_of_pairs (thread_at (last_site chain before (front ++ p ∷ mid) after) (x ∷ [])) ≡ zero_gstate)
-    (still : gstate_of_pairs (thread_at (record { chain = chain; before = before; left = front; right = mid ++ y ∷ []; after = f ∷ after }) (q ∷ more)) ≡ zero_gstate) where
+    (sync : (pairs_gstate (thread_at (last_site chain before (front ++ p ∷ mid) after) (y ∷ ([] ++ f ∷ [])))).sync ≡ true)
+    (settled : pairs_gstate (thread_at (last_site chain before (front ++ p ∷ mid) after) (x ∷ [])) ≡ zero_gstate)
+    (still : pairs_gstate (thread_at (record { chain = chain; before = before; left = front; right = mid ++ y ∷ []; after = f ∷ after }) (q ∷ more)) ≡ zero_gstate) where
   abbrev here : Site
   here = last_site chain before (front ++ p ∷ mid) after
 
@@ -103,29 +103,29 @@ module _ (disk middle new : Disk) (chain before front mid after : List Pair) (x 
   same_thread : thread_at (last_site chain before (front ++ p ∷ mid) after) (y ∷ ([] ++ f ∷ [])) ≡ thread_at (record { chain = chain; before = before; left = front; right = mid ++ y ∷ []; after = f ∷ after }) (p ∷ [])
   same_thread = ap (λ z. chain ++ z) (turned (p ∷ []) (y ∷ f ∷ after) ∙ ap (λ z. (before ++ front) ++ (p ∷ z)) (sym (append_assoc mid (y ∷ []) (f ∷ after))))
 
-  first : IsWritableImageAfterTreeChange disk (thread_at (last_site chain before (front ++ p ∷ mid) after) (x ∷ [])) middle (thread_at (last_site chain before (front ++ p ∷ mid) after) (y ∷ ([] ++ f ∷ []))) (λ t. t) (λ d. d)
+  first : IsWritableChange disk (thread_at (last_site chain before (front ++ p ∷ mid) after) (x ∷ [])) middle (thread_at (last_site chain before (front ++ p ∷ mid) after) (y ∷ ([] ++ f ∷ []))) (λ t. t) (λ d. d)
   first = beside_taken disk middle chain before (front ++ p ∷ mid) after x y [] f l0 [] [] r0 put extra [] (λ t. t) (λ d. d) step P a leads same
       (threaded disk middle chain before (front ++ p ∷ mid) after x [] y [] f extra l0 r0 step P a leads same sync)
 
-  leads2 : IsPathToDirectory (thread_at (record { chain = chain; before = before; left = front; right = mid ++ y ∷ []; after = f ∷ after }) (p ∷ [])) P a
-  leads2 = subst (λ z. IsPathToDirectory z P a) same_thread (ap (λ d. d P) first.follows.leads ∙ leads)
+  leads2 : LeadsTo (thread_at (record { chain = chain; before = before; left = front; right = mid ++ y ∷ []; after = f ∷ after }) (p ∷ [])) P a
+  leads2 = subst (λ z. LeadsTo z P a) same_thread (ap (λ d. d P) first.follows.leads ∙ leads)
 
   same2 : same_pair (begin_of (record { chain = chain; before = before; left = front; right = mid ++ y ∷ []; after = f ∷ after }) (p ∷ [])) a ≡ true
   same2 = ap (λ z. same_pair z a) (go front) ∙ same
     where
-      go : (xs : List Pair) → first_pair_address (xs ++ p ∷ []) ≡ first_pair_address ((xs ++ p ∷ mid) ++ x ∷ [])
+      go : (xs : List Pair) → first_address (xs ++ p ∷ []) ≡ first_address ((xs ++ p ∷ mid) ++ x ∷ [])
       go [] = refl
       go (z ∷ xs) = refl
 
   both : InTwo disk (thread_at (last_site chain before (front ++ p ∷ mid) after) (x ∷ [])) middle (thread_at (record { chain = chain; before = before; left = front; right = mid ++ y ∷ []; after = f ∷ after }) (p ∷ []))
-      new (thread_at (record { chain = chain; before = before; left = front; right = mid ++ y ∷ []; after = f ∷ after }) (q ∷ more)) (λ t. t) (tree_after_creation (P ++ name ∷ []) (DirectoryNode [] []))
+      new (thread_at (record { chain = chain; before = before; left = front; right = mid ++ y ∷ []; after = f ∷ after }) (q ∷ more)) (λ t. t) (tree_creating (P ++ name ∷ []) (DirectoryNode [] []))
   both = mkdir_in_two disk middle new chain before (front ++ p ∷ mid) after x [] y [] f extra l0 r0 step P a leads same sync
-      (record { chain = chain; before = before; left = front; right = mid ++ y ∷ []; after = f ∷ after }) p q more extra2 l r (new_directory_slot name f.at) step2 same_thread P a leads2 same2 place refl
+      (record { chain = chain; before = before; left = front; right = mid ++ y ∷ []; after = f ∷ after }) p q more extra2 l r (directory_slot name f.at) step2 same_thread P a leads2 same2 place refl
       (recovered_from disk (thread_at (last_site chain before (front ++ p ∷ mid) after) (x ∷ [])) step.accepted settled).reached
 
-  second : IsWritableImage new (thread_at (record { chain = chain; before = before; left = front; right = mid ++ y ∷ []; after = f ∷ after }) (q ∷ more))
-  second = step_writable middle new (record { chain = chain; before = before; left = front; right = mid ++ y ∷ []; after = f ∷ after }) p [] q more extra2 [] l [] (new_directory_slot name f.at ∷ []) r step2 put2.writable
-      (put_within middle there p q more l [] (new_directory_slot name f.at ∷ []) r put2) (put_filled middle there p q more l [] (new_directory_slot name f.at ∷ []) r put2)
+  second : IsWritable new (thread_at (record { chain = chain; before = before; left = front; right = mid ++ y ∷ []; after = f ∷ after }) (q ∷ more))
+  second = step_writable middle new (record { chain = chain; before = before; left = front; right = mid ++ y ∷ []; after = f ∷ after }) p [] q more extra2 [] l [] (directory_slot name f.at ∷ []) r step2 put2.writable
+      (put_within middle there p q more l [] (directory_slot name f.at ∷ []) r put2) (put_filled middle there p q more l [] (directory_slot name f.at ∷ []) r put2)
 
   -- where the pairs are before and after
   were : thread_at (last_site chain before (front ++ p ∷ mid) after) (x ∷ []) ≡ chain ++ ((before ++ front) ++ (p ∷ [] ++ (mid ++ x ∷ after)))
@@ -142,8 +142,8 @@ module _ (disk middle new : Disk) (chain before front mid after : List Pair) (x 
   same_slots : y.content.slots ≡ x.content.slots
   same_slots = sym (append-nil y.content.slots) ∙ put.is ∙ sym put.was
 
-  alike : ArePairsWithSameAddressesAndSlots (chain ++ ((before ++ front) ++ ((q ∷ more) ++ (mid ++ x ∷ after)))) ((chain ++ ((before ++ front) ++ ((q ∷ more) ++ (mid ++ y ∷ [])))) ++ after)
-  alike = subst (ArePairsWithSameAddressesAndSlots (chain ++ ((before ++ front) ++ ((q ∷ more) ++ (mid ++ x ∷ after))))) (ap (λ z. chain ++ ((before ++ front) ++ ((q ∷ more) ++ z))) (sym (append_assoc mid (y ∷ []) after)) ∙ parted after)
+  alike : SameSlots (chain ++ ((before ++ front) ++ ((q ∷ more) ++ (mid ++ x ∷ after)))) ((chain ++ ((before ++ front) ++ ((q ∷ more) ++ (mid ++ y ∷ [])))) ++ after)
+  alike = subst (SameSlots (chain ++ ((before ++ front) ++ ((q ∷ more) ++ (mid ++ x ∷ after))))) (ap (λ z. chain ++ ((before ++ front) ++ ((q ∷ more) ++ z))) (sym (append_assoc mid (y ∷ []) after)) ∙ parted after)
       (alike_append chain ((before ++ front) ++ ((q ∷ more) ++ (mid ++ x ∷ after))) chain ((before ++ front) ++ ((q ∷ more) ++ (mid ++ y ∷ after))) (alike_itself chain)
       (alike_append (before ++ front) ((q ∷ more) ++ (mid ++ x ∷ after)) (before ++ front) ((q ∷ more) ++ (mid ++ y ∷ after)) (alike_itself (before ++ front))
       (alike_append (q ∷ more) (mid ++ x ∷ after) (q ∷ more) (mid ++ y ∷ after) (alike_itself (q ∷ more))
@@ -153,12 +153,12 @@ module _ (disk middle new : Disk) (chain before front mid after : List Pair) (x 
       (chain ++ ((before ++ front) ++ ((q ∷ more) ++ (mid ++ y ∷ [])))) after f l r P name
   made2 = record {
     is_chain = ap pair_count_before_root (sym were) ∙ step.site.chain;
-    accepted = subst (IsAcceptedImage disk) were step.accepted;
-    writable = subst (IsWritableImage disk) were put.writable;
-    settled = ap gstate_of_pairs (sym were) ∙ settled;
+    accepted = subst (IsAccepted disk) were step.accepted;
+    writable = subst (IsWritable disk) were put.writable;
+    settled = ap pairs_gstate (sym were) ∙ settled;
     still = still;
     walk = both.walk_on;
-    follows = subst (λ z. IsImageAfterTreeChange disk z new (thread_at (record { chain = chain; before = before; left = front; right = mid ++ y ∷ []; after = f ∷ after }) (q ∷ more)) (tree_after_creation (P ++ name ∷ []) (DirectoryNode [] [])) both.walk_on) were both.end;
+    follows = subst (λ z. IsChangedImage disk z new (thread_at (record { chain = chain; before = before; left = front; right = mid ++ y ∷ []; after = f ∷ after }) (q ∷ more)) (tree_creating (P ++ name ∷ []) (DirectoryNode [] [])) both.walk_on) were both.end;
     still_writable = second;
     absent = ap (λ z. tree_on_disk disk z (P ++ name ∷ [])) (sym were) ∙ sym (ap (λ t. t (P ++ name ∷ [])) both.between.shows)
         ∙ none_there middle (thread_at there (p ∷ [])) P a (place_at there l) name leads2 place;
@@ -172,19 +172,19 @@ module _ (disk middle new : Disk) (chain before front mid after : List Pair) (x 
   }
     where
       -- the tails don't matter, and the sizes are the same on both disks
-      sized : (d : Pair) → IsContentFittingPairOnDisk middle d → IsContentFittingPairOnDisk disk d
-      sized d h = subst₂ (λ b g. IsContentFittingPair b g d.content) step.device.geometry.block_size step.device.geometry.page h
+      sized : (d : Pair) → FitsPair middle d → FitsPair disk d
+      sized d h = subst₂ (λ b g. FitsInPair b g d.content) step.device.geometry.block_size step.device.geometry.page h
 
-      resized : (d : Pair) → IsContentFittingPairOnDisk disk d → IsContentFittingPairOnDisk middle d
-      resized d h = subst₂ (λ b g. IsContentFittingPair b g d.content) (sym step.device.geometry.block_size) (sym step.device.geometry.page) h
+      resized : (d : Pair) → FitsPair disk d → FitsPair middle d
+      resized d h = subst₂ (λ b g. FitsInPair b g d.content) (sym step.device.geometry.block_size) (sym step.device.geometry.page) h
 
-      became_cut : (more : List Pair) → Became middle p (pair_with_slots (l ++ (new_directory_slot name f.at ∷ [] ++ r)) p) q more → Cut disk (pair_with_slots (l ++ new_directory_slot name f.at ∷ r) p) q more
-      became_cut [] h = sized (pair_with_slots (l ++ new_directory_slot name f.at ∷ r) p) h.1
-      became_cut (g ∷ []) h = ((λ k. h.2 (resized (pair_with_slots (l ++ new_directory_slot name f.at ∷ r) p) k)), sized q h.3, sized g h.4)
+      became_cut : (more : List Pair) → Became middle p (pair_with_slots (l ++ (directory_slot name f.at ∷ [] ++ r)) p) q more → Cut disk (pair_with_slots (l ++ directory_slot name f.at ∷ r) p) q more
+      became_cut [] h = sized (pair_with_slots (l ++ directory_slot name f.at ∷ r) p) h.1
+      became_cut (g ∷ []) h = ((λ k. h.2 (resized (pair_with_slots (l ++ directory_slot name f.at ∷ r) p) k)), sized q h.3, sized g h.4)
       became_cut (g ∷ i ∷ more) h = absurd h
 
-  pub mkdir_in_two_completed : (s : Session) (path : List ℕ) → s.tree ≡ tree_on_disk disk (thread_at (last_site chain before (front ++ p ∷ mid) after) (x ∷ [])) → path_of_bytes_or_root path ≡ P ++ name ∷ []
-      → IsImageAfterCompletedOperation disk (thread_at (last_site chain before (front ++ p ∷ mid) after) (x ∷ [])) s (ops.Mkdir path) new (thread_at (record { chain = chain; before = before; left = front; right = mid ++ y ∷ []; after = f ∷ after }) (q ∷ more))
+  pub mkdir_in_two_completed : (s : Session) (path : List ℕ) → s.tree ≡ tree_on_disk disk (thread_at (last_site chain before (front ++ p ∷ mid) after) (x ∷ [])) → path_or_root path ≡ P ++ name ∷ []
+      → IsCompletion disk (thread_at (last_site chain before (front ++ p ∷ mid) after) (x ∷ [])) s (ops.Mkdir path) new (thread_at (record { chain = chain; before = before; left = front; right = mid ++ y ∷ []; after = f ∷ after }) (q ∷ more))
   mkdir_in_two_completed s path tree is =
-      subst (λ z. IsImageAfterCompletedOperation disk z s (ops.Mkdir path) new (thread_at (record { chain = chain; before = before; left = front; right = mid ++ y ∷ []; after = f ∷ after }) (q ∷ more))) (sym were)
+      subst (λ z. IsCompletion disk z s (ops.Mkdir path) new (thread_at (record { chain = chain; before = before; left = front; right = mid ++ y ∷ []; after = f ∷ after }) (q ∷ more))) (sym were)
       (mkdir_completed disk new rs chain (before ++ front) (mid ++ x ∷ after) p q more (chain ++ ((before ++ front) ++ ((q ∷ more) ++ (mid ++ y ∷ [])))) after f l r P name made2 s path (tree ∙ ap (tree_on_disk disk) were) is)

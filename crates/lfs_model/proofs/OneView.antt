@@ -1,10 +1,10 @@
 -- A disk has one view.
 use Rattle.std.proofs.Common.{◌≡◌, sym, ap, ◌∙◌}
-use Rattle.lfs_model.specs.Disk.{Disk, block_count}
-use Rattle.lfs_model.specs.Content.{content_of_pair_at}
-use Rattle.lfs_model.specs.View.{DiskView, view_of_disk, HasDiskView}
+use Rattle.lfs_model.specs.format.Disk.{Disk, block_count}
+use Rattle.lfs_model.specs.format.Content.{content_at}
+use Rattle.lfs_model.specs.tree.View.{DiskView, disk_view, HasDiskView}
 use Rattle.lfs_model.proofs.Uniqueness.{one_thread}
 
 pub one_view : (disk : Disk) (v w : DiskView) → HasDiskView disk v → HasDiskView disk w → v ≡ w
 one_view disk v w a b =
-    a.1.1 ∙ ap (view_of_disk disk) (one_thread (content_of_pair_at disk) (block_count disk) a.0 b.0 a.1.0.thread b.1.0.thread) ∙ sym b.1.1
+    a.1.1 ∙ ap (disk_view disk) (one_thread (content_at disk) (block_count disk) a.0 b.0 a.1.0.thread b.1.0.thread) ∙ sym b.1.1

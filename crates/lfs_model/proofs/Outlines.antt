@@ -6,23 +6,23 @@ use Rattle.std.specs.Option.{option_or, option_map_or}
 use Rattle.std.proofs.lemmas.Bool.{and_parts}
 use Rattle.std.proofs.lemmas.Option.{same_Some}
 use Rattle.std.proofs.lemmas.List.Folds.{find-append}
-use Rattle.lfs_model.specs.Names.{Name, same_name}
-use Rattle.lfs_model.specs.Slots.{Slot}
-use Rattle.lfs_model.specs.Tree.{Path, EntriesByDirectory, entry_of_name, branch_address_of_struct, child_slot_of, slot_at_path}
-use Rattle.lfs_model.specs.TreeEdits.{same_path}
+use Rattle.lfs_model.specs.format.Names.{Name, same_name}
+use Rattle.lfs_model.specs.format.Slots.{Slot}
+use Rattle.lfs_model.specs.tree.Tree.{Path, EntryMap, entry_named, branch_address, child_slot, slot_at_path}
+use Rattle.lfs_model.specs.session.TreeEdits.{same_path}
 use Rattle.lfs_model.proofs.Paths.{name_from_same, path_from_same}
 
 -- paths with what they lead to
 abbrev pub Outline : Type 0
 Outline = List (Path × Slot)
 
-abbrev pub children : EntriesByDirectory → Slot → List Slot
-children E u = option_map_or E (branch_address_of_struct u.struct) []
+abbrev pub children : EntryMap → Slot → List Slot
+children E u = option_map_or E (branch_address u.struct) []
 
 abbrev below : Name → Path × Slot → Path × Slot
 below name f = (name ∷ f.0, f.1)
 
-abbrev pub outline : ℕ → EntriesByDirectory → Slot → Outline
+abbrev pub outline : ℕ → EntryMap → Slot → Outline
 outline zero E u = ([], u) ∷ []
 outline (suc k) E u = ([], u) ∷ flat_map (λ s. map (below s.name) (outline k E s)) (children E u)
 
@@ -36,17 +36,17 @@ have_own_names [] = true
 have_own_names (s ∷ slots) = list_all (λ t. not (same_name s.name t.name)) slots && have_own_names slots
 
 -- no path is longer
-abbrev pub is_outlined : ℕ → EntriesByDirectory → Slot → Bool
+abbrev pub is_outlined : ℕ → EntryMap → Slot → Bool
 is_outlined zero E u = is_nil (children E u)
 is_outlined (suc k) E u = have_own_names (children E u) && list_all (is_outlined k E) (children E u)
 
 abbrev pub found_in : Path → Outline → Option Slot
 found_in path outline = option_map (λ f. f.1) (find (λ f. same_path path f.0) outline)
 
-child_is : (E : EntriesByDirectory) (u : Slot) (n : Name) → child_slot_of E u n ≡ entry_of_name n (children E u)
-child_is E u n = go (branch_address_of_struct u.struct)
+child_is : (E : EntryMap) (u : Slot) (n : Name) → child_slot E u n ≡ entry_named n (children E u)
+child_is E u n = go (branch_address u.struct)
   where
-    go : (b : Option (ℕ × ℕ)) → option_and_then (λ at. entry_of_name n (E at)) b ≡ entry_of_name n (option_map_or E b [])
+    go : (b : Option (ℕ × ℕ)) → option_and_then (λ at. entry_named n (E at)) b ≡ entry_named n (option_map_or E b [])
     go None = refl
     go (Some at) = refl
 
@@ -77,34 +77,34 @@ found_beside n m path (x ∷ xs) e =
     ∙ found_beside n m path xs e
 
 -- what an outline finds is what the walk finds
-none_named : (k : ℕ) (E : EntriesByDirectory) (n : Name) (path : Path) (cs : List Slot) → entry_of_name n cs ≡ None → found_in (n ∷ path) (flat_map (λ s. map (below s.name) (outline k E s)) cs) ≡ None
+none_named : (k : ℕ) (E : EntryMap) (n : Name) (path : Path) (cs : List Slot) → entry_named n cs ≡ None → found_in (n ∷ path) (flat_map (λ s. map (below s.name) (outline k E s)) cs) ≡ None
 none_named k E n path [] e = refl
 none_named k E n path (c ∷ cs) e =
     found-append (n ∷ path) (map (below c.name) (outline k E c)) (flat_map (λ s. map (below s.name) (outline k E s)) cs)
     ∙ go (none_named k E n path cs) (same_name n c.name) refl e
   where
-    go : (entry_of_name n cs ≡ None → found_in (n ∷ path) (flat_map (λ s. map (below s.name) (outline k E s)) cs) ≡ None) → (b : Bool) → same_name n c.name ≡ b → cond b (Some c) (entry_of_name n cs) ≡ None →
+    go : (entry_named n cs ≡ None → found_in (n ∷ path) (flat_map (λ s. map (below s.name) (outline k E s)) cs) ≡ None) → (b : Bool) → same_name n c.name ≡ b → cond b (Some c) (entry_named n cs) ≡ None →
         option_or (found_in (n ∷ path) (map (below c.name) (outline k E c))) (found_in (n ∷ path) (flat_map (λ s. map (below s.name) (outline k E s)) cs)) ≡ None
     go ih true same h = absurd (cc)
     go ih false other h =
         ap (λ o. option_or o (found_in (n ∷ path) (flat_map (λ s. map (below s.name) (outline k E s)) cs))) (found_beside n c.name path (outline k E c) other)
         ∙ ih h
 
-others_named : (n : Name) (c : Slot) (cs : List Slot) → list_all (λ t. not (same_name c.name t.name)) cs ≡ true → same_name n c.name ≡ true → entry_of_name n cs ≡ None
+others_named : (n : Name) (c : Slot) (cs : List Slot) → list_all (λ t. not (same_name c.name t.name)) cs ≡ true → same_name n c.name ≡ true → entry_named n cs ≡ None
 others_named n c [] apart same = refl
 others_named n c (t ∷ cs) apart same =
     let both = and_parts (not (same_name c.name t.name)) (list_all (λ t. not (same_name c.name t.name)) cs) apart in
     let is : n ≡ c.name = name_from_same n c.name same in
     let other : same_name n t.name ≡ false = ap (λ m. same_name m t.name) is ∙ turned (same_name c.name t.name) both.0 in
-    ap (λ b. cond b (Some t) (entry_of_name n cs)) other ∙ others_named n c cs both.1 same
+    ap (λ b. cond b (Some t) (entry_named n cs)) other ∙ others_named n c cs both.1 same
   where
     turned : (b : Bool) → not b ≡ true → b ≡ false
     turned true e = absurd (cc)
     turned false e = refl
 
-pub outlined : (k : ℕ) (E : EntriesByDirectory) (u : Slot) → is_outlined k E u ≡ true → (path : Path) → found_in path (outline k E u) ≡ slot_at_path E u path
+pub outlined : (k : ℕ) (E : EntryMap) (u : Slot) → is_outlined k E u ≡ true → (path : Path) → found_in path (outline k E u) ≡ slot_at_path E u path
 outlined zero E u whole [] = refl
-outlined zero E u whole (n ∷ path) = sym (ap (option_and_then (λ c. slot_at_path E c path)) (child_is E u n ∙ ap (entry_of_name n) (nil (children E u) whole)))
+outlined zero E u whole (n ∷ path) = sym (ap (option_and_then (λ c. slot_at_path E c path)) (child_is E u n ∙ ap (entry_named n) (nil (children E u) whole)))
   where
     nil : (xs : List Slot) → is_nil xs ≡ true → xs ≡ []
     nil [] e = refl
@@ -115,7 +115,7 @@ outlined (suc k) E u whole (n ∷ path) =
     among (λ c deep. outlined k E c deep path) (children E u) both.0 both.1 ∙ sym (ap (option_and_then (λ c. slot_at_path E c path)) (child_is E u n))
   where
     among : ((c : Slot) → is_outlined k E c ≡ true → found_in path (outline k E c) ≡ slot_at_path E c path) → (cs : List Slot) → have_own_names cs ≡ true → list_all (is_outlined k E) cs ≡ true →
-        found_in (n ∷ path) (flat_map (λ s. map (below s.name) (outline k E s)) cs) ≡ option_and_then (λ c. slot_at_path E c path) (entry_of_name n cs)
+        found_in (n ∷ path) (flat_map (λ s. map (below s.name) (outline k E s)) cs) ≡ option_and_then (λ c. slot_at_path E c path) (entry_named n cs)
     among on [] own each = refl
     among on (c ∷ cs) own each =
         let names = and_parts (list_all (λ t. not (same_name c.name t.name)) cs) (have_own_names cs) own in
@@ -131,8 +131,8 @@ outlined (suc k) E u whole (n ∷ path) =
         or_none (Some s) = refl
 
         by_name : (b : Bool) → same_name n c.name ≡ b → list_all (λ t. not (same_name c.name t.name)) cs ≡ true → found_in path (outline k E c) ≡ slot_at_path E c path →
-            found_in (n ∷ path) rest ≡ option_and_then (λ c. slot_at_path E c path) (entry_of_name n cs) →
-            option_or (found_in (n ∷ path) (map (below c.name) (outline k E c))) (found_in (n ∷ path) rest) ≡ option_and_then (λ c. slot_at_path E c path) (cond b (Some c) (entry_of_name n cs))
+            found_in (n ∷ path) rest ≡ option_and_then (λ c. slot_at_path E c path) (entry_named n cs) →
+            option_or (found_in (n ∷ path) (map (below c.name) (outline k E c))) (found_in (n ∷ path) rest) ≡ option_and_then (λ c. slot_at_path E c path) (cond b (Some c) (entry_named n cs))
         by_name true same apart deep ih =
             ap (option_or (found_in (n ∷ path) (map (below c.name) (outline k E c)))) (none_named k E n path cs (others_named n c cs apart same))
             ∙ or_none (found_in (n ∷ path) (map (below c.name) (outline k E c)))

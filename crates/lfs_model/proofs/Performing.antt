@@ -1,55 +1,55 @@
 -- Operations that a session performs, in order.
 use Rattle.std.proofs.Common.{◌≡◌, List, [], ◌∷◌, ◌++◌, Option, refl, sym, subst}
-use Rattle.lfs_model.specs.History.{DeviceCallEvent, IsTrueOfEachCall, IsTrueOfEachCallSince}
-use Rattle.lfs_model.specs.Operations.{Operation, Reply}
-use Rattle.lfs_model.specs.Run.{SystemState, AreSessionSteps}
-use Rattle.lfs_model.specs.ReadBounds.{operation_unless_reply_is_refusal}
-use Rattle.lfs_model.specs.Performed.{IsStepSurvivingLossWithinReadBounds, AreStepsSurvivingLossWithinReadBounds}
+use Rattle.lfs_model.specs.session.History.{CallEvent, AllCalls, AllCallsSince}
+use Rattle.lfs_model.specs.session.Operations.{Operation, Reply}
+use Rattle.lfs_model.specs.session.Run.{SystemState, AreSteps}
+use Rattle.lfs_model.specs.crash.ReadBounds.{unless_refusal}
+use Rattle.lfs_model.specs.crash.Performed.{IsSafeStep, AreSafeSteps}
 use Rattle.lfs_model.proofs.Histories.{began, goes_on_by}
 
-pub performed_turns : (before : Option Operation) (operations : List Operation) (replies : List Reply) (from to : SystemState) → AreStepsSurvivingLossWithinReadBounds before from operations replies to → AreSessionSteps from operations replies to
+pub performed_turns : (before : Option Operation) (operations : List Operation) (replies : List Reply) (from to : SystemState) → AreSafeSteps before from operations replies to → AreSteps from operations replies to
 performed_turns before [] [] from to h = h
 performed_turns before [] (reply ∷ replies) from to h = absurd h
 performed_turns before (op ∷ operations) [] from to h = absurd h
-performed_turns before (op ∷ operations) (reply ∷ replies) from to (next, (one, rest)) = (next, (one.turn, performed_turns (operation_unless_reply_is_refusal op reply) operations replies next to rest))
+performed_turns before (op ∷ operations) (reply ∷ replies) from to (next, (one, rest)) = (next, (one.turn, performed_turns (unless_refusal op reply) operations replies next to rest))
 
 -- ---- one more
 
 -- the newest operation, if it was accepted
 abbrev pub last_accepted : Option Operation → List Operation → List Reply → Option Operation
-last_accepted before (op ∷ operations) (reply ∷ replies) = last_accepted (operation_unless_reply_is_refusal op reply) operations replies
+last_accepted before (op ∷ operations) (reply ∷ replies) = last_accepted (unless_refusal op reply) operations replies
 last_accepted before _ _ = before
 
-pub performed_further : (before : Option Operation) (operations : List Operation) (op : Operation) (replies : List Reply) (reply : Reply) (a b c : SystemState) → AreStepsSurvivingLossWithinReadBounds before a operations replies b →
-    IsStepSurvivingLossWithinReadBounds (last_accepted before operations replies) b op reply c → AreStepsSurvivingLossWithinReadBounds before a (operations ++ op ∷ []) (replies ++ reply ∷ []) c
-performed_further before [] op [] reply a b c h one = subst (λ m. AreStepsSurvivingLossWithinReadBounds before m (op ∷ []) (reply ∷ []) c) (sym h) (c, (one, refl))
+pub performed_further : (before : Option Operation) (operations : List Operation) (op : Operation) (replies : List Reply) (reply : Reply) (a b c : SystemState) → AreSafeSteps before a operations replies b →
+    IsSafeStep (last_accepted before operations replies) b op reply c → AreSafeSteps before a (operations ++ op ∷ []) (replies ++ reply ∷ []) c
+performed_further before [] op [] reply a b c h one = subst (λ m. AreSafeSteps before m (op ∷ []) (reply ∷ []) c) (sym h) (c, (one, refl))
 performed_further before [] op (r ∷ replies) reply a b c h one = absurd h
 performed_further before (o ∷ operations) op [] reply a b c h one = absurd h
-performed_further before (o ∷ operations) op (r ∷ replies) reply a b c (next, (first, rest)) one = (next, (first, performed_further (operation_unless_reply_is_refusal o r) operations op replies reply next b c rest one))
+performed_further before (o ∷ operations) op (r ∷ replies) reply a b c (next, (first, rest)) one = (next, (first, performed_further (unless_refusal o r) operations op replies reply next b c rest one))
 
 -- the newest one comes last
-pub last_further : (before : Option Operation) (operations : List Operation) (op : Operation) (replies : List Reply) (reply : Reply) (a b : SystemState) → AreStepsSurvivingLossWithinReadBounds before a operations replies b →
-    last_accepted before (operations ++ op ∷ []) (replies ++ reply ∷ []) ≡ operation_unless_reply_is_refusal op reply
+pub last_further : (before : Option Operation) (operations : List Operation) (op : Operation) (replies : List Reply) (reply : Reply) (a b : SystemState) → AreSafeSteps before a operations replies b →
+    last_accepted before (operations ++ op ∷ []) (replies ++ reply ∷ []) ≡ unless_refusal op reply
 last_further before [] op [] reply a b h = refl
 last_further before [] op (r ∷ replies) reply a b h = absurd h
 last_further before (o ∷ operations) op [] reply a b h = absurd h
-last_further before (o ∷ operations) op (r ∷ replies) reply a b (next, (first, rest)) = last_further (operation_unless_reply_is_refusal o r) operations op replies reply next b rest
+last_further before (o ∷ operations) op (r ∷ replies) reply a b (next, (first, rest)) = last_further (unless_refusal o r) operations op replies reply next b rest
 
 -- ---- the calls between
 
-abbrev pub IsAny : DeviceCallEvent → Type 0
+abbrev pub IsAny : CallEvent → Type 0
 IsAny e = Unit {0}
 
-any_events : (events : List DeviceCallEvent) → IsTrueOfEachCall IsAny events
+any_events : (events : List CallEvent) → AllCalls IsAny events
 any_events [] = tt
 any_events (e ∷ events) = (tt, any_events events)
 
-pub calls_since : (old new calls : List DeviceCallEvent) → new ≡ calls ++ old → IsTrueOfEachCallSince IsAny old new
+pub calls_since : (old new calls : List CallEvent) → new ≡ calls ++ old → AllCallsSince IsAny old new
 calls_since old new calls called = record { events = calls; extends = called; each = any_events calls }
 
-pub performed_since : (before : Option Operation) (operations : List Operation) (replies : List Reply) (from to : SystemState) → AreStepsSurvivingLossWithinReadBounds before from operations replies to → IsTrueOfEachCallSince IsAny from.calls to.calls
-performed_since before [] [] from to h = subst (λ (m : SystemState). IsTrueOfEachCallSince IsAny from.calls m.calls) h began
+pub performed_since : (before : Option Operation) (operations : List Operation) (replies : List Reply) (from to : SystemState) → AreSafeSteps before from operations replies to → AllCallsSince IsAny from.calls to.calls
+performed_since before [] [] from to h = subst (λ (m : SystemState). AllCallsSince IsAny from.calls m.calls) h began
 performed_since before [] (reply ∷ replies) from to h = absurd h
 performed_since before (op ∷ operations) [] from to h = absurd h
 performed_since before (op ∷ operations) (reply ∷ replies) from to (next, (one, rest)) =
-    goes_on_by (calls_since from.calls next.calls one.turn.calls one.turn.called) (performed_since (operation_unless_reply_is_refusal op reply) operations replies next to rest)
+    goes_on_by (calls_since from.calls next.calls one.turn.calls one.turn.called) (performed_since (unless_refusal op reply) operations replies next to rest)

@@ -3,31 +3,31 @@ use Rattle.std.proofs.Common.{ℕ, ◌≡◌, ◌⊎◌, inl, inr, Bool, true, f
 use Rattle.std.specs.Prelude.{Any}
 use Rattle.std.proofs.lemmas.List.Elements.{recursion_from_All}
 use Rattle.std.proofs.lemmas.Option.{same_Some}
-use Rattle.lfs_model.specs.Disk.{Disk}
-use Rattle.lfs_model.specs.Slots.{Slot, Struct, Inline, Ctz, Branch, zero_gstate, same_pair}
-use Rattle.lfs_model.specs.Thread.{Pair, gstate_of_pairs, is_hard_tail, pair_count_before_root, pairs_from_root_directory_on, ThreadDirectory}
-use Rattle.lfs_model.specs.Tree.{Path, branch_address_of_struct}
-use Rattle.lfs_model.specs.View.{IsAcceptedImage}
-use Rattle.lfs_model.specs.Shown.{IsDirectoryAddressReachedBySomePath, directories_in_thread, tree_on_disk}
-use Rattle.lfs_model.specs.Profile.{IsWritableImage}
-use Rattle.lfs_model.specs.Names.{Name}
-use Rattle.lfs_model.specs.TreeEdits.{last_name_of_path, tree_after_rename, path_without_prefix, same_path}
-use Rattle.lfs_model.specs.Operations as ops
-use Rattle.lfs_model.specs.Session.{Session}
-use Rattle.lfs_model.specs.Refusals.{path_of_bytes_or_root}
-use Rattle.lfs_model.specs.SlotEdits.{pair_with_slots, slot_of_path, HasSlotsReplacedInOnePair, RemovesSlotIfSome}
-use Rattle.lfs_model.specs.Layout.{IsDirectoryUnreachedOrRemoved, directory_addresses_of_slot, addresses_of_removed_directories, directory_address_of_pair, directory_address_continued_by_hard_tail, IsSlotLayoutAfterOperation}
+use Rattle.lfs_model.specs.format.Disk.{Disk}
+use Rattle.lfs_model.specs.format.Slots.{Slot, Struct, Inline, Ctz, Branch, zero_gstate, same_pair}
+use Rattle.lfs_model.specs.format.Thread.{Pair, pairs_gstate, is_hard_tail, pair_count_before_root, pairs_from_root, ThreadDirectory}
+use Rattle.lfs_model.specs.tree.Tree.{Path, branch_address}
+use Rattle.lfs_model.specs.tree.View.{IsAccepted}
+use Rattle.lfs_model.specs.tree.Shown.{IsReachedBySome, all_directories, tree_on_disk}
+use Rattle.lfs_model.specs.tree.Profile.{IsWritable}
+use Rattle.lfs_model.specs.format.Names.{Name}
+use Rattle.lfs_model.specs.session.TreeEdits.{last_name, tree_renaming, without_prefix, same_path}
+use Rattle.lfs_model.specs.session.Operations as ops
+use Rattle.lfs_model.specs.session.Session.{Session}
+use Rattle.lfs_model.specs.session.Refusals.{path_or_root}
+use Rattle.lfs_model.specs.session.SlotEdits.{pair_with_slots, slot_of, ReplacesSlots, RemovesSlot}
+use Rattle.lfs_model.specs.session.Layout.{IsDirectoryGone, slot_addresses, removed_addresses, directory_address, continued_address, IsLayout}
 use Rattle.lfs_model.proofs.Counts.{Each, each_append, each_left, each_right, each_weaker}
 use Rattle.lfs_model.proofs.Superblocks.{IsChain, pairs_behind}
-use Rattle.lfs_model.proofs.Laws.{DirectoryAddressByPath}
-use Rattle.lfs_model.proofs.Changes.{IsImageAfterTreeChange}
+use Rattle.lfs_model.proofs.Laws.{PathAddresses}
+use Rattle.lfs_model.proofs.Changes.{IsChangedImage}
 use Rattle.lfs_model.proofs.Sites.{any_from}
 use Rattle.lfs_model.proofs.Layouts.{onward_all, NoneGoes, none_goes_left, none_goes_right, none_where, rest_all}
 use Rattle.lfs_model.proofs.KeptStructs.{structs_left, renaming_leaves}
-use Rattle.lfs_model.proofs.Committed.{IsImageAfterCompletedOperation, recovered_from, nothing_moved}
-use Rattle.lfs_model.proofs.Alike.{ArePairsWithSameAddressesAndSlots, stood_alike, Stood, stand_apart}
+use Rattle.lfs_model.proofs.Committed.{IsCompletion, recovered_from, nothing_moved}
+use Rattle.lfs_model.proofs.Alike.{SameSlots, stood_alike, Stood, stand_apart}
 use Rattle.lfs_model.proofs.TwoPlaces.{two, splice_old}
-use Rattle.lfs_model.proofs.Splices.{slots_of_pairs_in_order}
+use Rattle.lfs_model.proofs.Splices.{all_slots}
 use Rattle.lfs_model.proofs.Became.{Became, became_stands}
 use Rattle.lfs_model.proofs.OneCommit.{some_filled}
 use Rattle.lfs_model.proofs.Trees.{not_before}
@@ -39,18 +39,18 @@ use Rattle.lfs_model.proofs.RemovedDirectory.{none_both, none_apart, before_gone
 pub record IsRenameWithinOnto (disk new : Disk) (rs : List Pair) (b : Bool) (chain front mid back : List Pair) (p o q : Pair) (more : List Pair)
     (lo : List Slot) (u : Slot) (ro l : List Slot) (target : Slot) (r : List Slot) (d : ℕ × ℕ) (old_path new_path : Path) (name : Name) : Type 0 where
   pub is_chain : IsChain chain (two b front (p ∷ []) mid (o ∷ []) back)
-  pub accepted : IsAcceptedImage disk (chain ++ two b front (p ∷ []) mid (o ∷ []) back)
-  pub writable : IsWritableImage disk (chain ++ two b front (p ∷ []) mid (o ∷ []) back)
-  pub settled : gstate_of_pairs (chain ++ two b front (p ∷ []) mid (o ∷ []) back) ≡ zero_gstate
-  pub still : gstate_of_pairs rs ≡ zero_gstate
-  pub walk : DirectoryAddressByPath → DirectoryAddressByPath
-  pub follows : IsImageAfterTreeChange disk (chain ++ two b front (p ∷ []) mid (o ∷ []) back) new rs (tree_after_rename old_path new_path) walk
-  pub still_writable : IsWritableImage new rs
+  pub accepted : IsAccepted disk (chain ++ two b front (p ∷ []) mid (o ∷ []) back)
+  pub writable : IsWritable disk (chain ++ two b front (p ∷ []) mid (o ∷ []) back)
+  pub settled : pairs_gstate (chain ++ two b front (p ∷ []) mid (o ∷ []) back) ≡ zero_gstate
+  pub still : pairs_gstate rs ≡ zero_gstate
+  pub walk : PathAddresses → PathAddresses
+  pub follows : IsChangedImage disk (chain ++ two b front (p ∷ []) mid (o ∷ []) back) new rs (tree_renaming old_path new_path) walk
+  pub still_writable : IsWritable new rs
   -- the slots
   pub held : p.content.slots ≡ lo ++ u ∷ ro
   pub left_over : lo ++ ro ≡ l ++ target ∷ r
   pub at : q.at ≡ p.at
-  pub is : slots_of_pairs_in_order (q ∷ more) ≡ l ++ record u { name = name } ∷ r
+  pub is : all_slots (q ∷ more) ≡ l ++ record u { name = name } ∷ r
   pub became : Became disk p (pair_with_slots (l ++ record u { name = name } ∷ r) p) q more
   -- the directory that goes
   pub branch : target.struct ≡ Branch d
@@ -58,18 +58,18 @@ pub record IsRenameWithinOnto (disk new : Disk) (rs : List Pair) (b : Bool) (cha
   pub soft : is_hard_tail o.content.tail ≡ false
   pub begins : onward_all None (before_gone b front mid p) ≡ None
   pub apart : Each (λ x. same_pair x.at d ≡ false) (two b front (p ∷ []) mid [] back)
-  pub alike : ArePairsWithSameAddressesAndSlots (chain ++ two b front (q ∷ more) mid [] back) rs
+  pub alike : SameSlots (chain ++ two b front (q ∷ more) mid [] back) rs
   -- the paths
-  pub from_slot : slot_of_path (chain ++ two b front (p ∷ []) mid (o ∷ []) back) old_path ≡ Some u
-  pub to_slot : slot_of_path (chain ++ two b front (p ∷ []) mid (o ∷ []) back) new_path ≡ Some target
-  pub to_name : last_name_of_path new_path ≡ name
-  pub not_beneath : path_without_prefix old_path new_path ≡ None
+  pub from_slot : slot_of (chain ++ two b front (p ∷ []) mid (o ∷ []) back) old_path ≡ Some u
+  pub to_slot : slot_of (chain ++ two b front (p ∷ []) mid (o ∷ []) back) new_path ≡ Some target
+  pub to_name : last_name new_path ≡ name
+  pub not_beneath : without_prefix old_path new_path ≡ None
 
 module _ (disk new : Disk) (rs : List Pair) (b : Bool) (chain front mid back : List Pair) (p o q : Pair) (more : List Pair)
     (lo : List Slot) (u : Slot) (ro l : List Slot) (target : Slot) (r : List Slot) (d : ℕ × ℕ) (old_path new_path : Path) (name : Name)
     (c : IsRenameWithinOnto disk new rs b chain front mid back p o q more lo u ro l target r d old_path new_path name)
     (s : Session) (old_bytes new_bytes : List ℕ) (tree : s.tree ≡ tree_on_disk disk (chain ++ two b front (p ∷ []) mid (o ∷ []) back))
-    (old_is : path_of_bytes_or_root old_bytes ≡ old_path) (new_is : path_of_bytes_or_root new_bytes ≡ new_path) where
+    (old_is : path_or_root old_bytes ≡ old_path) (new_is : path_or_root new_bytes ≡ new_path) where
   abbrev ps : List Pair
   ps = chain ++ two b front (p ∷ []) mid (o ∷ []) back
 
@@ -77,14 +77,14 @@ module _ (disk new : Disk) (rs : List Pair) (b : Bool) (chain front mid back : L
   op = ops.Rename old_bytes new_bytes
 
   abbrev Goes_ : ℕ × ℕ → Type 0
-  Goes_ = IsDirectoryUnreachedOrRemoved ps op
+  Goes_ = IsDirectoryGone ps op
 
-  gone : addresses_of_removed_directories ps op ≡ d ∷ []
-  gone = ap (λ t. cond t [] (directory_addresses_of_slot (slot_of_path ps (path_of_bytes_or_root new_bytes)))) (ap₂ same_path old_is new_is ∙ not_before old_path new_path c.not_beneath)
-      ∙ ap directory_addresses_of_slot (ap (slot_of_path ps) new_is ∙ c.to_slot) ∙ go target.struct c.branch
+  gone : removed_addresses ps op ≡ d ∷ []
+  gone = ap (λ t. cond t [] (slot_addresses (slot_of ps (path_or_root new_bytes)))) (ap₂ same_path old_is new_is ∙ not_before old_path new_path c.not_beneath)
+      ∙ ap slot_addresses (ap (slot_of ps) new_is ∙ c.to_slot) ∙ go target.struct c.branch
     where
-      go : (t : Struct) → t ≡ Branch d → directory_addresses_of_slot (Some (record target { struct = t })) ≡ d ∷ []
-      go (Branch to) e = ap (λ x. x ∷ []) (same_Some to d (ap branch_address_of_struct e))
+      go : (t : Struct) → t ≡ Branch d → slot_addresses (Some (record target { struct = t })) ≡ d ∷ []
+      go (Branch to) e = ap (λ x. x ∷ []) (same_Some to d (ap branch_address e))
       go (Inline bytes) e = absurd (cc)
       go (Ctz head size) e = absurd (cc)
 
@@ -98,24 +98,24 @@ module _ (disk new : Disk) (rs : List Pair) (b : Bool) (chain front mid back : L
   cleared = chain ++ two b front (pair_with_slots (l ++ r) p ∷ []) mid (o ∷ []) back
 
   -- every directory is reached
-  all_reached : NoneGoes (λ x. IsDirectoryAddressReachedBySomePath ps x → ⊥) None (two b front (p ∷ []) mid (o ∷ []) back)
-  all_reached = subst (NoneGoes (λ x. IsDirectoryAddressReachedBySomePath ps x → ⊥) None) (pairs_behind chain (two b front (p ∷ []) mid (o ∷ []) back) c.is_chain)
-      (none_where (λ x. IsDirectoryAddressReachedBySomePath ps x → ⊥) (gstate_of_pairs ps) None (pairs_from_root_directory_on ps) (λ x f. absurd (cc))
-      (subst (Each (λ (x : ThreadDirectory). (IsDirectoryAddressReachedBySomePath ps x.at → ⊥) → ⊥)) (sym (rest_all (directories_in_thread ps)))
-      (each_weaker (λ (x : ThreadDirectory). IsDirectoryAddressReachedBySomePath ps x.at) (λ (x : ThreadDirectory). (IsDirectoryAddressReachedBySomePath ps x.at → ⊥) → ⊥) (λ x h n. n h) (directories_in_thread ps)
-      (recursion_from_All (λ (x : ThreadDirectory). IsDirectoryAddressReachedBySomePath ps x.at) (directories_in_thread ps) (recovered_from disk ps c.accepted c.settled).reached))))
+  all_reached : NoneGoes (λ x. IsReachedBySome ps x → ⊥) None (two b front (p ∷ []) mid (o ∷ []) back)
+  all_reached = subst (NoneGoes (λ x. IsReachedBySome ps x → ⊥) None) (pairs_behind chain (two b front (p ∷ []) mid (o ∷ []) back) c.is_chain)
+      (none_where (λ x. IsReachedBySome ps x → ⊥) (pairs_gstate ps) None (pairs_from_root ps) (λ x f. absurd (cc))
+      (subst (Each (λ (x : ThreadDirectory). (IsReachedBySome ps x.at → ⊥) → ⊥)) (sym (rest_all (all_directories ps)))
+      (each_weaker (λ (x : ThreadDirectory). IsReachedBySome ps x.at) (λ (x : ThreadDirectory). (IsReachedBySome ps x.at → ⊥) → ⊥) (λ x h n. n h) (all_directories ps)
+      (recursion_from_All (λ (x : ThreadDirectory). IsReachedBySome ps x.at) (all_directories ps) (recovered_from disk ps c.accepted c.settled).reached))))
 
-  none_of : (from : Option (ℕ × ℕ)) (xs : List Pair) → NoneGoes (λ x. IsDirectoryAddressReachedBySomePath ps x → ⊥) from xs → ((x : ℕ × ℕ) → from ≡ Some x → same_pair x d ≡ true → ⊥) → Each (λ x. same_pair x.at d ≡ false) xs →
+  none_of : (from : Option (ℕ × ℕ)) (xs : List Pair) → NoneGoes (λ x. IsReachedBySome ps x → ⊥) from xs → ((x : ℕ × ℕ) → from ≡ Some x → same_pair x d ≡ true → ⊥) → Each (λ x. same_pair x.at d ≡ false) xs →
       NoneGoes Goes_ from xs
-  none_of from xs h f k = subst (λ ds. NoneGoes (λ x. (IsDirectoryAddressReachedBySomePath ps x → ⊥) ⊎ Any (λ at. same_pair x at ≡ true) ds) from xs) (sym gone)
-      (none_both (λ x. IsDirectoryAddressReachedBySomePath ps x → ⊥) (λ x. Any (λ at. same_pair x at ≡ true) (d ∷ [])) from xs h (none_apart d from xs f k))
+  none_of from xs h f k = subst (λ ds. NoneGoes (λ x. (IsReachedBySome ps x → ⊥) ⊎ Any (λ at. same_pair x at ≡ true) ds) from xs) (sym gone)
+      (none_both (λ x. IsReachedBySome ps x → ⊥) (λ x. Any (λ at. same_pair x at ≡ true) (d ∷ [])) from xs h (none_apart d from xs f k))
 
   goes_there : Goes_ o.at
-  goes_there = subst (λ ds. (IsDirectoryAddressReachedBySomePath ps o.at → ⊥) ⊎ Any (λ at. same_pair o.at at ≡ true) ds) (sym gone) (inr (any_from (λ at. same_pair o.at at ≡ true) (d ∷ []) (inl c.alike_address)))
+  goes_there = subst (λ ds. (IsReachedBySome ps o.at → ⊥) ⊎ Any (λ at. same_pair o.at at ≡ true) ds) (sym gone) (inr (any_from (λ at. same_pair o.at at ≡ true) (d ∷ []) (inl c.alike_address)))
 
   -- nothing goes on after o
-  ends_there : (from : Option (ℕ × ℕ)) → directory_address_continued_by_hard_tail from o ≡ None
-  ends_there from = ap (λ t. cond t (Some (directory_address_of_pair from o)) None) c.soft
+  ends_there : (from : Option (ℕ × ℕ)) → continued_address from o ≡ None
+  ends_there from = ap (λ t. cond t (Some (directory_address from o)) None) c.soft
 
   from_start : (x : ℕ × ℕ) → None ≡ Some x → same_pair x d ≡ true → ⊥
   from_start x e k = absurd (cc)
@@ -124,24 +124,24 @@ module _ (disk new : Disk) (rs : List Pair) (b : Bool) (chain front mid back : L
   apart_seg xs ys h = (each_left (λ (x : Pair). same_pair x.at d ≡ false) xs ys h, each_right (λ (x : Pair). same_pair x.at d ≡ false) xs ys h)
 
   -- of pairs before o and after it none goes
-  none_around : (seg after : List Pair) → NoneGoes (λ x. IsDirectoryAddressReachedBySomePath ps x → ⊥) None (seg ++ (o ∷ [] ++ after)) → Each (λ x. same_pair x.at d ≡ false) seg → Each (λ x. same_pair x.at d ≡ false) after →
+  none_around : (seg after : List Pair) → NoneGoes (λ x. IsReachedBySome ps x → ⊥) None (seg ++ (o ∷ [] ++ after)) → Each (λ x. same_pair x.at d ≡ false) seg → Each (λ x. same_pair x.at d ≡ false) after →
       NoneGoes Goes_ None seg × NoneGoes Goes_ None after
   none_around seg after h k m = (
-    none_of None seg (none_goes_left (λ x. IsDirectoryAddressReachedBySomePath ps x → ⊥) None seg (o ∷ [] ++ after) h) from_start k,
-    none_of None after (subst (λ z. NoneGoes (λ x. IsDirectoryAddressReachedBySomePath ps x → ⊥) z after) (ends_there (onward_all None seg)) (none_goes_right (λ x. IsDirectoryAddressReachedBySomePath ps x → ⊥) None seg (o ∷ [] ++ after) h).1) from_start m,
+    none_of None seg (none_goes_left (λ x. IsReachedBySome ps x → ⊥) None seg (o ∷ [] ++ after) h) from_start k,
+    none_of None after (subst (λ z. NoneGoes (λ x. IsReachedBySome ps x → ⊥) z after) (ends_there (onward_all None seg)) (none_goes_right (λ x. IsReachedBySome ps x → ⊥) None seg (o ∷ [] ++ after) h).1) from_start m,
   )
 
   abbrev Holds : Bool → Type 0
   Holds t = Stood disk Goes_ (pair_count_before_root (chain ++ two t front (p ∷ []) mid (o ∷ []) back)) None (chain ++ two t front (pair_with_slots (l ++ record u { name = name } ∷ r) p ∷ []) mid (o ∷ []) back) (chain ++ two t front (q ∷ more) mid [] back)
 
-  stood_by : (t : Bool) → IsChain chain (two t front (p ∷ []) mid (o ∷ []) back) → IsWritableImage disk (chain ++ two t front (p ∷ []) mid (o ∷ []) back) →
-      NoneGoes (λ x. IsDirectoryAddressReachedBySomePath ps x → ⊥) None (two t front (p ∷ []) mid (o ∷ []) back) → Each (λ x. same_pair x.at d ≡ false) (two t front (p ∷ []) mid [] back) →
+  stood_by : (t : Bool) → IsChain chain (two t front (p ∷ []) mid (o ∷ []) back) → IsWritable disk (chain ++ two t front (p ∷ []) mid (o ∷ []) back) →
+      NoneGoes (λ x. IsReachedBySome ps x → ⊥) None (two t front (p ∷ []) mid (o ∷ []) back) → Each (λ x. same_pair x.at d ≡ false) (two t front (p ∷ []) mid [] back) →
       onward_all None (before_gone t front mid p) ≡ None → Holds t
   stood_by true is_chain ok reached apart begins =
       let seg = front ++ (p ∷ [] ++ mid) in
       let a = apart_seg front (p ∷ [] ++ (mid ++ back)) apart in
       let m = apart_seg mid back a.1.1 in
-      let n = none_around seg back (subst (NoneGoes (λ x. IsDirectoryAddressReachedBySomePath ps x → ⊥) None) (sym (append_assoc front (p ∷ mid) (o ∷ back))) reached)
+      let n = none_around seg back (subst (NoneGoes (λ x. IsReachedBySome ps x → ⊥) None) (sym (append_assoc front (p ∷ mid) (o ∷ back))) reached)
       (each_append (λ (x : Pair). same_pair x.at d ≡ false) front (p ∷ mid) a.0 (a.1.0, m.0)) m.1 in
       let behind = none_goes_right Goes_ None front (p ∷ mid) n.0 in
       let start : onward_all (onward_all (onward_all None front) (p ∷ [])) mid ≡ None = sym (onward_append None front (p ∷ mid)) ∙ begins in
@@ -151,7 +151,7 @@ module _ (disk new : Disk) (rs : List Pair) (b : Bool) (chain front mid back : L
       (none_goes_left Goes_ None front (p ∷ mid) n.0) behind.1 (subst (λ z. NoneGoes Goes_ z back) (sym (ends_there (onward_all (onward_all (onward_all None front) (p ∷ [])) mid))) n.1)
       (λ from. refl) (λ from. refl)
       (λ h. (became_stands disk _ _ p (pair_with_slots (l ++ record u { name = name } ∷ r) p) q more c.at c.is c.became behind.0 (λ e. some_filled l r (record u { name = name })), tt))
-      (λ h. (inl (subst (λ z. Goes_ (directory_address_of_pair z o)) (sym start) goes_there), tt)))
+      (λ h. (inl (subst (λ z. Goes_ (directory_address z o)) (sym start) goes_there), tt)))
   stood_by false is_chain ok reached apart begins =
       let a = apart_seg front (mid ++ (p ∷ [] ++ back)) apart in
       let n = none_around front (mid ++ (p ∷ [] ++ back)) reached a.0 a.1 in
@@ -161,17 +161,17 @@ module _ (disk new : Disk) (rs : List Pair) (b : Bool) (chain front mid back : L
       (ap (λ x. chain ++ (front ++ (mid ++ (x ++ back)))) (append-nil (q ∷ more)))
       (stand_apart disk Goes_ chain front (o ∷ []) (o ∷ []) mid (p ∷ []) (pair_with_slots (l ++ record u { name = name } ∷ r) p ∷ []) back ([] ∷ []) ((q ∷ more) ∷ []) is_chain ok
       n.0 (subst (λ z. NoneGoes Goes_ z mid) (sym start) (none_goes_left Goes_ None mid (p ∷ back) n.1))
-      (subst (λ z. NoneGoes Goes_ (directory_address_continued_by_hard_tail (onward_all z mid) p) back) (sym start) second.1)
+      (subst (λ z. NoneGoes Goes_ (continued_address (onward_all z mid) p) back) (sym start) second.1)
       (λ from. refl) (λ from. refl)
-      (λ h. (inl (subst (λ z. Goes_ (directory_address_of_pair z o)) (sym begins) goes_there), tt))
+      (λ h. (inl (subst (λ z. Goes_ (directory_address z o)) (sym begins) goes_there), tt))
       (λ h. (became_stands disk _ _ p (pair_with_slots (l ++ record u { name = name } ∷ r) p) q more c.at c.is c.became (subst (λ z. NoneGoes Goes_ (onward_all z mid) (p ∷ [])) (sym start) (second.0, tt)).0 (λ e. some_filled l r (record u { name = name })), tt)))
 
   stood : Stood disk Goes_ (pair_count_before_root ps) None drafts rs
   stood =
       let t = stood_by b c.is_chain c.writable all_reached c.apart c.begins in
-      stood_alike disk Goes_ (pair_count_before_root ps) None drafts t.parts rs t.stand (subst (λ z. ArePairsWithSameAddressesAndSlots z rs) (sym t.joined) c.alike)
+      stood_alike disk Goes_ (pair_count_before_root ps) None drafts t.parts rs t.stand (subst (λ z. SameSlots z rs) (sym t.joined) c.alike)
 
-  pub within_onto_laid_out : IsSlotLayoutAfterOperation disk ps s op new rs
+  pub within_onto_laid_out : IsLayout disk ps s op new rs
   within_onto_laid_out = record {
     drafts = drafts;
     parts = stood.parts;
@@ -185,10 +185,10 @@ module _ (disk new : Disk) (rs : List Pair) (b : Bool) (chain front mid back : L
         without_old,
         cleared,
         (
-          ap (slot_of_path ps) old_is ∙ c.from_slot,
-          subst (λ z. HasSlotsReplacedInOnePair (u ∷ []) [] z without_old) (sym (nothing_moved ps c.settled)) (splice_old b chain front mid (o ∷ []) back p lo (u ∷ []) [] ro c.held),
-          subst (λ t. RemovesSlotIfSome t without_old cleared) (sym (ap (slot_of_path ps) new_is ∙ c.to_slot)) (splice_old b chain front mid (o ∷ []) back (pair_with_slots (lo ++ ro) p) l (target ∷ []) [] r c.left_over),
-          subst (λ n. HasSlotsReplacedInOnePair [] (record u { name = n } ∷ []) cleared drafts) (sym (ap last_name_of_path new_is ∙ c.to_name))
+          ap (slot_of ps) old_is ∙ c.from_slot,
+          subst (λ z. ReplacesSlots (u ∷ []) [] z without_old) (sym (nothing_moved ps c.settled)) (splice_old b chain front mid (o ∷ []) back p lo (u ∷ []) [] ro c.held),
+          subst (λ t. RemovesSlot t without_old cleared) (sym (ap (slot_of ps) new_is ∙ c.to_slot)) (splice_old b chain front mid (o ∷ []) back (pair_with_slots (lo ++ ro) p) l (target ∷ []) [] r c.left_over),
+          subst (λ n. ReplacesSlots [] (record u { name = n } ∷ []) cleared drafts) (sym (ap last_name new_is ∙ c.to_name))
               (splice_old b chain front mid (o ∷ []) back (pair_with_slots (l ++ r) p) l [] (record u { name = name } ∷ []) r refl),
         ),
       ),
@@ -198,12 +198,12 @@ module _ (disk new : Disk) (rs : List Pair) (b : Bool) (chain front mid back : L
     is = sym (append-nil rs);
   }
 
-  pub within_onto_completed : IsImageAfterCompletedOperation disk ps s op new rs
+  pub within_onto_completed : IsCompletion disk ps s op new rs
   within_onto_completed = record {
     accepted = c.follows.accepted;
     writable = c.still_writable;
     recovered = recovered_from new rs c.follows.accepted c.still;
-    tree = λ around. c.follows.shows ∙ sym (ap (λ z. tree_after_rename (path_of_bytes_or_root old_bytes) (path_of_bytes_or_root new_bytes) z) tree ∙ ap₂ (λ x y. tree_after_rename x y (tree_on_disk disk ps)) old_is new_is);
+    tree = λ around. c.follows.shows ∙ sym (ap (λ z. tree_renaming (path_or_root old_bytes) (path_or_root new_bytes) z) tree ∙ ap₂ (λ x y. tree_renaming x y (tree_on_disk disk ps)) old_is new_is);
     laid_out = within_onto_laid_out;
-    structs = structs_left disk ps new rs (tree_after_rename old_path new_path) c.walk s op c.follows (renaming_leaves (tree_on_disk disk ps) s old_bytes new_bytes old_path new_path old_is new_is);
+    structs = structs_left disk ps new rs (tree_renaming old_path new_path) c.walk s op c.follows (renaming_leaves (tree_on_disk disk ps) s old_bytes new_bytes old_path new_path old_is new_is);
   }

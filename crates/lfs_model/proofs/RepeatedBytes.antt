@@ -7,9 +7,9 @@ use Rattle.std.proofs.lemmas.Bool.{and_parts}
 use Rattle.std.proofs.lemmas.Bool.Decides.{nat_tests}
 use Rattle.std.proofs.lemmas.List.{drop-replicate, length-replicate}
 use Rattle.byteorder.specs.Endian.{big_number}
-use Rattle.lfs_model.specs.Tag.{type_of_tag, is_tag_ending_or_spoiling_commit}
-use Rattle.lfs_model.specs.Log.{LogEntry, CommitSequence, commit_with_entry_first, entry_at, end_offset_of_log_entry, is_checksum_entry, closes, commit_at, chain_of, block_log_if_any_commits, revision_of_block}
-use Rattle.lfs_model.specs.Stops.{HasNoLog}
+use Rattle.lfs_model.specs.format.Tag.{tag_type, is_commit_end}
+use Rattle.lfs_model.specs.format.Log.{LogEntry, CommitSequence, with_entry, entry_at, entry_end, is_checksum_entry, closes, commit_at, chain_of, committed_log, block_revision}
+use Rattle.lfs_model.specs.crash.Stops.{HasNoLog}
 use Rattle.lfs_model.proofs.Chains.{lies, commit_none, commit_refused, commit_on, chain_none}
 use Rattle.lfs_model.proofs.Skips.{all_below, below_from}
 
@@ -23,7 +23,7 @@ first_tag byte = bit_xor (word byte) 0xffffffff
 -- the first tag ends no commit rightly, and the one after it is invalid
 abbrev ends : ℕ → Bool
 ends byte =
-    not (is_tag_ending_or_spoiling_commit (first_tag byte) && (type_of_tag (first_tag byte) == 0x500 || type_of_tag (first_tag byte) == 0x501))
+    not (is_commit_end (first_tag byte) && (tag_type (first_tag byte) == 0x500 || tag_type (first_tag byte) == 0x501))
     && nat_le (2 ^ 31) (bit_xor (word byte) (first_tag byte))
 
 each_byte : all_below ends 256 ≡ true
@@ -52,7 +52,7 @@ ended a b next is =
     other true false is here = refl
     other false b is here = absurd (cc)
 
-not_closed : (block : List ℕ) (start at : ℕ) (e : LogEntry) → (type_of_tag e.tag == 0x500 || type_of_tag e.tag == 0x501) ≡ false → closes block start at e ≡ false
+not_closed : (block : List ℕ) (start at : ℕ) (e : LogEntry) → (tag_type e.tag == 0x500 || tag_type e.tag == 0x501) ≡ false → closes block start at e ≡ false
 unfolding closes
 not_closed block start at e other = rw other refl
 
@@ -68,22 +68,22 @@ no_second n byte at e is invalid =
 no_first : (n byte : ℕ) → byte < 256 → commit_at (replicate n byte) 0 4 0xffffffff ≡ None
 no_first n byte small =
     let block : List ℕ = replicate n byte in
-    let right = ended (is_tag_ending_or_spoiling_commit (first_tag byte)) (type_of_tag (first_tag byte) == 0x500 || type_of_tag (first_tag byte) == 0x501) (bit_xor (word byte) (first_tag byte)) (below_from ends 256 each_byte byte small) in
+    let right = ended (is_commit_end (first_tag byte)) (tag_type (first_tag byte) == 0x500 || tag_type (first_tag byte) == 0x501) (bit_xor (word byte) (first_tag byte)) (below_from ends 256 each_byte byte small) in
     elim (entry_at block 4 0xffffffff) as (λ o. entry_at block 4 0xffffffff ≡ o → commit_at block 0 4 0xffffffff ≡ None) [
       | None ↦ λ is. commit_none block 0 4 0xffffffff is
       | Some e ↦ λ is.
           let tag : e.tag ≡ first_tag byte = tag_of n byte 4 0xffffffff e is in
           elim (is_checksum_entry e) as (λ b. is_checksum_entry e ≡ b → commit_at block 0 4 0xffffffff ≡ None) [
             | true ↦ λ sum.
-                let other = ap (λ t. type_of_tag t == 0x500 || type_of_tag t == 0x501) tag ∙ right.0 (sym (ap is_tag_ending_or_spoiling_commit tag) ∙ sum) in
+                let other = ap (λ t. tag_type t == 0x500 || tag_type t == 0x501) tag ∙ right.0 (sym (ap is_commit_end tag) ∙ sum) in
                 commit_refused block 0 4 0xffffffff e is sum (not_closed block 0 4 e other)
             | false ↦ λ other.
                 commit_on block 0 4 0xffffffff e is other
-                ∙ ap (option_map (commit_with_entry_first e)) (commit_none block 0 (end_offset_of_log_entry 4 e) e.tag (no_second n byte (end_offset_of_log_entry 4 e) e tag right.1))
+                ∙ ap (option_map (with_entry e)) (commit_none block 0 (entry_end 4 e) e.tag (no_second n byte (entry_end 4 e) e tag right.1))
           ] refl
     ] refl
 
 pub no_log-repeated : (n byte : ℕ) → byte < 256 → HasNoLog (replicate n byte)
 unfolding chain_of
 no_log-repeated n byte small =
-    ap (λ (c : CommitSequence). block_log_if_any_commits (revision_of_block (replicate n byte)) c.commits) (chain_none (replicate n byte) 0 4 0xffffffff (no_first n byte small))
+    ap (λ (c : CommitSequence). committed_log (block_revision (replicate n byte)) c.commits) (chain_none (replicate n byte) 0 4 0xffffffff (no_first n byte small))

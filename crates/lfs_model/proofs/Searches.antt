@@ -7,16 +7,16 @@ use Rattle.std.proofs.lemmas.List.Elements.{filter-append, recursion_from_All}
 use Rattle.std.proofs.lemmas.List.Concat.{flat_map-append}
 use Rattle.std.proofs.lemmas.Option.{same_Some}
 use Rattle.std.proofs.lemmas.Bool.{false_from_ne_true}
-use Rattle.lfs_model.specs.Disk.{Disk}
-use Rattle.lfs_model.specs.Names.{Name, name_cmp}
-use Rattle.lfs_model.specs.Slots.{Slot, is_superblock, same_pair}
-use Rattle.lfs_model.specs.Thread.{Pair, is_hard_tail, blocks_of_pairs, gstate_of_pairs, pair_count_before_root, pairs_from_root_directory_on}
-use Rattle.lfs_model.specs.Tree.{Path}
-use Rattle.lfs_model.specs.View.{IsAcceptedImage, IsFileOrDirectoryEntry}
-use Rattle.lfs_model.specs.Shown.{IsPathToDirectory, entries_by_directory_in_thread}
-use Rattle.lfs_model.specs.SlotEdits.{slot_of_path}
-use Rattle.lfs_model.specs.Frame.{pairs_joined_by_hard_tails, pairs_of_directory, pair_count_of_directory_at}
-use Rattle.lfs_model.specs.InDirectory.{slots_without_superblock, slots_of_pairs_in_order, HasFirstSlotGreaterName, ArePairsWithoutSuperblock, HasHardTail, hard_tail_joined_pair_count, HaveHardTailsButLast, last_pair_has_hard_tail, IsPairOfDirectory, IsPairAtAddress, IsPlaceOfNameInDirectory, IsPlaceWhereNameBelongs}
+use Rattle.lfs_model.specs.format.Disk.{Disk}
+use Rattle.lfs_model.specs.format.Names.{Name, name_cmp}
+use Rattle.lfs_model.specs.format.Slots.{Slot, is_superblock, same_pair}
+use Rattle.lfs_model.specs.format.Thread.{Pair, is_hard_tail, blocks_of_pairs, pairs_gstate, pair_count_before_root, pairs_from_root}
+use Rattle.lfs_model.specs.tree.Tree.{Path}
+use Rattle.lfs_model.specs.tree.View.{IsAccepted, IsTreeEntry}
+use Rattle.lfs_model.specs.tree.Shown.{LeadsTo, all_entries}
+use Rattle.lfs_model.specs.session.SlotEdits.{slot_of}
+use Rattle.lfs_model.specs.crash.Frame.{tail_pairs, directory_pairs, pair_count_at}
+use Rattle.lfs_model.specs.session.InDirectory.{entry_slots, all_slots, FirstIsGreater, AreEntryPairs, HasHardTail, joined_count, AreJoined, last_joins, IsPairOfDirectory, IsPairAt, IsPlaceOf, BelongsAt}
 use Rattle.lfs_model.proofs.Counts.{Each, each_append, each_right, each_weaker}
 use Rattle.lfs_model.proofs.Global.{HasNoMove}
 use Rattle.lfs_model.proofs.Pairs.{pair_back, pair_on}
@@ -53,13 +53,13 @@ get_behind (x ∷ xs) p ys = get_behind xs p ys
 
 -- the pair at a directory's address is the directory's first
 pub record IsDirectory (ps : List Pair) (a : ℕ × ℕ) (first : ℕ) : Type 0 where
-  pub directory : HasDirectory (pairs_from_root_directory_on ps) a
+  pub directory : HasDirectory (pairs_from_root ps) a
   pub number : first ≡ pair_count_before_root ps + length directory.before
 
-pub begins_directory : (disk : Disk) (ps : List Pair) (P : Path) (a : ℕ × ℕ) (first : ℕ) → IsAcceptedImage disk ps → IsPathToDirectory ps P a → IsPairAtAddress ps a first → IsDirectory ps a first
+pub begins_directory : (disk : Disk) (ps : List Pair) (P : Path) (a : ℕ × ℕ) (first : ℕ) → IsAccepted disk ps → LeadsTo ps P a → IsPairAt ps a first → IsDirectory ps a first
 begins_directory disk ps P a first ok leads b = record { directory = d; number = number }
   where
-    d : HasDirectory (pairs_from_root_directory_on ps) a
+    d : HasDirectory (pairs_from_root ps) a
     d = led_directory disk ps P a ok leads
 
     chain : List Pair
@@ -95,28 +95,28 @@ avoids_behind [] p ys a h s = each_weaker (λ (x : Pair). same_pair p.at x.at �
     (λ x e. false_from_ne_true (same_pair x.at a) (λ t. let k = pair_on p.at a x.at s (pair_back x.at a t) in absurd (cc))) ys (blocks_avoid p.at ys h.0.1)
 avoids_behind (x ∷ xs) p ys a h s = avoids_behind xs p ys a h.1.1 s
 
-pairs_past : (xs ys : List Pair) (a : ℕ × ℕ) → Each (λ x. same_pair x.at a ≡ false) xs → pairs_of_directory (xs ++ ys) a ≡ pairs_of_directory ys a
+pairs_past : (xs ys : List Pair) (a : ℕ × ℕ) → Each (λ x. same_pair x.at a ≡ false) xs → directory_pairs (xs ++ ys) a ≡ directory_pairs ys a
 pairs_past [] ys a h = refl
-pairs_past (x ∷ xs) ys a h = ap (λ b. cond b (pairs_joined_by_hard_tails x (xs ++ ys)) (pairs_of_directory (xs ++ ys) a)) h.0 ∙ pairs_past xs ys a h.1
+pairs_past (x ∷ xs) ys a h = ap (λ b. cond b (tail_pairs x (xs ++ ys)) (directory_pairs (xs ++ ys) a)) h.0 ∙ pairs_past xs ys a h.1
 
-run_is : (p : Pair) (run after : List Pair) → IsRun (p ∷ run) → pairs_joined_by_hard_tails p (run ++ after) ≡ p ∷ run
+run_is : (p : Pair) (run after : List Pair) → IsRun (p ∷ run) → tail_pairs p (run ++ after) ≡ p ∷ run
 run_is p [] [] h = refl
-run_is p [] (q ∷ after) h = ap (λ b. p ∷ cond b (pairs_joined_by_hard_tails q after) []) h
-run_is p (q ∷ run) after h = ap (λ b. p ∷ cond b (pairs_joined_by_hard_tails q (run ++ after)) []) h.0 ∙ ap (λ z. p ∷ z) (run_is q run after h.1)
+run_is p [] (q ∷ after) h = ap (λ b. p ∷ cond b (tail_pairs q after) []) h
+run_is p (q ∷ run) after h = ap (λ b. p ∷ cond b (tail_pairs q (run ++ after)) []) h.0 ∙ ap (λ z. p ∷ z) (run_is q run after h.1)
 
-length_run : (p : Pair) (run after : List Pair) → IsRun (p ∷ run) → hard_tail_joined_pair_count (p ∷ (run ++ after)) ≡ length (p ∷ run)
-length_run p [] after h = ap (λ b. cond b (1 + hard_tail_joined_pair_count after) 1) h
-length_run p (q ∷ run) after h = ap (λ b. cond b (1 + hard_tail_joined_pair_count (q ∷ (run ++ after))) 1) h.0 ∙ (let e = length_run q run after h.1 in omega (arith, e))
+length_run : (p : Pair) (run after : List Pair) → IsRun (p ∷ run) → joined_count (p ∷ (run ++ after)) ≡ length (p ∷ run)
+length_run p [] after h = ap (λ b. cond b (1 + joined_count after) 1) h
+length_run p (q ∷ run) after h = ap (λ b. cond b (1 + joined_count (q ∷ (run ++ after))) 1) h.0 ∙ (let e = length_run q run after h.1 in omega (arith, e))
 
 -- the pairs of a directory that a path leads to, and how many they are
-pub directory_pairs_at : (disk : Disk) (ps : List Pair) (P : Path) (a : ℕ × ℕ) (ok : IsAcceptedImage disk ps) → IsPathToDirectory ps P a → (d : HasDirectory (pairs_from_root_directory_on ps) a) → pairs_of_directory ps a ≡ d.first ∷ d.run
-directory_pairs_at disk ps P a ok leads d =
+pub pairs_at : (disk : Disk) (ps : List Pair) (P : Path) (a : ℕ × ℕ) (ok : IsAccepted disk ps) → LeadsTo ps P a → (d : HasDirectory (pairs_from_root ps) a) → directory_pairs ps a ≡ d.first ∷ d.run
+pairs_at disk ps P a ok leads d =
     let whole : ps ≡ (take (pair_count_before_root ps) ps ++ d.before) ++ (d.first ∷ (d.run ++ d.after))
     = (chain_of_thread ps).0 ∙ ap (λ z. take (pair_count_before_root ps) ps ++ z) d.is ∙ sym (append_assoc (take (pair_count_before_root ps) ps) d.before (d.first ∷ (d.run ++ d.after))) in
-    ap (λ z. pairs_of_directory z a) whole
+    ap (λ z. directory_pairs z a) whole
     ∙ pairs_past (take (pair_count_before_root ps) ps ++ d.before) (d.first ∷ (d.run ++ d.after)) a
     (avoids_front (take (pair_count_before_root ps) ps ++ d.before) d.first (d.run ++ d.after) a (subst (λ z. IsDistinct nat_eq (blocks_of_pairs z)) whole ok.thread.distinct) d.at)
-    ∙ ap (λ b. cond b (pairs_joined_by_hard_tails d.first (d.run ++ d.after)) (pairs_of_directory (d.run ++ d.after) a)) d.at
+    ∙ ap (λ b. cond b (tail_pairs d.first (d.run ++ d.after)) (directory_pairs (d.run ++ d.after) a)) d.at
     ∙ run_is d.first d.run d.after d.is_run
 
 drop_behind : (xs ys : List Pair) (n : ℕ) → n ≡ length xs → drop n (xs ++ ys) ≡ ys
@@ -125,9 +125,9 @@ drop_behind (x ∷ xs) ys n e = ap (λ k. drop k (x ∷ (xs ++ ys))) e ∙ drop_
 
 abbrev count_at : List Pair → Option (ℕ × ℕ) → ℕ
 count_at ps None = 0
-count_at ps (Some at) = length (pairs_of_directory ps at)
+count_at ps (Some at) = length (directory_pairs ps at)
 
-pub run_length_is : (disk : Disk) (ps : List Pair) (P : Path) (a : ℕ × ℕ) (first : ℕ) → IsAcceptedImage disk ps → IsPathToDirectory ps P a → IsPairAtAddress ps a first → hard_tail_joined_pair_count (drop first ps) ≡ pair_count_of_directory_at ps P
+pub run_length_is : (disk : Disk) (ps : List Pair) (P : Path) (a : ℕ × ℕ) (first : ℕ) → IsAccepted disk ps → LeadsTo ps P a → IsPairAt ps a first → joined_count (drop first ps) ≡ pair_count_at ps P
 run_length_is disk ps P a first ok leads b =
     let i = begins_directory disk ps P a first ok leads b in
     let d = i.directory in
@@ -137,10 +137,10 @@ run_length_is disk ps P a first ok leads b =
     = e.0 ∙ ap (λ z. take (pair_count_before_root ps) ps ++ z) d.is ∙ sym (append_assoc (take (pair_count_before_root ps) ps) d.before (d.first ∷ (d.run ++ d.after))) in
     let many : length (take (pair_count_before_root ps) ps) ≡ pair_count_before_root ps = sym (ap pair_count_before_root e.0 ∙ e.1) in
     let at_first : first ≡ length (take (pair_count_before_root ps) ps ++ d.before) = omega (arith, i.number, length-append (take (pair_count_before_root ps) ps) d.before, many) in
-    ap (λ z. hard_tail_joined_pair_count (drop first z)) whole
-    ∙ ap hard_tail_joined_pair_count (drop_behind (take (pair_count_before_root ps) ps ++ d.before) (d.first ∷ (d.run ++ d.after)) first at_first)
+    ap (λ z. joined_count (drop first z)) whole
+    ∙ ap joined_count (drop_behind (take (pair_count_before_root ps) ps ++ d.before) (d.first ∷ (d.run ++ d.after)) first at_first)
     ∙ length_run d.first d.run d.after d.is_run
-    ∙ sym (ap (count_at ps) leads ∙ ap length (directory_pairs_at disk ps P a ok leads d))
+    ∙ sym (ap (count_at ps) leads ∙ ap length (pairs_at disk ps P a ok leads d))
 
 -- ---- lists
 
@@ -172,9 +172,9 @@ run_parts (r ∷ q ∷ run) (l ∷ left) pair rest after some is joined e =
 record Goes (pair : Pair) (ys later : List Pair) : Type 0 where
   more : List Pair
   is : ys ≡ later ++ more
-  last : last_pair_has_hard_tail pair later ≡ false → more ≡ []
+  last : last_joins pair later ≡ false → more ≡ []
 
-goes : (pair : Pair) (ys later rest after : List Pair) → IsRun (pair ∷ ys) → HaveHardTailsButLast pair later → later ++ rest ≡ ys ++ after → Goes pair ys later
+goes : (pair : Pair) (ys later rest after : List Pair) → IsRun (pair ∷ ys) → AreJoined pair later → later ++ rest ≡ ys ++ after → Goes pair ys later
 goes pair [] [] rest after is runs e = record { more = []; is = refl; last = λ k. refl }
 goes pair (y ∷ ys) [] rest after is runs e = record { more = y ∷ ys; is = refl; last = λ k. absurd (let j = is.0 in cc) }
 goes pair [] (q ∷ later) rest after is runs e = absurd (let j = runs.0 in cc)
@@ -185,15 +185,15 @@ goes pair (y ∷ ys) (q ∷ later) rest after is runs e =
 
 -- ---- the site
 
-module _ (disk : Disk) (ps : List Pair) (P : Path) (a : ℕ × ℕ) (ok : IsAcceptedImage disk ps) (leads : IsPathToDirectory ps P a) (first index : ℕ) (pair : Pair) (rest : List Pair) (b : IsPairOfDirectory ps first index pair rest)
-    (begins : IsPairAtAddress ps a first) where
+module _ (disk : Disk) (ps : List Pair) (P : Path) (a : ℕ × ℕ) (ok : IsAccepted disk ps) (leads : LeadsTo ps P a) (first index : ℕ) (pair : Pair) (rest : List Pair) (b : IsPairOfDirectory ps first index pair rest)
+    (begins : IsPairAt ps a first) where
   abbrev chain : List Pair
   chain = take (pair_count_before_root ps) ps
 
   pub begun : IsDirectory ps a first
   begun = begins_directory disk ps P a first ok leads begins
 
-  abbrev d : HasDirectory (pairs_from_root_directory_on ps) a
+  abbrev d : HasDirectory (pairs_from_root ps) a
   d = begun.directory
 
   chain_length : length chain ≡ pair_count_before_root ps
@@ -215,8 +215,8 @@ module _ (disk : Disk) (ps : List Pair) (P : Path) (a : ℕ × ℕ) (ok : IsAcce
   pub site : Site
   site = record { chain = chain; before = d.before; left = b.left; right = parted.ys; after = d.after }
 
-  in_directory : IsInDirectory chain (pairs_from_root_directory_on ps) a pair (record { chain = chain; before = d.before; left = b.left; right = parted.ys; after = d.after })
-  in_directory = site_in_directory chain (pairs_from_root_directory_on ps) a (chain_of_thread ps).1 d b.left pair parted.ys parted.is
+  in_directory : IsInDirectory chain (pairs_from_root ps) a pair (record { chain = chain; before = d.before; left = b.left; right = parted.ys; after = d.after })
+  in_directory = site_in_directory chain (pairs_from_root ps) a (chain_of_thread ps).1 d b.left pair parted.ys parted.is
 
   pub thread_is : ps ≡ thread_at site (pair ∷ [])
   unfolding site
@@ -236,15 +236,15 @@ module _ (disk : Disk) (ps : List Pair) (P : Path) (a : ℕ × ℕ) (ok : IsAcce
 
 -- ---- a name that stands there
 
-pub slot_of_stands : (disk : Disk) (ps : List Pair) (P : Path) (a : ℕ × ℕ) (ok : IsAcceptedImage disk ps) (leads : IsPathToDirectory ps P a) (first index id : ℕ) (name : Name) → HasNoMove (gstate_of_pairs ps)
-    → (s : IsPlaceOfNameInDirectory ps first name index id) → IsPairAtAddress ps a first → slot_of_path ps (P ++ name ∷ []) ≡ Some s.stands.slot
+pub slot_of_stands : (disk : Disk) (ps : List Pair) (P : Path) (a : ℕ × ℕ) (ok : IsAccepted disk ps) (leads : LeadsTo ps P a) (first index id : ℕ) (name : Name) → HasNoMove (pairs_gstate ps)
+    → (s : IsPlaceOf ps first name index id) → IsPairAt ps a first → slot_of ps (P ++ name ∷ []) ≡ Some s.stands.slot
 slot_of_stands disk ps P a ok leads first index id name none s begins =
     let w = site disk ps P a ok leads first index s.pair s.rest s.place begins in
     let is = thread_is disk ps P a ok leads first index s.pair s.rest s.place begins in
-    subst (λ z. slot_of_path ps (P ++ z ∷ []) ≡ Some s.stands.slot) s.stands.named
-    (subst (λ z. slot_of_path z (P ++ s.stands.slot.name ∷ []) ≡ Some s.stands.slot) (sym is)
-    (slot_found disk w s.pair s.stands.left s.stands.slot s.stands.right P a (subst (IsAcceptedImage disk) is ok) (is_site disk ps P a ok leads first index s.pair s.rest s.place begins)
-    (subst (λ z. HasNoMove (gstate_of_pairs z)) is none) (subst (λ z. IsPathToDirectory z P a) is leads) (same disk ps P a ok leads first index s.pair s.rest s.place begins) s.stands.held s.stands.entry))
+    subst (λ z. slot_of ps (P ++ z ∷ []) ≡ Some s.stands.slot) s.stands.named
+    (subst (λ z. slot_of z (P ++ s.stands.slot.name ∷ []) ≡ Some s.stands.slot) (sym is)
+    (slot_found disk w s.pair s.stands.left s.stands.slot s.stands.right P a (subst (IsAccepted disk) is ok) (is_site disk ps P a ok leads first index s.pair s.rest s.place begins)
+    (subst (λ z. HasNoMove (pairs_gstate z)) is none) (subst (λ z. LeadsTo z P a) is leads) (same disk ps P a ok leads first index s.pair s.rest s.place begins) s.stands.held s.stands.entry))
 
 -- ---- a name that belongs there
 
@@ -259,8 +259,8 @@ last_of [] n = absurd (n refl)
 last_of (x ∷ []) n = record { front = []; last = x; is = refl }
 last_of (x ∷ y ∷ xs) n = let l = last_of (y ∷ xs) (λ e. absurd (cc)) in record { front = x ∷ l.front; last = l.last; is = ap (λ z. x ∷ z) l.is }
 
-module _ (disk : Disk) (ps : List Pair) (P : Path) (a : ℕ × ℕ) (ok : IsAcceptedImage disk ps) (leads : IsPathToDirectory ps P a) (first index id : ℕ) (name : Name) (none : HasNoMove (gstate_of_pairs ps))
-    (b : IsPlaceWhereNameBelongs disk.order ps first name index id) (begins : IsPairAtAddress ps a first) where
+module _ (disk : Disk) (ps : List Pair) (P : Path) (a : ℕ × ℕ) (ok : IsAccepted disk ps) (leads : LeadsTo ps P a) (first index id : ℕ) (name : Name) (none : HasNoMove (pairs_gstate ps))
+    (b : BelongsAt disk.order ps first name index id) (begins : IsPairAt ps a first) where
   abbrev at_site : Site
   at_site = site disk ps P a ok leads first index b.pair (b.later ++ b.rest) b.place begins
 
@@ -273,10 +273,10 @@ module _ (disk : Disk) (ps : List Pair) (P : Path) (a : ℕ × ℕ) (ok : IsAcce
       let p = parted disk ps P a ok leads first index b.pair (b.later ++ b.rest) b.place begins in
       goes b.pair p.ys b.later b.rest (begun disk ps P a ok leads first index b.pair (b.later ++ b.rest) b.place begins).directory.after p.runs b.runs p.rest_is
 
-  shows : entries_by_directory_in_thread ps a ≡ shown_before at_site b.left ++ shown_behind at_site b.right
-  shows = ap (λ z. entries_by_directory_in_thread z a) whole
-      ∙ site_shows disk at_site b.pair b.left [] b.right a (subst (IsAcceptedImage disk) whole ok) (is_site disk ps P a ok leads first index b.pair (b.later ++ b.rest) b.place begins)
-      (subst (λ z. HasNoMove (gstate_of_pairs z)) whole none) (same disk ps P a ok leads first index b.pair (b.later ++ b.rest) b.place begins) b.held
+  shows : all_entries ps a ≡ shown_before at_site b.left ++ shown_behind at_site b.right
+  shows = ap (λ z. all_entries z a) whole
+      ∙ site_shows disk at_site b.pair b.left [] b.right a (subst (IsAccepted disk) whole ok) (is_site disk ps P a ok leads first index b.pair (b.later ++ b.rest) b.place begins)
+      (subst (λ z. HasNoMove (pairs_gstate z)) whole none) (same disk ps P a ok leads first index b.pair (b.later ++ b.rest) b.place begins) b.held
 
   rises : Rise disk.order (shown_before at_site b.left ++ shown_behind at_site b.right)
   rises = subst (Rise disk.order) shows (ok.order P a leads)
@@ -288,16 +288,16 @@ module _ (disk : Disk) (ps : List Pair) (P : Path) (a : ℕ × ℕ) (ok : IsAcce
   less : Each (λ s. name_cmp disk.order s.name name ≡ Less) (shown_before at_site b.left)
   less = go b.not_before
     where
-      before_is : slots_without_superblock (slots_of_pairs_in_order at_site.left ++ b.left) ≡ slots_without_superblock (slots_of_pairs_in_order at_site.left) ++ slots_without_superblock b.left
-      before_is = filter-append (λ (s : Slot). not (is_superblock s)) (slots_of_pairs_in_order at_site.left) b.left
+      before_is : entry_slots (all_slots at_site.left ++ b.left) ≡ entry_slots (all_slots at_site.left) ++ entry_slots b.left
+      before_is = filter-append (λ (s : Slot). not (is_superblock s)) (all_slots at_site.left) b.left
 
-      go : (b.place.left ≡ []) ⊎ (slots_without_superblock b.left ≢ []) → Each (λ s. name_cmp disk.order s.name name ≡ Less) (slots_without_superblock (slots_of_pairs_in_order at_site.left ++ b.left))
-      go (inl e) = subst (λ (z : List Pair). Each (λ s. name_cmp disk.order s.name name ≡ Less) (slots_without_superblock (slots_of_pairs_in_order z ++ b.left))) (sym (left_is ∙ e)) b.less
+      go : (b.place.left ≡ []) ⊎ (entry_slots b.left ≢ []) → Each (λ s. name_cmp disk.order s.name name ≡ Less) (entry_slots (all_slots at_site.left ++ b.left))
+      go (inl e) = subst (λ (z : List Pair). Each (λ s. name_cmp disk.order s.name name ≡ Less) (entry_slots (all_slots z ++ b.left))) (sym (left_is ∙ e)) b.less
       go (inr n) =
-          let l = last_of (slots_without_superblock b.left) n in
-          let f = slots_without_superblock (slots_of_pairs_in_order at_site.left) in
+          let l = last_of (entry_slots b.left) n in
+          let f = entry_slots (all_slots at_site.left) in
           let last = each_right (λ s. name_cmp disk.order s.name name ≡ Less) l.front (l.last ∷ []) (subst (Each (λ s. name_cmp disk.order s.name name ≡ Less)) l.is b.less) in
-          let are : slots_without_superblock (slots_of_pairs_in_order at_site.left ++ b.left) ≡ (f ++ l.front) ++ l.last ∷ [] = before_is ∙ ap (λ z. f ++ z) l.is ∙ sym (append_assoc f l.front (l.last ∷ [])) in
+          let are : entry_slots (all_slots at_site.left ++ b.left) ≡ (f ++ l.front) ++ l.last ∷ [] = before_is ∙ ap (λ z. f ++ z) l.is ∙ sym (append_assoc f l.front (l.last ∷ [])) in
           let up : Rise disk.order ((f ++ l.front) ++ l.last ∷ shown_behind at_site b.right) =
           subst (Rise disk.order) (ap (λ z. z ++ shown_behind at_site b.right) are ∙ append_assoc (f ++ l.front) (l.last ∷ []) (shown_behind at_site b.right)) rises in
           subst (Each (λ s. name_cmp disk.order s.name name ≡ Less)) (sym are)
@@ -306,26 +306,26 @@ module _ (disk : Disk) (ps : List Pair) (P : Path) (a : ℕ × ℕ) (ok : IsAcce
   greater : Each (λ s. name_cmp disk.order name s.name ≡ Less) (shown_behind at_site b.right)
   greater = go b.not_behind
     where
-      behind_is : slots_without_superblock (b.right ++ slots_of_pairs_in_order at_site.right) ≡ slots_without_superblock (b.right ++ slots_of_pairs_in_order b.later) ++ slots_without_superblock (slots_of_pairs_in_order goes_there.more)
-      behind_is = ap (λ z. slots_without_superblock (b.right ++ slots_of_pairs_in_order z)) goes_there.is
-          ∙ ap (λ z. slots_without_superblock (b.right ++ z)) (flat_map-append (λ (p : Pair). p.content.slots) b.later goes_there.more)
-          ∙ ap slots_without_superblock (sym (append_assoc b.right (slots_of_pairs_in_order b.later) (slots_of_pairs_in_order goes_there.more)))
-          ∙ filter-append (λ (s : Slot). not (is_superblock s)) (b.right ++ slots_of_pairs_in_order b.later) (slots_of_pairs_in_order goes_there.more)
+      behind_is : entry_slots (b.right ++ all_slots at_site.right) ≡ entry_slots (b.right ++ all_slots b.later) ++ entry_slots (all_slots goes_there.more)
+      behind_is = ap (λ z. entry_slots (b.right ++ all_slots z)) goes_there.is
+          ∙ ap (λ z. entry_slots (b.right ++ z)) (flat_map-append (λ (p : Pair). p.content.slots) b.later goes_there.more)
+          ∙ ap entry_slots (sym (append_assoc b.right (all_slots b.later) (all_slots goes_there.more)))
+          ∙ filter-append (λ (s : Slot). not (is_superblock s)) (b.right ++ all_slots b.later) (all_slots goes_there.more)
 
-      go : HasFirstSlotGreaterName disk.order name (slots_without_superblock (b.right ++ slots_of_pairs_in_order b.later)) ⊎ ((slots_without_superblock (b.right ++ slots_of_pairs_in_order b.later) ≡ []) × (last_pair_has_hard_tail b.pair b.later ≡ false)) →
-          Each (λ s. name_cmp disk.order name s.name ≡ Less) (slots_without_superblock (b.right ++ slots_of_pairs_in_order at_site.right))
+      go : FirstIsGreater disk.order name (entry_slots (b.right ++ all_slots b.later)) ⊎ ((entry_slots (b.right ++ all_slots b.later) ≡ []) × (last_joins b.pair b.later ≡ false)) →
+          Each (λ s. name_cmp disk.order name s.name ≡ Less) (entry_slots (b.right ++ all_slots at_site.right))
       go (inl begins) =
-          let are : slots_without_superblock (b.right ++ slots_of_pairs_in_order at_site.right) ≡ begins.first ∷ (begins.rest ++ slots_without_superblock (slots_of_pairs_in_order goes_there.more)) =
-          behind_is ∙ ap (λ z. z ++ slots_without_superblock (slots_of_pairs_in_order goes_there.more)) begins.are in
+          let are : entry_slots (b.right ++ all_slots at_site.right) ≡ begins.first ∷ (begins.rest ++ entry_slots (all_slots goes_there.more)) =
+          behind_is ∙ ap (λ z. z ++ entry_slots (all_slots goes_there.more)) begins.are in
           subst (Each (λ s. name_cmp disk.order name s.name ≡ Less)) (sym are) (
             begins.above,
-            greater_behind disk.order begins.first (begins.rest ++ slots_without_superblock (slots_of_pairs_in_order goes_there.more)) name
-                (rise_right disk.order (shown_before at_site b.left) (begins.first ∷ (begins.rest ++ slots_without_superblock (slots_of_pairs_in_order goes_there.more))) (subst (λ z. Rise disk.order (shown_before at_site b.left ++ z)) are rises)) begins.above,
+            greater_behind disk.order begins.first (begins.rest ++ entry_slots (all_slots goes_there.more)) name
+                (rise_right disk.order (shown_before at_site b.left) (begins.first ∷ (begins.rest ++ entry_slots (all_slots goes_there.more))) (subst (λ z. Rise disk.order (shown_before at_site b.left ++ z)) are rises)) begins.above,
           )
       go (inr (nothing, last)) =
-          subst (Each (λ s. name_cmp disk.order name s.name ≡ Less)) (sym (behind_is ∙ ap₂ (λ x (y : List Pair). x ++ slots_without_superblock (slots_of_pairs_in_order y)) nothing (goes_there.last last))) tt
+          subst (Each (λ s. name_cmp disk.order name s.name ≡ Less)) (sym (behind_is ∙ ap₂ (λ x (y : List Pair). x ++ entry_slots (all_slots y)) nothing (goes_there.last last))) tt
 
-  pub place_of_belongs : IsPlace disk.order (entries_by_directory_in_thread ps a) (place_at at_site b.left) name
+  pub place_of_belongs : IsPlace disk.order (all_entries ps a) (place_at at_site b.left) name
   place_of_belongs = subst (λ z. IsPlace disk.order z (place_at at_site b.left) name) (sym shows) (place_between (shown_before at_site b.left) (shown_behind at_site b.right) name less greater)
 
 -- ---- where no superblock stands
@@ -339,8 +339,8 @@ each_dropped P (suc m) (suc n) [] l h = tt
 each_dropped P (suc m) (suc n) (p ∷ ps) l h = each_dropped P m n ps (omega arith) h
 
 -- after the first pair of a directory
-pub plain_behind : (disk : Disk) (ps : List Pair) (first : ℕ) → IsAcceptedImage disk ps → pair_count_before_root ps ≤ first → ArePairsWithoutSuperblock (drop (first + 1) ps)
+pub plain_behind : (disk : Disk) (ps : List Pair) (first : ℕ) → IsAccepted disk ps → pair_count_before_root ps ≤ first → AreEntryPairs (drop (first + 1) ps)
 plain_behind disk ps first ok low =
-    each_weaker (λ (p : Pair). All IsFileOrDirectoryEntry p.content.slots) (λ (p : Pair). Each (λ s. is_superblock s ≡ false) p.content.slots)
-    (λ p h. each_weaker IsFileOrDirectoryEntry (λ s. is_superblock s ≡ false) entry_is_other p.content.slots (recursion_from_All IsFileOrDirectoryEntry p.content.slots h)) (drop (first + 1) ps)
-    (each_dropped (λ (p : Pair). All IsFileOrDirectoryEntry p.content.slots) (pair_count_before_root ps + 1) (first + 1) ps (omega arith) (recursion_from_All (λ (p : Pair). All IsFileOrDirectoryEntry p.content.slots) (drop (pair_count_before_root ps + 1) ps) ok.slots))
+    each_weaker (λ (p : Pair). All IsTreeEntry p.content.slots) (λ (p : Pair). Each (λ s. is_superblock s ≡ false) p.content.slots)
+    (λ p h. each_weaker IsTreeEntry (λ s. is_superblock s ≡ false) entry_is_other p.content.slots (recursion_from_All IsTreeEntry p.content.slots h)) (drop (first + 1) ps)
+    (each_dropped (λ (p : Pair). All IsTreeEntry p.content.slots) (pair_count_before_root ps + 1) (first + 1) ps (omega arith) (recursion_from_All (λ (p : Pair). All IsTreeEntry p.content.slots) (drop (pair_count_before_root ps + 1) ps) ok.slots))

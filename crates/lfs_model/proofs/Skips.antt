@@ -3,8 +3,8 @@ use Rattle.std.proofs.Common.{ℕ, zero, suc, ◌≡◌, ◌<◌, ◌*◌, ◌-�
 use Rattle.std.specs.Prelude.{slice_index, nat_lt, nat_le}
 use Rattle.std.specs.List.{list_all}
 use Rattle.std.proofs.lemmas.Bool.{and_parts, and_from, cases_lt}
-use Rattle.lfs_model.specs.Blocks.{Blocks, block_bytes_by_number}
-use Rattle.lfs_model.specs.SkipLists.{word_at_offset, pointer_count_of_list_block, list_block_count_for_size, list_blocks_from_head, IsSkipList}
+use Rattle.lfs_model.specs.format.Blocks.{Blocks, block_bytes}
+use Rattle.lfs_model.specs.format.SkipLists.{word_at, pointer_count, block_count_for, blocks_to_head, IsSkipList}
 use Rattle.lfs_model.proofs.Acceptance.{all_from, all_to, are_apart, distinct_from, apart_from}
 
 -- the test passes below a number
@@ -22,20 +22,20 @@ below_from p (suc n) e i l =
     ]
 
 abbrev points : Blocks → List ℕ → ℕ → ℕ → Bool
-points disk bs i k = word_at_offset (block_bytes_by_number disk (slice_index bs i)) (4 * k) == slice_index bs (i - 2 ^ k)
+points disk bs i k = word_at (block_bytes disk (slice_index bs i)) (4 * k) == slice_index bs (i - 2 ^ k)
 
 abbrev pub is_list : Blocks → ℕ → ℕ → ℕ → Bool
 is_list disk block_size head size =
     nat_le 1 size && (nat_lt size (2 ^ 31)
-    && (list_all (λ b. nat_lt b (length disk)) (list_blocks_from_head disk (list_block_count_for_size block_size size) head)
-    && (are_apart (list_blocks_from_head disk (list_block_count_for_size block_size size) head)
-    && all_below (λ i. all_below (points disk (list_blocks_from_head disk (list_block_count_for_size block_size size) head) i) (pointer_count_of_list_block i)) (list_block_count_for_size block_size size))))
+    && (list_all (λ b. nat_lt b (length disk)) (blocks_to_head disk (block_count_for block_size size) head)
+    && (are_apart (blocks_to_head disk (block_count_for block_size size) head)
+    && all_below (λ i. all_below (points disk (blocks_to_head disk (block_count_for block_size size) head) i) (pointer_count i)) (block_count_for block_size size))))
 
 pub list_from : (disk : Blocks) (block_size head size : ℕ) → is_list disk block_size head size ≡ true → IsSkipList disk block_size head size
 list_from disk block_size head size e =
-    let n = list_block_count_for_size block_size size in
-    let bs = list_blocks_from_head disk n head in
-    let pointers = all_below (λ i. all_below (points disk bs i) (pointer_count_of_list_block i)) n in
+    let n = block_count_for block_size size in
+    let bs = blocks_to_head disk n head in
+    let pointers = all_below (λ i. all_below (points disk bs i) (pointer_count i)) n in
     let one = and_parts (nat_le 1 size) (nat_lt size (2 ^ 31) && (list_all (λ b. nat_lt b (length disk)) bs && (are_apart bs && pointers))) e in
     let two = and_parts (nat_lt size (2 ^ 31)) (list_all (λ b. nat_lt b (length disk)) bs && (are_apart bs && pointers)) one.1 in
     let three = and_parts (list_all (λ b. nat_lt b (length disk)) bs) (are_apart bs && pointers) two.1 in
@@ -47,8 +47,8 @@ list_from disk block_size head size e =
         in_range = all_from (λ b. nat_lt b (length disk)) (λ b. b < length disk) (λ b. ltb-true b (length disk)) bs three.0;
         distinct = distinct_from bs four.0;
         pointers = λ i k l m.
-            let here = below_from (λ i. all_below (points disk bs i) (pointer_count_of_list_block i)) n four.1 i l in
-            eqb-true (word_at_offset (block_bytes_by_number disk (slice_index bs i)) (4 * k)) (slice_index bs (i - 2 ^ k)) (below_from (points disk bs i) (pointer_count_of_list_block i) here k m);
+            let here = below_from (λ i. all_below (points disk bs i) (pointer_count i)) n four.1 i l in
+            eqb-true (word_at (block_bytes disk (slice_index bs i)) (4 * k)) (slice_index bs (i - 2 ^ k)) (below_from (points disk bs i) (pointer_count i) here k m);
       };
     }
 
@@ -58,10 +58,10 @@ below_to p (suc n) h = and_from (p n) (all_below p n) (h n (omega arith)) (below
 
 pub list_to : (disk : Blocks) (block_size head size : ℕ) → IsSkipList disk block_size head size → is_list disk block_size head size ≡ true
 list_to disk block_size head size h =
-    let n = list_block_count_for_size block_size size in
-    let bs = list_blocks_from_head disk n head in
+    let n = block_count_for block_size size in
+    let bs = blocks_to_head disk n head in
     and_from _ _ (le-leb 1 size h.size_low) (and_from _ _ (lt-ltb size (2 ^ 31) h.size_high)
     (and_from _ _ (all_to (λ b. nat_lt b (length disk)) (λ b. b < length disk) (λ b. lt-ltb b (length disk)) bs h.blocks.in_range)
     (and_from _ _ (apart_from bs h.blocks.distinct)
-    (below_to (λ i. all_below (points disk bs i) (pointer_count_of_list_block i)) n
-    (λ i l. below_to (points disk bs i) (pointer_count_of_list_block i) (λ k m. eq-eqb (word_at_offset (block_bytes_by_number disk (slice_index bs i)) (4 * k)) (slice_index bs (i - 2 ^ k)) (h.blocks.pointers i k l m)))))))
+    (below_to (λ i. all_below (points disk bs i) (pointer_count i)) n
+    (λ i l. below_to (points disk bs i) (pointer_count i) (λ k m. eq-eqb (word_at (block_bytes disk (slice_index bs i)) (4 * k)) (slice_index bs (i - 2 ^ k)) (h.blocks.pointers i k l m)))))))

@@ -6,34 +6,34 @@ use Rattle.std.proofs.lemmas.Bool.{and_parts, not-true, or_parts, lt-ltb, leb-tr
 use Rattle.std.proofs.lemmas.List.{append-nil}
 use Rattle.std.proofs.lemmas.List.Sums.{AllPass-from_list_all}
 use Rattle.std.proofs.lemmas.List.Splits.{slice_split_none, slice_split_at}
-use Rattle.lfs_model.specs.Names.{Name, is_path_component, slash_byte}
-use Rattle.lfs_model.specs.Tree.{Path}
-use Rattle.lfs_model.specs.Operations.{path_of_bytes, path_bytes}
+use Rattle.lfs_model.specs.format.Names.{Name, is_component, slash_byte}
+use Rattle.lfs_model.specs.tree.Tree.{Path}
+use Rattle.lfs_model.specs.session.Operations.{parse_path, path_bytes}
 
 abbrev is_slash : ℕ → Bool
 is_slash c = c == slash_byte
 
 -- what a component is, in parts
-has_bytes : (name : Name) → is_path_component name ≡ true → 1 ≤ length name
+has_bytes : (name : Name) → is_component name ≡ true → 1 ≤ length name
 has_bytes name h =
     let e : nat_le 1 (length name) ≡ true = (and_parts _ _ (and_parts _ _ (and_parts _ _ h).0).0).0 in
     leb-true 1 (length name) e
 
-no_slash : (name : Name) → is_path_component name ≡ true → All (λ c. is_slash c ≡ false) name
+no_slash : (name : Name) → is_component name ≡ true → All (λ c. is_slash c ≡ false) name
 no_slash name h k d below =
     let e = AllPass-from_list_all (λ b. not (b == 0 || b == slash_byte)) name (and_parts _ _ (and_parts _ _ (and_parts _ _ h).0).0).1 k d below in
     (or_parts _ _ (not-true _ e)).1
 
-split : (name : Name) (rest : Path) → list_all is_path_component (name ∷ rest) ≡ true → slice_split is_slash (name ++ path_bytes rest) ≡ name ∷ rest
+split : (name : Name) (rest : Path) → list_all is_component (name ∷ rest) ≡ true → slice_split is_slash (name ++ path_bytes rest) ≡ name ∷ rest
 split name [] h = ap (slice_split is_slash) (append-nil name) ∙ slice_split_none is_slash name (no_slash name (and_parts _ _ h).0)
 split name (next ∷ rest) h =
     slice_split_at is_slash name slash_byte (next ++ path_bytes rest) (no_slash name (and_parts _ _ h).0) refl
     ∙ ap (λ xs. name ∷ xs) (split next rest (and_parts _ _ h).1)
 
-pub spelled : (name : Name) (rest : Path) → list_all is_path_component (name ∷ rest) ≡ true → path_of_bytes (path_bytes (name ∷ rest)) ≡ Some (name ∷ rest)
+pub spelled : (name : Name) (rest : Path) → list_all is_component (name ∷ rest) ≡ true → parse_path (path_bytes (name ∷ rest)) ≡ Some (name ∷ rest)
 spelled name rest h =
-    ap (λ b. cond b (cond (list_all is_path_component (slice_split is_slash (name ++ path_bytes rest))) (Some (slice_split is_slash (name ++ path_bytes rest))) None) (Some [])) long
-    ∙ ap (λ (xs : Path). cond (list_all is_path_component xs) (Some xs) None) (split name rest h)
+    ap (λ b. cond b (cond (list_all is_component (slice_split is_slash (name ++ path_bytes rest))) (Some (slice_split is_slash (name ++ path_bytes rest))) None) (Some [])) long
+    ∙ ap (λ (xs : Path). cond (list_all is_component xs) (Some xs) None) (split name rest h)
     ∙ ap (λ b. cond b (Some (name ∷ rest)) None) h
   where
     long : nat_lt 0 (length (name ++ path_bytes rest)) ≡ true

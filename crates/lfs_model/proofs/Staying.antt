@@ -3,11 +3,11 @@ use Rattle.std.specs.Prelude.{All}
 use Rattle.std.proofs.Common.{ℕ, ◌≡◌, ◌≢◌, List, get_or, ap, ap₂}
 use Rattle.std.specs.Option.{option_and_then}
 use Rattle.std.proofs.lemmas.List.Elements.{recursion_from_All}
-use Rattle.lfs_model.specs.Blocks.{Blocks, AreBlocksEqualExceptThese, block_bytes_by_number}
-use Rattle.lfs_model.specs.Disk.{Disk, block_bytes_on_disk}
-use Rattle.lfs_model.specs.Log.{log_entries_of_block}
-use Rattle.lfs_model.specs.Content.{current_block_of_two, current_block_of_pair_at, raw_content_of_pair_at, content_after_log_entries, empty_raw_pair_content}
-use Rattle.lfs_model.specs.SkipLists.{list_block_count_for_size, list_blocks_from_head, IsSkipList, bytes_of_skip_list}
+use Rattle.lfs_model.specs.format.Blocks.{Blocks, SameExceptThese, block_bytes}
+use Rattle.lfs_model.specs.format.Disk.{Disk, disk_block}
+use Rattle.lfs_model.specs.format.Log.{block_entries}
+use Rattle.lfs_model.specs.format.Content.{current_of_two, current_block, raw_content, content_after, empty_raw_content}
+use Rattle.lfs_model.specs.format.SkipLists.{block_count_for, blocks_to_head, IsSkipList, list_bytes}
 use Rattle.lfs_model.proofs.Files.{Same, list_same, bytes_same}
 
 -- ---- at an address
@@ -19,26 +19,26 @@ pub record AreElsewhere (at : ℕ × ℕ) (bs : List ℕ) : Type 0 where
 
 -- both blocks of a pair are the same on two disks
 pub record IsSameAt (disk new : Disk) (at : ℕ × ℕ) : Type 0 where
-  pub first : block_bytes_on_disk new at.0 ≡ block_bytes_on_disk disk at.0
-  pub second : block_bytes_on_disk new at.1 ≡ block_bytes_on_disk disk at.1
+  pub first : disk_block new at.0 ≡ disk_block disk at.0
+  pub second : disk_block new at.1 ≡ disk_block disk at.1
 
-pub same_elsewhere : {at : ℕ × ℕ} {bs : List ℕ} (disk new : Disk) → AreElsewhere at bs → AreBlocksEqualExceptThese bs disk.blocks new.blocks → IsSameAt disk new at
+pub same_elsewhere : {at : ℕ × ℕ} {bs : List ℕ} (disk new : Disk) → AreElsewhere at bs → SameExceptThese bs disk.blocks new.blocks → IsSameAt disk new at
 same_elsewhere {at} disk new elsewhere same = record { first = same.others at.0 elsewhere.first; second = same.others at.1 elsewhere.second }
 
-pub holder_same : {at : ℕ × ℕ} {disk new : Disk} → IsSameAt disk new at → current_block_of_pair_at new at ≡ current_block_of_pair_at disk at
-holder_same {at} {disk} {new} same = ap₂ current_block_of_two same.first same.second
+pub holder_same : {at : ℕ × ℕ} {disk new : Disk} → IsSameAt disk new at → current_block new at ≡ current_block disk at
+holder_same {at} {disk} {new} same = ap₂ current_of_two same.first same.second
 
-pub raw_same : {at : ℕ × ℕ} {disk new : Disk} → IsSameAt disk new at → raw_content_of_pair_at new at ≡ raw_content_of_pair_at disk at
-raw_same same = ap (option_and_then (λ block. content_after_log_entries empty_raw_pair_content (log_entries_of_block block))) (holder_same same)
+pub raw_same : {at : ℕ × ℕ} {disk new : Disk} → IsSameAt disk new at → raw_content new at ≡ raw_content disk at
+raw_same same = ap (option_and_then (λ block. content_after empty_raw_content (block_entries block))) (holder_same same)
 
 -- with other blocks changed
-pub current_block_of_pair_at-stays : {at : ℕ × ℕ} {bs : List ℕ} (disk : Disk) {blocks : Blocks} → AreElsewhere at bs → AreBlocksEqualExceptThese bs disk.blocks blocks
-    → current_block_of_pair_at (record disk { blocks = blocks }) at ≡ current_block_of_pair_at disk at
-current_block_of_pair_at-stays disk {blocks} elsewhere same = holder_same (same_elsewhere disk (record disk { blocks = blocks }) elsewhere same)
+pub current_block-stays : {at : ℕ × ℕ} {bs : List ℕ} (disk : Disk) {blocks : Blocks} → AreElsewhere at bs → SameExceptThese bs disk.blocks blocks
+    → current_block (record disk { blocks = blocks }) at ≡ current_block disk at
+current_block-stays disk {blocks} elsewhere same = holder_same (same_elsewhere disk (record disk { blocks = blocks }) elsewhere same)
 
-pub raw_content_of_pair_at-stays : {at : ℕ × ℕ} {bs : List ℕ} (disk : Disk) {blocks : Blocks} → AreElsewhere at bs → AreBlocksEqualExceptThese bs disk.blocks blocks
-    → raw_content_of_pair_at (record disk { blocks = blocks }) at ≡ raw_content_of_pair_at disk at
-raw_content_of_pair_at-stays disk {blocks} elsewhere same = raw_same (same_elsewhere disk (record disk { blocks = blocks }) elsewhere same)
+pub raw_content-stays : {at : ℕ × ℕ} {bs : List ℕ} (disk : Disk) {blocks : Blocks} → AreElsewhere at bs → SameExceptThese bs disk.blocks blocks
+    → raw_content (record disk { blocks = blocks }) at ≡ raw_content disk at
+raw_content-stays disk {blocks} elsewhere same = raw_same (same_elsewhere disk (record disk { blocks = blocks }) elsewhere same)
 
 -- ---- a list
 
@@ -46,12 +46,12 @@ raw_content_of_pair_at-stays disk {blocks} elsewhere same = raw_same (same_elsew
 abbrev pub AreApart : List ℕ → List ℕ → Type 0
 AreApart own bs = All (λ c. All (λ b. b ≢ c) bs) own
 
-pub same_apart : (own : List ℕ) {bs : List ℕ} (old new : Blocks) → AreApart own bs → AreBlocksEqualExceptThese bs old new → Same old new own
-same_apart own old new apart same = recursion_from_All (λ b. block_bytes_by_number new b ≡ block_bytes_by_number old b) own (λ k x l. same.others (get_or own k x) (apart k x l))
+pub same_apart : (own : List ℕ) {bs : List ℕ} (old new : Blocks) → AreApart own bs → SameExceptThese bs old new → Same old new own
+same_apart own old new apart same = recursion_from_All (λ b. block_bytes new b ≡ block_bytes old b) own (λ k x l. same.others (get_or own k x) (apart k x l))
 
-module _ (old new : Blocks) (bs : List ℕ) (same : AreBlocksEqualExceptThese bs old new) where
-  pub list-stays : (block_size head size : ℕ) → AreApart (list_blocks_from_head old (list_block_count_for_size block_size size) head) bs → IsSkipList old block_size head size → IsSkipList new block_size head size
-  list-stays block_size head size apart ok = list_same old new block_size head size same.count (same_apart (list_blocks_from_head old (list_block_count_for_size block_size size) head) old new apart same) ok
+module _ (old new : Blocks) (bs : List ℕ) (same : SameExceptThese bs old new) where
+  pub list-stays : (block_size head size : ℕ) → AreApart (blocks_to_head old (block_count_for block_size size) head) bs → IsSkipList old block_size head size → IsSkipList new block_size head size
+  list-stays block_size head size apart ok = list_same old new block_size head size same.count (same_apart (blocks_to_head old (block_count_for block_size size) head) old new apart same) ok
 
-  pub bytes-stay : (block_size head size : ℕ) → AreApart (list_blocks_from_head old (list_block_count_for_size block_size size) head) bs → bytes_of_skip_list new block_size head size ≡ bytes_of_skip_list old block_size head size
-  bytes-stay block_size head size apart = bytes_same old new block_size head size (same_apart (list_blocks_from_head old (list_block_count_for_size block_size size) head) old new apart same)
+  pub bytes-stay : (block_size head size : ℕ) → AreApart (blocks_to_head old (block_count_for block_size size) head) bs → list_bytes new block_size head size ≡ list_bytes old block_size head size
+  bytes-stay block_size head size apart = bytes_same old new block_size head size (same_apart (blocks_to_head old (block_count_for block_size size) head) old new apart same)

@@ -1,23 +1,23 @@
 -- From what an operation does to the disk to its step in a run.
 use Rattle.std.proofs.Common.{◌≡◌, true, false, cond, List, [], ◌++◌, Option, Some, None, refl, sym, ap, subst, ◌∙◌}
-use Rattle.lfs_model.specs.Disk.{Disk, SameGeometry, block_count, disk_in_order}
+use Rattle.lfs_model.specs.format.Disk.{Disk, SameGeometry, block_count, ordered_disk}
 use Rattle.lfs_model.specs.declared.order.NameOrder.{NameOrder}
 use Rattle.lfs_model.specs.declared.order.NameOrder.TheVariants.{LongerFirst, ShorterFirst}
-use Rattle.lfs_model.specs.Content.{content_of_pair_at}
-use Rattle.lfs_model.specs.Slots.{zero_gstate}
-use Rattle.lfs_model.specs.Thread.{Pair, gstate_of_pairs}
-use Rattle.lfs_model.specs.View.{IsAcceptedImage, DiskView, HasDiskView, view_of_disk}
-use Rattle.lfs_model.specs.Shown.{tree_on_disk}
-use Rattle.lfs_model.specs.Profile.{IsWritableImage}
-use Rattle.lfs_model.specs.History.{DeviceCallEvent}
-use Rattle.lfs_model.specs.Operations as ops
-use Rattle.lfs_model.specs.Operations.{Operation, Reply, Refusal, Failed}
-use Rattle.lfs_model.specs.Session.{Session, DiskSummary, FileReader, reader_of_open_file, open_file_with_number}
-use Rattle.lfs_model.specs.Refusals.{refusal_of_operation}
-use Rattle.lfs_model.specs.Effects.{effect_of_operation, read_effect, result_after_refusal_check}
-use Rattle.lfs_model.specs.State.{IsSummaryOfDisk, SessionHealth, HasFailed, Healthy, is_remount_operation, reply_and_session_health_after_remount, reply_and_session_health_unless_remount, session_after_mount}
-use Rattle.lfs_model.specs.Recovery.{IsNothingLeftToRecover, operation_recovers_first}
-use Rattle.lfs_model.specs.Run.{IsReplyAndSessionHealthFromDisk, is_refusal, is_read_only_operation, opens_existing_file, is_write_or_truncate, needs_no_device_call, renames_to_itself, is_recover_operation, edits_slots_in_pairs, AreCallsWithoutWrites, IsDiskUntouched, disk_read_by_operation, IsOperationEffectOnDisk, IsSessionStep}
+use Rattle.lfs_model.specs.format.Content.{content_at}
+use Rattle.lfs_model.specs.format.Slots.{zero_gstate}
+use Rattle.lfs_model.specs.format.Thread.{Pair, pairs_gstate}
+use Rattle.lfs_model.specs.tree.View.{IsAccepted, DiskView, HasDiskView, disk_view}
+use Rattle.lfs_model.specs.tree.Shown.{tree_on_disk}
+use Rattle.lfs_model.specs.tree.Profile.{IsWritable}
+use Rattle.lfs_model.specs.session.History.{CallEvent}
+use Rattle.lfs_model.specs.session.Operations as ops
+use Rattle.lfs_model.specs.session.Operations.{Operation, Reply, Refusal, Failed}
+use Rattle.lfs_model.specs.session.Session.{Session, DiskSummary, FileReader, file_reader, file_numbered}
+use Rattle.lfs_model.specs.session.Refusals.{operation_refusal}
+use Rattle.lfs_model.specs.session.Effects.{operation_effect, read_effect, unless_refused}
+use Rattle.lfs_model.specs.session.State.{IsSummary, SessionHealth, HasFailed, Healthy, is_remount, remount_result, reply_else, mounted_session}
+use Rattle.lfs_model.specs.session.Recovery.{IsRecovered, recovers_first}
+use Rattle.lfs_model.specs.session.Run.{IsReply, is_refusal, is_read_only, opens_existing, writes_or_truncates, needs_no_call, renames_itself, is_recover, edits_slots, WriteNothing, IsUntouched, disk_read_by, IsEffect, IsStep}
 use Rattle.lfs_model.proofs.Uniqueness.{one_thread}
 use Rattle.lfs_model.proofs.OtherOrder.{same_pairs, writable_in_order}
 use Rattle.lfs_model.proofs.Arranged.{IsFinished}
@@ -31,38 +31,38 @@ same_session s t e = ap or_else e
 
 -- a session over a disk whose tree it has
 pub record IsOver (disk : Disk) (ps : List Pair) (s : Session) (around : DiskSummary) : Type 0 where
-  pub accepted : IsAcceptedImage disk ps
-  pub surrounds : IsSummaryOfDisk disk ps around
+  pub accepted : IsAccepted disk ps
+  pub surrounds : IsSummary disk ps around
   pub tree : s.tree ≡ tree_on_disk disk ps
 
-answered_by : (disk : Disk) (order : NameOrder) (ps : List Pair) (s : Session) (around : DiskSummary) (op : Operation) (reply : Reply) (after : Session) → IsOver disk ps s around → is_remount_operation op ≡ false →
-    result_after_refusal_check (refusal_of_operation around s op) s (effect_of_operation around s op) ≡ (reply, after) → IsReplyAndSessionHealthFromDisk disk order (Healthy s) op reply (Healthy after)
+answered_by : (disk : Disk) (order : NameOrder) (ps : List Pair) (s : Session) (around : DiskSummary) (op : Operation) (reply : Reply) (after : Session) → IsOver disk ps s around → is_remount op ≡ false →
+    unless_refused (operation_refusal around s op) s (operation_effect around s op) ≡ (reply, after) → IsReply disk order (Healthy s) op reply (Healthy after)
 answered_by disk order ps s around op reply after over other e = record {
   around = around;
   shown = None;
   surrounds = λ t f. (ps, (over.accepted, over.surrounds));
   shows = λ f. absurd (let k = sym other ∙ f in cc);
-  answers = ap (λ b. cond b (reply_and_session_health_after_remount None) (reply_and_session_health_unless_remount around (Healthy s) op)) other ∙ ap (λ z. (Some z.0, Healthy z.1)) e;
+  answers = ap (λ b. cond b (remount_result None) (reply_else around (Healthy s) op)) other ∙ ap (λ z. (Some z.0, Healthy z.1)) e;
 }
 
 -- a remount alone finds another order of names
-same_disk_read : (op : Operation) (order : NameOrder) (disk : Disk) → is_remount_operation op ≡ false → disk_read_by_operation op order disk ≡ disk
-same_disk_read op order disk other = ap (λ b. cond b (disk_in_order order disk) disk) other
+same_disk_read : (op : Operation) (order : NameOrder) (disk : Disk) → is_remount op ≡ false → disk_read_by op order disk ≡ disk
+same_disk_read op order disk other = ap (λ b. cond b (ordered_disk order disk) disk) other
 
-same_geometry : (op : Operation) (disk new : Disk) → is_remount_operation op ≡ false → SameGeometry disk new → SameGeometry (disk_read_by_operation op new.order disk) new
+same_geometry : (op : Operation) (disk new : Disk) → is_remount op ≡ false → SameGeometry disk new → SameGeometry (disk_read_by op new.order disk) new
 same_geometry op disk new other geometry = subst (λ d. SameGeometry d new) (sym (same_disk_read op new.order disk other)) geometry
 
 -- what an applied operation does is said of any pairs, and those of an accepted disk are known
-carried_any : (disk new : Disk) (ps qs : List Pair) (s : Session) (op : Operation) (calls : List DeviceCallEvent) → IsAcceptedImage disk ps → IsAcceptedImage new qs → IsOperationEffectOnDisk disk ps s op calls new qs →
-    (t : Session) → Healthy s ≡ Healthy t → (xs ys : List Pair) → IsAcceptedImage disk xs → IsAcceptedImage new ys → IsOperationEffectOnDisk disk xs t op calls new ys
+carried_any : (disk new : Disk) (ps qs : List Pair) (s : Session) (op : Operation) (calls : List CallEvent) → IsAccepted disk ps → IsAccepted new qs → IsEffect disk ps s op calls new qs →
+    (t : Session) → Healthy s ≡ Healthy t → (xs ys : List Pair) → IsAccepted disk xs → IsAccepted new ys → IsEffect disk xs t op calls new ys
 carried_any disk new ps qs s op calls a b c t e xs ys x y =
-    subst (λ z. IsOperationEffectOnDisk disk xs z op calls new ys) (same_session s t e)
-    (subst (λ z. IsOperationEffectOnDisk disk z s op calls new ys) (one_thread (content_of_pair_at disk) (block_count disk) ps xs a.thread x.thread)
-    (subst (IsOperationEffectOnDisk disk ps s op calls new) (one_thread (content_of_pair_at new) (block_count new) qs ys b.thread y.thread) c))
+    subst (λ z. IsEffect disk xs z op calls new ys) (same_session s t e)
+    (subst (λ z. IsEffect disk z s op calls new ys) (one_thread (content_at disk) (block_count disk) ps xs a.thread x.thread)
+    (subst (IsEffect disk ps s op calls new) (one_thread (content_at new) (block_count new) qs ys b.thread y.thread) c))
 
 -- an operation that is applied isn't answered by a refusal
-pub no_refusal : (around : DiskSummary) (s : Session) (op : Operation) → is_refusal (effect_of_operation around s op).0 ≡ false
-no_refusal around s (ops.Read fd count) = go (reader_of_open_file (open_file_with_number s.files fd))
+pub no_refusal : (around : DiskSummary) (s : Session) (op : Operation) → is_refusal (operation_effect around s op).0 ≡ false
+no_refusal around s (ops.Read fd count) = go (file_reader (file_numbered s.files fd))
   where
     go : (r : Option FileReader) → is_refusal (read_effect s fd count r).0 ≡ false
     go None = refl
@@ -71,11 +71,11 @@ no_refusal around s _ = refl
 
 -- ---- a refusal
 
-pub refused_step : (disk : Disk) (ps : List Pair) (s : Session) (around : DiskSummary) (op : Operation) (error : Refusal) (calls old : List DeviceCallEvent) → IsOver disk ps s around → is_remount_operation op ≡ false →
-    refusal_of_operation around s op ≡ Some error → AreCallsWithoutWrites calls →
-    IsSessionStep (record { disk = disk; calls = old; state = Healthy s }) op (ops.Refused error) (record { disk = disk; calls = calls ++ old; state = Healthy s })
+pub refused_step : (disk : Disk) (ps : List Pair) (s : Session) (around : DiskSummary) (op : Operation) (error : Refusal) (calls old : List CallEvent) → IsOver disk ps s around → is_remount op ≡ false →
+    operation_refusal around s op ≡ Some error → WriteNothing calls →
+    IsStep (record { disk = disk; calls = old; state = Healthy s }) op (ops.Refused error) (record { disk = disk; calls = calls ++ old; state = Healthy s })
 refused_step disk ps s around op error calls old over other e writes = record {
-  answered = answered_by disk disk.order ps s around op (ops.Refused error) s over other (ap (λ r. result_after_refusal_check r s (effect_of_operation around s op)) e);
+  answered = answered_by disk disk.order ps s around op (ops.Refused error) s over other (ap (λ r. unless_refused r s (operation_effect around s op)) e);
   agrees = (ps, (over.accepted, over.tree));
   geometry = same_geometry op disk disk other (record { block_size = refl; page = refl; order = refl; profile = refl; count = refl });
   calls = calls;
@@ -89,21 +89,21 @@ refused_step disk ps s around op error calls old over other e writes = record {
 -- ---- an operation that changes the tree, or recovers
 
 -- what is to be known beside what the operation comes to
-pub record IsProper (disk : Disk) (ps : List Pair) (s : Session) (op : Operation) (calls : List DeviceCallEvent) (new : Disk) : Type 0 where
+pub record IsProper (disk : Disk) (ps : List Pair) (s : Session) (op : Operation) (calls : List CallEvent) (new : Disk) : Type 0 where
   pub geometry : SameGeometry disk new
-  pub other : is_remount_operation op ≡ false
-  pub asks : is_read_only_operation s op ≡ false
-  pub fills : is_write_or_truncate op ≡ false
-  pub opens : opens_existing_file s op ≡ true → gstate_of_pairs ps ≡ zero_gstate → new ≡ disk
-  pub silent : needs_no_device_call s op ≡ true → (new ≡ disk) × (calls ≡ [])
-  pub itself : renames_to_itself op ≡ true → IsDiskUntouched disk calls new
-  pub nothing_left : is_recover_operation op ≡ true → IsNothingLeftToRecover ps → IsDiskUntouched disk calls new
+  pub other : is_remount op ≡ false
+  pub asks : is_read_only s op ≡ false
+  pub fills : writes_or_truncates op ≡ false
+  pub opens : opens_existing s op ≡ true → pairs_gstate ps ≡ zero_gstate → new ≡ disk
+  pub silent : needs_no_call s op ≡ true → (new ≡ disk) × (calls ≡ [])
+  pub itself : renames_itself op ≡ true → IsUntouched disk calls new
+  pub nothing_left : is_recover op ≡ true → IsRecovered ps → IsUntouched disk calls new
 
-pub completed_step : (disk : Disk) (ps : List Pair) (s : Session) (around : DiskSummary) (op : Operation) (new : Disk) (qs : List Pair) (calls old : List DeviceCallEvent) → IsOver disk ps s around →
-    refusal_of_operation around s op ≡ None → IsProper disk ps s op calls new → IsFinished disk ps s op new qs →
-    IsSessionStep (record { disk = disk; calls = old; state = Healthy s }) op (effect_of_operation around s op).0 (record { disk = new; calls = calls ++ old; state = Healthy (effect_of_operation around s op).1 })
+pub completed_step : (disk : Disk) (ps : List Pair) (s : Session) (around : DiskSummary) (op : Operation) (new : Disk) (qs : List Pair) (calls old : List CallEvent) → IsOver disk ps s around →
+    operation_refusal around s op ≡ None → IsProper disk ps s op calls new → IsFinished disk ps s op new qs →
+    IsStep (record { disk = disk; calls = old; state = Healthy s }) op (operation_effect around s op).0 (record { disk = new; calls = calls ++ old; state = Healthy (operation_effect around s op).1 })
 completed_step disk ps s around op new qs calls old over accepted proper done = record {
-  answered = answered_by disk new.order ps s around op (effect_of_operation around s op).0 (effect_of_operation around s op).1 over proper.other (ap (λ r. result_after_refusal_check r s (effect_of_operation around s op)) accepted);
+  answered = answered_by disk new.order ps s around op (operation_effect around s op).0 (operation_effect around s op).1 over proper.other (ap (λ r. unless_refused r s (operation_effect around s op)) accepted);
   agrees = (qs, (done.accepted, sym (done.tree around)));
   geometry = same_geometry op disk new proper.other proper.geometry;
   calls = calls;
@@ -115,10 +115,10 @@ completed_step disk ps s around op new qs calls old over accepted proper done = 
 }
   where
     -- no effect is a refusal
-    never : is_refusal (effect_of_operation around s op).0 ≡ true → ⊥
+    never : is_refusal (operation_effect around s op).0 ≡ true → ⊥
     never h = let k = sym (no_refusal around s op) ∙ h in absurd (cc)
 
-    carried : IsOperationEffectOnDisk disk ps s op calls new qs
+    carried : IsEffect disk ps s op calls new qs
     carried = record {
       asks = λ e. absurd (let k = sym proper.asks ∙ e in cc);
       opens = proper.opens;
@@ -134,11 +134,11 @@ completed_step disk ps s around op new qs calls old over accepted proper done = 
 
 -- ---- an operation that leaves the disk: a question, or one that finds nothing to do
 
-pub idle_step : (disk : Disk) (ps : List Pair) (s : Session) (around : DiskSummary) (op : Operation) (calls old : List DeviceCallEvent) → IsOver disk ps s around → refusal_of_operation around s op ≡ None →
-    is_remount_operation op ≡ false → (effect_of_operation around s op).1.tree ≡ s.tree → operation_recovers_first op ≡ false → edits_slots_in_pairs s op ≡ false → AreCallsWithoutWrites calls → (needs_no_device_call s op ≡ true → calls ≡ []) →
-    IsSessionStep (record { disk = disk; calls = old; state = Healthy s }) op (effect_of_operation around s op).0 (record { disk = disk; calls = calls ++ old; state = Healthy (effect_of_operation around s op).1 })
+pub idle_step : (disk : Disk) (ps : List Pair) (s : Session) (around : DiskSummary) (op : Operation) (calls old : List CallEvent) → IsOver disk ps s around → operation_refusal around s op ≡ None →
+    is_remount op ≡ false → (operation_effect around s op).1.tree ≡ s.tree → recovers_first op ≡ false → edits_slots s op ≡ false → WriteNothing calls → (needs_no_call s op ≡ true → calls ≡ []) →
+    IsStep (record { disk = disk; calls = old; state = Healthy s }) op (operation_effect around s op).0 (record { disk = disk; calls = calls ++ old; state = Healthy (operation_effect around s op).1 })
 idle_step disk ps s around op calls old over accepted other same none still writes silent = record {
-  answered = answered_by disk disk.order ps s around op (effect_of_operation around s op).0 (effect_of_operation around s op).1 over other (ap (λ r. result_after_refusal_check r s (effect_of_operation around s op)) accepted);
+  answered = answered_by disk disk.order ps s around op (operation_effect around s op).0 (operation_effect around s op).1 over other (ap (λ r. unless_refused r s (operation_effect around s op)) accepted);
   agrees = (ps, (over.accepted, same ∙ over.tree));
   geometry = same_geometry op disk disk other (record { block_size = refl; page = refl; order = refl; profile = refl; count = refl });
   calls = calls;
@@ -149,7 +149,7 @@ idle_step disk ps s around op calls old over accepted other same none still writ
   effect_on_disk = λ h t e xs ys x y. carried_any disk disk ps ps s op calls over.accepted over.accepted carried t e xs ys x y;
 }
   where
-    carried : IsOperationEffectOnDisk disk ps s op calls disk ps
+    carried : IsEffect disk ps s op calls disk ps
     carried = record {
       asks = λ e. (sym (same_disk_read op disk.order disk other), writes);
       opens = λ e f. refl;
@@ -163,18 +163,18 @@ idle_step disk ps s around op calls old over accepted other same none still writ
       nothing_left = λ e h. (refl, writes);
     }
 
-pub asked_step : (disk : Disk) (ps : List Pair) (s : Session) (around : DiskSummary) (op : Operation) (calls old : List DeviceCallEvent) → IsOver disk ps s around → refusal_of_operation around s op ≡ None →
-    is_remount_operation op ≡ false → is_read_only_operation s op ≡ true → (effect_of_operation around s op).1.tree ≡ s.tree → operation_recovers_first op ≡ false → edits_slots_in_pairs s op ≡ false → AreCallsWithoutWrites calls → (needs_no_device_call s op ≡ true → calls ≡ []) →
-    IsSessionStep (record { disk = disk; calls = old; state = Healthy s }) op (effect_of_operation around s op).0 (record { disk = disk; calls = calls ++ old; state = Healthy (effect_of_operation around s op).1 })
+pub asked_step : (disk : Disk) (ps : List Pair) (s : Session) (around : DiskSummary) (op : Operation) (calls old : List CallEvent) → IsOver disk ps s around → operation_refusal around s op ≡ None →
+    is_remount op ≡ false → is_read_only s op ≡ true → (operation_effect around s op).1.tree ≡ s.tree → recovers_first op ≡ false → edits_slots s op ≡ false → WriteNothing calls → (needs_no_call s op ≡ true → calls ≡ []) →
+    IsStep (record { disk = disk; calls = old; state = Healthy s }) op (operation_effect around s op).0 (record { disk = disk; calls = calls ++ old; state = Healthy (operation_effect around s op).1 })
 asked_step disk ps s around op calls old over accepted other asks same none still writes silent = idle_step disk ps s around op calls old over accepted other same none still writes silent
 
 -- ---- a write or a truncate: blocks that the view doesn't show
 
-pub filled_step : (disk : Disk) (ps : List Pair) (s : Session) (around : DiskSummary) (op : Operation) (new : Disk) (qs : List Pair) (calls old : List DeviceCallEvent) → IsOver disk ps s around →
-    refusal_of_operation around s op ≡ None → is_write_or_truncate op ≡ true → needs_no_device_call s op ≡ false → SameGeometry disk new → IsAcceptedImage new qs → qs ≡ ps → view_of_disk new qs ≡ view_of_disk disk ps → IsNothingLeftToRecover qs → (IsWritableImage disk ps → IsWritableImage new qs) →
-    IsSessionStep (record { disk = disk; calls = old; state = Healthy s }) op (effect_of_operation around s op).0 (record { disk = new; calls = calls ++ old; state = Healthy (effect_of_operation around s op).1 })
+pub filled_step : (disk : Disk) (ps : List Pair) (s : Session) (around : DiskSummary) (op : Operation) (new : Disk) (qs : List Pair) (calls old : List CallEvent) → IsOver disk ps s around →
+    operation_refusal around s op ≡ None → writes_or_truncates op ≡ true → needs_no_call s op ≡ false → SameGeometry disk new → IsAccepted new qs → qs ≡ ps → disk_view new qs ≡ disk_view disk ps → IsRecovered qs → (IsWritable disk ps → IsWritable new qs) →
+    IsStep (record { disk = disk; calls = old; state = Healthy s }) op (operation_effect around s op).0 (record { disk = new; calls = calls ++ old; state = Healthy (operation_effect around s op).1 })
 filled_step disk ps s around op new qs calls old over accepted fill needs geometry ok pairs same recovered profile = record {
-  answered = answered_by disk new.order ps s around op (effect_of_operation around s op).0 (effect_of_operation around s op).1 over (other op fill) (ap (λ r. result_after_refusal_check r s (effect_of_operation around s op)) accepted);
+  answered = answered_by disk new.order ps s around op (operation_effect around s op).0 (operation_effect around s op).1 over (other op fill) (ap (λ r. unless_refused r s (operation_effect around s op)) accepted);
   agrees = (qs, (ok, tree op fill ∙ over.tree ∙ sym (ap (λ (v : DiskView). v.tree) same)));
   geometry = same_geometry op disk new (other op fill) geometry;
   calls = calls;
@@ -185,22 +185,22 @@ filled_step disk ps s around op new qs calls old over accepted fill needs geomet
   effect_on_disk = λ h t e xs ys x y. carried_any disk new ps qs s op calls over.accepted ok (carried op fill needs) t e xs ys x y;
 }
   where
-    other : (op : Operation) → is_write_or_truncate op ≡ true → is_remount_operation op ≡ false
+    other : (op : Operation) → writes_or_truncates op ≡ true → is_remount op ≡ false
     other (ops.Write fd bytes) e = refl
     other (ops.Truncate fd size) e = refl
     other _ e = absurd (cc)
 
-    tree : (op : Operation) → is_write_or_truncate op ≡ true → (effect_of_operation around s op).1.tree ≡ s.tree
+    tree : (op : Operation) → writes_or_truncates op ≡ true → (operation_effect around s op).1.tree ≡ s.tree
     tree (ops.Write fd bytes) e = refl
     tree (ops.Truncate fd size) e = refl
     tree _ e = absurd (cc)
 
     views : (view : DiskView) → HasDiskView disk view → HasDiskView new view
     views view h =
-        let k = one_thread (content_of_pair_at disk) (block_count disk) h.0 ps h.1.0.thread over.accepted.thread in
-        (qs, (ok, h.1.1 ∙ ap (view_of_disk disk) k ∙ sym same))
+        let k = one_thread (content_at disk) (block_count disk) h.0 ps h.1.0.thread over.accepted.thread in
+        (qs, (ok, h.1.1 ∙ ap (disk_view disk) k ∙ sym same))
 
-    carried : (op : Operation) → is_write_or_truncate op ≡ true → needs_no_device_call s op ≡ false → IsOperationEffectOnDisk disk ps s op calls new qs
+    carried : (op : Operation) → writes_or_truncates op ≡ true → needs_no_call s op ≡ false → IsEffect disk ps s op calls new qs
     carried (ops.Write fd bytes) e needs = record {
       asks = λ f. absurd (cc);
       opens = λ f. absurd (cc);
@@ -229,15 +229,15 @@ filled_step disk ps s around op new qs calls old over accepted fill needs geomet
 
 -- ---- a failed session, and a remount
 
-pub failed_step : (disk : Disk) (around : DiskSummary) (op : Operation) (old : List DeviceCallEvent) → is_remount_operation op ≡ false →
-    IsSessionStep (record { disk = disk; calls = old; state = HasFailed }) op (ops.Refused Failed) (record { disk = disk; calls = old; state = HasFailed })
+pub failed_step : (disk : Disk) (around : DiskSummary) (op : Operation) (old : List CallEvent) → is_remount op ≡ false →
+    IsStep (record { disk = disk; calls = old; state = HasFailed }) op (ops.Refused Failed) (record { disk = disk; calls = old; state = HasFailed })
 failed_step disk around op old other = record {
   answered = record {
     around = around;
     shown = None;
     surrounds = λ s e. absurd (cc);
     shows = λ f. absurd (let k = sym other ∙ f in cc);
-    answers = ap (λ b. cond b (reply_and_session_health_after_remount None) (reply_and_session_health_unless_remount around HasFailed op)) other;
+    answers = ap (λ b. cond b (remount_result None) (reply_else around HasFailed op)) other;
   };
   agrees = tt;
   geometry = same_geometry op disk disk other (record { block_size = refl; page = refl; order = refl; profile = refl; count = refl });
@@ -250,9 +250,9 @@ failed_step disk around op old other = record {
 }
 
 -- What surrounds a session that worked is asked for, and not used.
-pub remounted_step : (disk : Disk) (order : NameOrder) (ps : List Pair) (around : DiskSummary) (state : SessionHealth) (calls old : List DeviceCallEvent) → ((s : Session) → state ≡ Healthy s → (xs : List Pair) × (IsAcceptedImage disk xs × IsSummaryOfDisk disk xs around)) →
-    IsAcceptedImage (disk_in_order order disk) ps → (order ≡ ShorterFirst → (qs : List Pair) → IsAcceptedImage (disk_in_order LongerFirst disk) qs → ⊥) → AreCallsWithoutWrites calls →
-    IsSessionStep (record { disk = disk; calls = old; state = state }) ops.Remount ops.Done (record { disk = disk_in_order order disk; calls = calls ++ old; state = Healthy (session_after_mount (tree_on_disk disk ps)) })
+pub remounted_step : (disk : Disk) (order : NameOrder) (ps : List Pair) (around : DiskSummary) (state : SessionHealth) (calls old : List CallEvent) → ((s : Session) → state ≡ Healthy s → (xs : List Pair) × (IsAccepted disk xs × IsSummary disk xs around)) →
+    IsAccepted (ordered_disk order disk) ps → (order ≡ ShorterFirst → (qs : List Pair) → IsAccepted (ordered_disk LongerFirst disk) qs → ⊥) → WriteNothing calls →
+    IsStep (record { disk = disk; calls = old; state = state }) ops.Remount ops.Done (record { disk = ordered_disk order disk; calls = calls ++ old; state = Healthy (mounted_session (tree_on_disk disk ps)) })
 remounted_step disk order ps around state calls old surrounds ok longer writes = record {
   answered = record {
     around = around;
@@ -271,7 +271,7 @@ remounted_step disk order ps around state calls old surrounds ok longer writes =
   effect_on_disk = λ h t e xs ys x y. carried_of t xs ys x y;
 }
   where
-    carried_of : (t : Session) (xs ys : List Pair) → IsAcceptedImage disk xs → IsAcceptedImage (disk_in_order order disk) ys → IsOperationEffectOnDisk disk xs t ops.Remount calls (disk_in_order order disk) ys
+    carried_of : (t : Session) (xs ys : List Pair) → IsAccepted disk xs → IsAccepted (ordered_disk order disk) ys → IsEffect disk xs t ops.Remount calls (ordered_disk order disk) ys
     carried_of t xs ys x y =
         let same = same_pairs order disk xs ys x y in
         record {
@@ -279,9 +279,9 @@ remounted_step disk order ps around state calls old surrounds ok longer writes =
           opens = λ f. absurd (cc);
           fills = λ f. absurd (cc);
           recovered = λ f. absurd (cc);
-          stays = subst IsNothingLeftToRecover same;
+          stays = subst IsRecovered same;
           arranged = λ f. absurd (cc);
-          profile = λ w. writable_in_order order disk ys (subst (IsWritableImage disk) same w);
+          profile = λ w. writable_in_order order disk ys (subst (IsWritable disk) same w);
           silent = λ f. absurd (cc);
           itself = λ f. absurd (cc);
           nothing_left = λ f. absurd (cc);

@@ -2,21 +2,21 @@
 use Rattle.std.proofs.Common.{ℕ, ◌≡◌, ◌≢◌, inl, Bool, true, false, List, [], ◌∷◌, ◌++◌, Option, Some, None, arith, sym, subst, ◌∙◌, append-nil}
 use Rattle.std.specs.Prelude.{All}
 use Rattle.std.proofs.lemmas.List.Elements.{All-from_recursion, recursion_from_All}
-use Rattle.lfs_model.specs.Disk.{Disk}
-use Rattle.lfs_model.specs.Slots.{Slot, Tail, same_pair, IsContentFittingPair}
-use Rattle.lfs_model.specs.Thread.{Pair, is_hard_tail}
-use Rattle.lfs_model.specs.Tree.{Path, Tree}
-use Rattle.lfs_model.specs.Profile.{IsWritableImage, IsSlotWithinWritableLimits, AreNoEmptyPairsAfterHardTails}
-use Rattle.lfs_model.specs.Shown.{IsPathToDirectory, tree_on_disk}
-use Rattle.lfs_model.specs.SlotEdits.{pair_with_slots}
-use Rattle.lfs_model.specs.Layout.{IsContentFittingPairOnDisk}
-use Rattle.lfs_model.specs.PowerLoss.{HasTreeBeforeOrAfterOperation}
+use Rattle.lfs_model.specs.format.Disk.{Disk}
+use Rattle.lfs_model.specs.format.Slots.{Slot, Tail, same_pair, FitsInPair}
+use Rattle.lfs_model.specs.format.Thread.{Pair, is_hard_tail}
+use Rattle.lfs_model.specs.tree.Tree.{Path, Tree}
+use Rattle.lfs_model.specs.tree.Profile.{IsWritable, IsWritableSlot, HasNoEmpties}
+use Rattle.lfs_model.specs.tree.Shown.{LeadsTo, tree_on_disk}
+use Rattle.lfs_model.specs.session.SlotEdits.{pair_with_slots}
+use Rattle.lfs_model.specs.session.Layout.{FitsPair}
+use Rattle.lfs_model.specs.crash.PowerLoss.{HasEither}
 use Rattle.lfs_model.proofs.Counts.{Each, each_append, each_left, each_right, each_pieces}
-use Rattle.lfs_model.proofs.Laws.{DirectoryAddressByPath}
-use Rattle.lfs_model.proofs.Changes.{IsImageAfterTreeChange}
+use Rattle.lfs_model.proofs.Laws.{PathAddresses}
+use Rattle.lfs_model.proofs.Changes.{IsChangedImage}
 use Rattle.lfs_model.proofs.Sites.{Site, dirs_at, thread_at, begin_of}
 use Rattle.lfs_model.proofs.Listings.{IsRun}
-use Rattle.lfs_model.proofs.Splices.{slots_of_pairs_in_order}
+use Rattle.lfs_model.proofs.Splices.{all_slots}
 use Rattle.lfs_model.proofs.Moves.{IsStep}
 use Rattle.lfs_model.proofs.Beside.{last_site, IsStepBeside}
 use Rattle.lfs_model.proofs.Drops.{IsStepDrop, softened}
@@ -24,30 +24,30 @@ use Rattle.lfs_model.proofs.MoveSets.{IsMoveSet}
 use Rattle.lfs_model.proofs.Rests.{IsMoveEnd}
 use Rattle.lfs_model.proofs.Writable.{IsWithin}
 use Rattle.lfs_model.proofs.Became.{Became, became_within, became_filled, fits_same, cut_some}
-use Rattle.lfs_model.proofs.Writable.{ends_in_hard_tail}
+use Rattle.lfs_model.proofs.Writable.{ends_joined}
 use Rattle.lfs_model.proofs.LeftFiles.{Parts}
 use Rattle.lfs_model.proofs.MadeDirectory.{Cut, follows_then}
 use Rattle.lfs_model.proofs.Profiles.{step_writable, drop_writable, beside_writable, set_writable, end_writable}
-use Rattle.lfs_model.specs.Steps.{IsWritableImageAfterTreeChange}
-pub use Rattle.lfs_model.specs.Steps.{IsWritableImageAfterTreeChange}
+use Rattle.lfs_model.specs.layers.Steps.{IsWritableChange}
+pub use Rattle.lfs_model.specs.layers.Steps.{IsWritableChange}
 
 -- ---- what a step comes to
 
 -- one after another
-pub taken_then : (a b c : Disk) (ps qs rs : List Pair) (f g : Tree → Tree) (v w : DirectoryAddressByPath → DirectoryAddressByPath) → Parts f g → IsWritableImageAfterTreeChange a ps b qs f v → IsWritableImageAfterTreeChange b qs c rs g w → IsWritableImageAfterTreeChange a ps c rs (λ t. g (f t)) (λ d. w (v d))
+pub taken_then : (a b c : Disk) (ps qs rs : List Pair) (f g : Tree → Tree) (v w : PathAddresses → PathAddresses) → Parts f g → IsWritableChange a ps b qs f v → IsWritableChange b qs c rs g w → IsWritableChange a ps c rs (λ t. g (f t)) (λ d. w (v d))
 taken_then a b c ps qs rs f g v w parts first second = record { follows = follows_then a b c ps qs rs f g v w parts first.follows second.follows; writable = second.writable }
 
 -- the tree is still the one from before, or already the one from after it
-pub taken_before : (disk : Disk) (ps : List Pair) (new : Disk) (qs : List Pair) (walk : DirectoryAddressByPath → DirectoryAddressByPath) (after : Tree) → IsWritableImageAfterTreeChange disk ps new qs (λ t. t) walk → HasTreeBeforeOrAfterOperation new (tree_on_disk disk ps) after
+pub taken_before : (disk : Disk) (ps : List Pair) (new : Disk) (qs : List Pair) (walk : PathAddresses → PathAddresses) (after : Tree) → IsWritableChange disk ps new qs (λ t. t) walk → HasEither new (tree_on_disk disk ps) after
 taken_before disk ps new qs walk after step = record { pairs = qs; accepted = step.follows.accepted; writable = step.writable; tree = inl step.follows.shows }
 
 -- ---- the profile of a pair that changes
 
 -- the pair of a site keeps to the profile
-pub within_at : (disk : Disk) (w : Site) (p : Pair) (rest : List Pair) → IsWritableImage disk (thread_at w (p ∷ rest)) → IsWithin disk.profile disk.block_size disk.page p
+pub within_at : (disk : Disk) (w : Site) (p : Pair) (rest : List Pair) → IsWritable disk (thread_at w (p ∷ rest)) → IsWithin disk.profile disk.block_size disk.page p
 within_at disk w p rest ok = record {
-  pair = here (IsContentFittingPairOnDisk disk) (recursion_from_All (IsContentFittingPairOnDisk disk) (thread_at w (p ∷ rest)) ok.pairs);
-  slots = here (λ (x : Pair). All (IsSlotWithinWritableLimits disk.profile disk.block_size disk.page) x.content.slots) (recursion_from_All (λ (x : Pair). All (IsSlotWithinWritableLimits disk.profile disk.block_size disk.page) x.content.slots) (thread_at w (p ∷ rest)) ok.slots);
+  pair = here (FitsPair disk) (recursion_from_All (FitsPair disk) (thread_at w (p ∷ rest)) ok.pairs);
+  slots = here (λ (x : Pair). All (IsWritableSlot disk.profile disk.block_size disk.page) x.content.slots) (recursion_from_All (λ (x : Pair). All (IsWritableSlot disk.profile disk.block_size disk.page) x.content.slots) (thread_at w (p ∷ rest)) ok.slots);
 }
   where
     here : (F : Pair → Type 0) → Each F (thread_at w (p ∷ rest)) → F p
@@ -55,54 +55,54 @@ within_at disk w p rest ok = record {
 
 -- a pair with the slots of another
 pub within_same : (disk : Disk) (p q : Pair) → q.content.slots ≡ p.content.slots → IsWithin disk.profile disk.block_size disk.page p → IsWithin disk.profile disk.block_size disk.page q
-within_same disk p q e h = record { pair = fits_same disk p q e h.pair; slots = subst (All (IsSlotWithinWritableLimits disk.profile disk.block_size disk.page)) (sym e) h.slots }
+within_same disk p q e h = record { pair = fits_same disk p q e h.pair; slots = subst (All (IsWritableSlot disk.profile disk.block_size disk.page)) (sym e) h.slots }
 
 -- some slots of a pair within the profile are replaced by others that fit
-pub fit_spliced : (disk : Disk) (p : Pair) (l olds news r : List Slot) → IsWithin disk.profile disk.block_size disk.page p → p.content.slots ≡ l ++ (olds ++ r) → Each (IsSlotWithinWritableLimits disk.profile disk.block_size disk.page) news
-    → Each (IsSlotWithinWritableLimits disk.profile disk.block_size disk.page) (l ++ (news ++ r))
+pub fit_spliced : (disk : Disk) (p : Pair) (l olds news r : List Slot) → IsWithin disk.profile disk.block_size disk.page p → p.content.slots ≡ l ++ (olds ++ r) → Each (IsWritableSlot disk.profile disk.block_size disk.page) news
+    → Each (IsWritableSlot disk.profile disk.block_size disk.page) (l ++ (news ++ r))
 fit_spliced disk p l olds news r h was fit =
-    let F : Slot → Type 0 = IsSlotWithinWritableLimits disk.profile disk.block_size disk.page in
-    let held = subst (Each (IsSlotWithinWritableLimits disk.profile disk.block_size disk.page)) was (recursion_from_All (IsSlotWithinWritableLimits disk.profile disk.block_size disk.page) p.content.slots h.slots) in
-    each_append (IsSlotWithinWritableLimits disk.profile disk.block_size disk.page) l (news ++ r) (each_left (IsSlotWithinWritableLimits disk.profile disk.block_size disk.page) l (olds ++ r) held)
-    (each_append (IsSlotWithinWritableLimits disk.profile disk.block_size disk.page) news r fit (each_right (IsSlotWithinWritableLimits disk.profile disk.block_size disk.page) olds r (each_right (IsSlotWithinWritableLimits disk.profile disk.block_size disk.page) l (olds ++ r) held)))
+    let F : Slot → Type 0 = IsWritableSlot disk.profile disk.block_size disk.page in
+    let held = subst (Each (IsWritableSlot disk.profile disk.block_size disk.page)) was (recursion_from_All (IsWritableSlot disk.profile disk.block_size disk.page) p.content.slots h.slots) in
+    each_append (IsWritableSlot disk.profile disk.block_size disk.page) l (news ++ r) (each_left (IsWritableSlot disk.profile disk.block_size disk.page) l (olds ++ r) held)
+    (each_append (IsWritableSlot disk.profile disk.block_size disk.page) news r fit (each_right (IsWritableSlot disk.profile disk.block_size disk.page) olds r (each_right (IsWritableSlot disk.profile disk.block_size disk.page) l (olds ++ r) held)))
 
 -- What a commit makes of the pair p at a site: q, or q and a new pair, with news where olds stood. The last slot goes only from a
 -- pair that no hard tail leads to.
 pub record IsPut (disk : Disk) (w : Site) (p q : Pair) (more : List Pair) (l olds news r : List Slot) : Type 0 where
-  pub writable : IsWritableImage disk (thread_at w (p ∷ []))
+  pub writable : IsWritable disk (thread_at w (p ∷ []))
   pub was : p.content.slots ≡ l ++ (olds ++ r)
-  pub is : slots_of_pairs_in_order (q ∷ more) ≡ l ++ (news ++ r)
+  pub is : all_slots (q ∷ more) ≡ l ++ (news ++ r)
   pub became : Became disk p (pair_with_slots (l ++ (news ++ r)) p) q more
-  pub fit : Each (IsSlotWithinWritableLimits disk.profile disk.block_size disk.page) news
-  pub filled : ends_in_hard_tail false (w.before ++ w.left) ≡ true → l ++ (news ++ r) ≢ []
+  pub fit : Each (IsWritableSlot disk.profile disk.block_size disk.page) news
+  pub filled : ends_joined false (w.before ++ w.left) ≡ true → l ++ (news ++ r) ≢ []
 
 module _ (disk : Disk) (w : Site) (p q : Pair) (more : List Pair) (l olds news r : List Slot) (c : IsPut disk w p q more l olds news r) where
   pub put_within : Each (IsWithin disk.profile disk.block_size disk.page) (q ∷ more)
   put_within = became_within disk p (pair_with_slots (l ++ (news ++ r)) p) q more c.is c.became (fit_spliced disk p l olds news r (within_at disk w p [] c.writable) c.was c.fit)
 
-  pub put_filled : AreNoEmptyPairsAfterHardTails (ends_in_hard_tail false (w.before ++ w.left)) (p ∷ [] ++ (w.right ++ w.after)) → AreNoEmptyPairsAfterHardTails (ends_in_hard_tail false (w.before ++ w.left)) (q ∷ more ++ (w.right ++ w.after))
-  put_filled h = became_filled disk p (pair_with_slots (l ++ (news ++ r)) p) q more (w.right ++ w.after) c.is c.became (ends_in_hard_tail false (w.before ++ w.left)) c.filled h
+  pub put_filled : HasNoEmpties (ends_joined false (w.before ++ w.left)) (p ∷ [] ++ (w.right ++ w.after)) → HasNoEmpties (ends_joined false (w.before ++ w.left)) (q ∷ more ++ (w.right ++ w.after))
+  put_filled h = became_filled disk p (pair_with_slots (l ++ (news ++ r)) p) q more (w.right ++ w.after) c.is c.became (ends_joined false (w.before ++ w.left)) c.filled h
 
   -- a commit that changes slots, and perhaps the delta of the global state but for a move
-  pub commit_taken : (new : Disk) (extra fresh : List ℕ) (change : Tree → Tree) (walk : DirectoryAddressByPath → DirectoryAddressByPath) → IsStep disk new w p [] q more extra fresh l olds news r
-      → IsImageAfterTreeChange disk (thread_at w (p ∷ [])) new (thread_at w (q ∷ more)) change walk → IsWritableImageAfterTreeChange disk (thread_at w (p ∷ [])) new (thread_at w (q ∷ more)) change walk
+  pub commit_taken : (new : Disk) (extra fresh : List ℕ) (change : Tree → Tree) (walk : PathAddresses → PathAddresses) → IsStep disk new w p [] q more extra fresh l olds news r
+      → IsChangedImage disk (thread_at w (p ∷ [])) new (thread_at w (q ∷ more)) change walk → IsWritableChange disk (thread_at w (p ∷ [])) new (thread_at w (q ∷ more)) change walk
   commit_taken new extra fresh change walk step follows = record {
     follows = follows;
     writable = step_writable disk new w p [] q more extra fresh l olds news r step c.writable put_within put_filled;
   }
 
   -- the first step of a rename across pairs: the slot comes, and a set move names the old one
-  pub set_taken : (new : Disk) (wo : Site) (o : Pair) (lo : List Slot) (u : Slot) (ro : List Slot) (extra : List ℕ) (v : Slot) (change : Tree → Tree) (walk : DirectoryAddressByPath → DirectoryAddressByPath)
-      → IsMoveSet disk new wo o lo u ro w p [] q more extra l olds v r → IsImageAfterTreeChange disk (thread_at w (p ∷ [])) new (thread_at w (q ∷ more)) change walk
-      → IsWritableImageAfterTreeChange disk (thread_at w (p ∷ [])) new (thread_at w (q ∷ more)) change walk
+  pub set_taken : (new : Disk) (wo : Site) (o : Pair) (lo : List Slot) (u : Slot) (ro : List Slot) (extra : List ℕ) (v : Slot) (change : Tree → Tree) (walk : PathAddresses → PathAddresses)
+      → IsMoveSet disk new wo o lo u ro w p [] q more extra l olds v r → IsChangedImage disk (thread_at w (p ∷ [])) new (thread_at w (q ∷ more)) change walk
+      → IsWritableChange disk (thread_at w (p ∷ [])) new (thread_at w (q ∷ more)) change walk
   set_taken new wo o lo u ro extra v change walk step follows = record {
     follows = follows;
     writable = set_writable disk new wo o lo u ro w p [] q more extra l olds v r step c.writable put_within put_filled;
   }
 
 -- the second one: the old slot goes, and the set move ends
-pub end_taken : (disk new : Disk) (w : Site) (p q : Pair) (more : List Pair) (l : List Slot) (u : Slot) (r : List Slot) (change : Tree → Tree) (walk : DirectoryAddressByPath → DirectoryAddressByPath) → IsPut disk w p q more l (u ∷ []) [] r
-    → IsMoveEnd disk new w p [] q more l u r → IsImageAfterTreeChange disk (thread_at w (p ∷ [])) new (thread_at w (q ∷ more)) change walk → IsWritableImageAfterTreeChange disk (thread_at w (p ∷ [])) new (thread_at w (q ∷ more)) change walk
+pub end_taken : (disk new : Disk) (w : Site) (p q : Pair) (more : List Pair) (l : List Slot) (u : Slot) (r : List Slot) (change : Tree → Tree) (walk : PathAddresses → PathAddresses) → IsPut disk w p q more l (u ∷ []) [] r
+    → IsMoveEnd disk new w p [] q more l u r → IsChangedImage disk (thread_at w (p ∷ [])) new (thread_at w (q ∷ more)) change walk → IsWritableChange disk (thread_at w (p ∷ [])) new (thread_at w (q ∷ more)) change walk
 end_taken disk new w p q more l u r change walk c step follows = record {
   follows = follows;
   writable = end_writable disk new w p [] q more l u r step c.writable (put_within disk w p q more l (u ∷ []) [] r c) (put_filled disk w p q more l (u ∷ []) [] r c);
@@ -112,7 +112,7 @@ end_taken disk new w p q more l u r change walk c step follows = record {
 
 -- q has p's slots and the tail of o after it, which goes
 pub record IsTakenOver (disk : Disk) (w : Site) (p o q : Pair) : Type 0 where
-  pub writable : IsWritableImage disk (thread_at w (p ∷ o ∷ []))
+  pub writable : IsWritable disk (thread_at w (p ∷ o ∷ []))
   pub tail : q.content.tail ≡ o.content.tail
   pub slots : q.content.slots ≡ p.content.slots
 
@@ -120,42 +120,42 @@ module _ (disk : Disk) (w : Site) (p o q : Pair) (c : IsTakenOver disk w p o q) 
   over_within : Each (IsWithin disk.profile disk.block_size disk.page) (q ∷ [])
   over_within = (within_same disk p q c.slots (within_at disk w p (o ∷ []) c.writable), tt)
 
-  over_filled : AreNoEmptyPairsAfterHardTails (ends_in_hard_tail false (w.before ++ w.left)) (p ∷ o ∷ [] ++ (w.right ++ w.after)) → AreNoEmptyPairsAfterHardTails (ends_in_hard_tail false (w.before ++ w.left)) (q ∷ [] ++ (w.right ++ w.after))
-  over_filled h = ((λ e n. h.0 e (sym c.slots ∙ n)), subst (λ t. AreNoEmptyPairsAfterHardTails (is_hard_tail t) (w.right ++ w.after)) (sym c.tail) h.1.1)
+  over_filled : HasNoEmpties (ends_joined false (w.before ++ w.left)) (p ∷ o ∷ [] ++ (w.right ++ w.after)) → HasNoEmpties (ends_joined false (w.before ++ w.left)) (q ∷ [] ++ (w.right ++ w.after))
+  over_filled h = ((λ e n. h.0 e (sym c.slots ∙ n)), subst (λ t. HasNoEmpties (is_hard_tail t) (w.right ++ w.after)) (sym c.tail) h.1.1)
 
   -- with its only slot
-  pub drop_taken : (new : Disk) (extra fresh : List ℕ) (l olds news r : List Slot) (change : Tree → Tree) (walk : DirectoryAddressByPath → DirectoryAddressByPath) → IsStep disk new w p (o ∷ []) q [] extra fresh l olds news r
-      → IsImageAfterTreeChange disk (thread_at w (p ∷ o ∷ [])) new (thread_at w (q ∷ [])) change walk → IsWritableImageAfterTreeChange disk (thread_at w (p ∷ o ∷ [])) new (thread_at w (q ∷ [])) change walk
+  pub drop_taken : (new : Disk) (extra fresh : List ℕ) (l olds news r : List Slot) (change : Tree → Tree) (walk : PathAddresses → PathAddresses) → IsStep disk new w p (o ∷ []) q [] extra fresh l olds news r
+      → IsChangedImage disk (thread_at w (p ∷ o ∷ [])) new (thread_at w (q ∷ [])) change walk → IsWritableChange disk (thread_at w (p ∷ o ∷ [])) new (thread_at w (q ∷ [])) change walk
   drop_taken new extra fresh l olds news r change walk step follows = record {
     follows = follows;
     writable = step_writable disk new w p (o ∷ []) q [] extra fresh l olds news r step c.writable over_within over_filled;
   }
 
   -- with the slot that the set move names
-  pub end_drop_taken : (new : Disk) (l : List Slot) (u : Slot) (r : List Slot) (change : Tree → Tree) (walk : DirectoryAddressByPath → DirectoryAddressByPath) → IsMoveEnd disk new w p (o ∷ []) q [] l u r
-      → IsImageAfterTreeChange disk (thread_at w (p ∷ o ∷ [])) new (thread_at w (q ∷ [])) change walk → IsWritableImageAfterTreeChange disk (thread_at w (p ∷ o ∷ [])) new (thread_at w (q ∷ [])) change walk
+  pub end_drop_taken : (new : Disk) (l : List Slot) (u : Slot) (r : List Slot) (change : Tree → Tree) (walk : PathAddresses → PathAddresses) → IsMoveEnd disk new w p (o ∷ []) q [] l u r
+      → IsChangedImage disk (thread_at w (p ∷ o ∷ [])) new (thread_at w (q ∷ [])) change walk → IsWritableChange disk (thread_at w (p ∷ o ∷ [])) new (thread_at w (q ∷ [])) change walk
   end_drop_taken new l u r change walk step follows = record {
     follows = follows;
     writable = end_writable disk new w p (o ∷ []) q [] l u r step c.writable over_within over_filled;
   }
 
 -- the pair o after p begins a directory, and goes from the thread; q has p's slots, and a soft tail to where o's led
-pub unthread_taken : (disk new : Disk) (chain before left after : List Pair) (p o q : Pair) (l r : List Slot) (change : Tree → Tree) (walk : DirectoryAddressByPath → DirectoryAddressByPath)
-    → IsWritableImage disk (thread_at (last_site chain before left after) (p ∷ ([] ++ o ∷ []))) → q.content.tail ≡ softened o.content.tail → q.content.slots ≡ p.content.slots
+pub unthread_taken : (disk new : Disk) (chain before left after : List Pair) (p o q : Pair) (l r : List Slot) (change : Tree → Tree) (walk : PathAddresses → PathAddresses)
+    → IsWritable disk (thread_at (last_site chain before left after) (p ∷ ([] ++ o ∷ []))) → q.content.tail ≡ softened o.content.tail → q.content.slots ≡ p.content.slots
     → IsStepDrop disk new chain before left after p [] o q [] [] [] l [] [] r
-    → IsImageAfterTreeChange disk (thread_at (last_site chain before left after) (p ∷ ([] ++ o ∷ []))) new (thread_at (last_site chain before left after) (q ∷ [])) change walk
-    → IsWritableImageAfterTreeChange disk (thread_at (last_site chain before left after) (p ∷ ([] ++ o ∷ []))) new (thread_at (last_site chain before left after) (q ∷ [])) change walk
+    → IsChangedImage disk (thread_at (last_site chain before left after) (p ∷ ([] ++ o ∷ []))) new (thread_at (last_site chain before left after) (q ∷ [])) change walk
+    → IsWritableChange disk (thread_at (last_site chain before left after) (p ∷ ([] ++ o ∷ []))) new (thread_at (last_site chain before left after) (q ∷ [])) change walk
 unthread_taken disk new chain before left after p o q l r change walk ok tail slots step follows = record {
   follows = follows;
   writable = drop_writable disk new chain before left after p [] o q [] [] [] l [] [] r step ok (within_same disk p q slots (within_at disk (last_site chain before left after) p (o ∷ []) ok), tt)
-      (λ h. ((λ e n. h.0 e (sym slots ∙ n)), subst (λ t. AreNoEmptyPairsAfterHardTails (is_hard_tail t) after) (sym tail) (weaker o.content.tail after h.1.1)));
+      (λ h. ((λ e n. h.0 e (sym slots ∙ n)), subst (λ t. HasNoEmpties (is_hard_tail t) after) (sym tail) (weaker o.content.tail after h.1.1)));
 }
   where
-    none_needed : (rs : List Pair) (b : Bool) → AreNoEmptyPairsAfterHardTails b rs → AreNoEmptyPairsAfterHardTails false rs
+    none_needed : (rs : List Pair) (b : Bool) → HasNoEmpties b rs → HasNoEmpties false rs
     none_needed [] b k = tt
     none_needed (r ∷ rs) b k = ((λ e. absurd (cc)), k.1)
 
-    weaker : (t : Option Tail) (rs : List Pair) → AreNoEmptyPairsAfterHardTails (is_hard_tail t) rs → AreNoEmptyPairsAfterHardTails (is_hard_tail (softened t)) rs
+    weaker : (t : Option Tail) (rs : List Pair) → HasNoEmpties (is_hard_tail t) rs → HasNoEmpties (is_hard_tail (softened t)) rs
     weaker None rs k = k
     weaker (Some t) rs k = none_needed rs t.hard k
 
@@ -163,12 +163,12 @@ unthread_taken disk new chain before left after p o q l r change walk ok tail sl
 
 -- p becomes q, or q and a new pair, with news where olds stood, and a fresh pair f without slots after them
 pub record IsPutBeside (disk : Disk) (w : Site) (p q : Pair) (more : List Pair) (f : Pair) (l olds news r : List Slot) : Type 0 where
-  pub writable : IsWritableImage disk (thread_at w (p ∷ []))
+  pub writable : IsWritable disk (thread_at w (p ∷ []))
   pub was : p.content.slots ≡ l ++ (olds ++ r)
-  pub is : slots_of_pairs_in_order (q ∷ more) ≡ l ++ (news ++ r)
+  pub is : all_slots (q ∷ more) ≡ l ++ (news ++ r)
   pub cut : Cut disk (pair_with_slots (l ++ (news ++ r)) p) q more
-  pub fit : Each (IsSlotWithinWritableLimits disk.profile disk.block_size disk.page) news
-  pub filled : ends_in_hard_tail false (w.before ++ w.left) ≡ true → l ++ (news ++ r) ≢ []
+  pub fit : Each (IsWritableSlot disk.profile disk.block_size disk.page) news
+  pub filled : ends_joined false (w.before ++ w.left) ≡ true → l ++ (news ++ r) ≢ []
   pub run : IsRun (q ∷ more)
   pub empty : f.content.slots ≡ []
   pub tail : f.content.tail ≡ p.content.tail
@@ -178,27 +178,27 @@ module _ (disk new : Disk) (chain before left after : List Pair) (p q : Pair) (m
   abbrev draft : Pair
   draft = pair_with_slots (l ++ (news ++ r)) p
 
-  fit_now : Each (IsSlotWithinWritableLimits disk.profile disk.block_size disk.page) (l ++ (news ++ r))
+  fit_now : Each (IsWritableSlot disk.profile disk.block_size disk.page) (l ++ (news ++ r))
   fit_now = fit_spliced disk p l olds news r (within_at disk (last_site chain before left after) p [] c.writable) c.was c.fit
 
   empty_within : IsWithin disk.profile disk.block_size disk.page f
   empty_within = record {
-    pair = subst (λ slots. IsContentFittingPair disk.block_size disk.page (record { slots = slots; tail = f.content.tail; move = f.content.move })) (sym c.empty) (record { size = omega arith; count = omega arith });
-    slots = subst (All (IsSlotWithinWritableLimits disk.profile disk.block_size disk.page)) (sym c.empty) (λ k x lt. absurd (omega arith));
+    pair = subst (λ slots. FitsInPair disk.block_size disk.page (record { slots = slots; tail = f.content.tail; move = f.content.move })) (sym c.empty) (record { size = omega arith; count = omega arith });
+    slots = subst (All (IsWritableSlot disk.profile disk.block_size disk.page)) (sym c.empty) (λ k x lt. absurd (omega arith));
   }
 
-  beside_within : (more : List Pair) → slots_of_pairs_in_order (q ∷ more) ≡ l ++ (news ++ r) → Cut disk (pair_with_slots (l ++ (news ++ r)) p) q more → Each (IsWithin disk.profile disk.block_size disk.page) (q ∷ (more ++ f ∷ []))
+  beside_within : (more : List Pair) → all_slots (q ∷ more) ≡ l ++ (news ++ r) → Cut disk (pair_with_slots (l ++ (news ++ r)) p) q more → Each (IsWithin disk.profile disk.block_size disk.page) (q ∷ (more ++ f ∷ []))
   beside_within [] e k = (
     record {
       pair = fits_same disk draft q (sym (append-nil q.content.slots) ∙ e) k;
-      slots = All-from_recursion (IsSlotWithinWritableLimits disk.profile disk.block_size disk.page) q.content.slots (subst (Each (IsSlotWithinWritableLimits disk.profile disk.block_size disk.page)) (sym (sym (append-nil q.content.slots) ∙ e)) fit_now);
+      slots = All-from_recursion (IsWritableSlot disk.profile disk.block_size disk.page) q.content.slots (subst (Each (IsWritableSlot disk.profile disk.block_size disk.page)) (sym (sym (append-nil q.content.slots) ∙ e)) fit_now);
     },
     (empty_within, tt),
   )
   beside_within (g ∷ []) e k =
-      let all = each_pieces (IsSlotWithinWritableLimits disk.profile disk.block_size disk.page) (λ (x : Pair). x.content.slots) (q ∷ g ∷ []) (subst (Each (IsSlotWithinWritableLimits disk.profile disk.block_size disk.page)) (sym e) fit_now) in (
-        record { pair = k.1; slots = All-from_recursion (IsSlotWithinWritableLimits disk.profile disk.block_size disk.page) q.content.slots all.0 },
-        (record { pair = k.2; slots = All-from_recursion (IsSlotWithinWritableLimits disk.profile disk.block_size disk.page) g.content.slots all.1.0 }, (empty_within, tt)),
+      let all = each_pieces (IsWritableSlot disk.profile disk.block_size disk.page) (λ (x : Pair). x.content.slots) (q ∷ g ∷ []) (subst (Each (IsWritableSlot disk.profile disk.block_size disk.page)) (sym e) fit_now) in (
+        record { pair = k.1; slots = All-from_recursion (IsWritableSlot disk.profile disk.block_size disk.page) q.content.slots all.0 },
+        (record { pair = k.2; slots = All-from_recursion (IsWritableSlot disk.profile disk.block_size disk.page) g.content.slots all.1.0 }, (empty_within, tt)),
       )
   beside_within (g ∷ h ∷ more) e k = absurd k
 
@@ -206,21 +206,21 @@ module _ (disk new : Disk) (chain before left after : List Pair) (p q : Pair) (m
   soft_front : (t : Bool) → t ≡ false → t ≡ true → f.content.slots ≢ []
   soft_front t e k = absurd (let z = sym e ∙ k in cc)
 
-  beside_filled : (more : List Pair) → slots_of_pairs_in_order (q ∷ more) ≡ l ++ (news ++ r) → Cut disk (pair_with_slots (l ++ (news ++ r)) p) q more → IsRun (q ∷ more)
-      → AreNoEmptyPairsAfterHardTails (ends_in_hard_tail false (before ++ left)) (p ∷ [] ++ after) → AreNoEmptyPairsAfterHardTails (ends_in_hard_tail false (before ++ left)) (q ∷ (more ++ f ∷ []) ++ after)
+  beside_filled : (more : List Pair) → all_slots (q ∷ more) ≡ l ++ (news ++ r) → Cut disk (pair_with_slots (l ++ (news ++ r)) p) q more → IsRun (q ∷ more)
+      → HasNoEmpties (ends_joined false (before ++ left)) (p ∷ [] ++ after) → HasNoEmpties (ends_joined false (before ++ left)) (q ∷ (more ++ f ∷ []) ++ after)
   beside_filled [] e k run h = (
     (λ front none. c.filled front (sym (sym (append-nil q.content.slots) ∙ e) ∙ none)),
-    (soft_front (is_hard_tail q.content.tail) run, subst (λ t. AreNoEmptyPairsAfterHardTails (is_hard_tail t) after) (sym c.tail) h.1),
+    (soft_front (is_hard_tail q.content.tail) run, subst (λ t. HasNoEmpties (is_hard_tail t) after) (sym c.tail) h.1),
   )
   beside_filled (g ∷ []) e k run h =
       let some = cut_some disk draft q g e k.0 k.1 k.2 in
-      ((λ front. some.0), ((λ hard. some.1), (soft_front (is_hard_tail g.content.tail) run.1, subst (λ t. AreNoEmptyPairsAfterHardTails (is_hard_tail t) after) (sym c.tail) h.1)))
+      ((λ front. some.0), ((λ hard. some.1), (soft_front (is_hard_tail g.content.tail) run.1, subst (λ t. HasNoEmpties (is_hard_tail t) after) (sym c.tail) h.1)))
   beside_filled (g ∷ i ∷ more) e k run h = absurd k
 
-  pub beside_taken : (extra fresh : List ℕ) (change : Tree → Tree) (walk : DirectoryAddressByPath → DirectoryAddressByPath) → IsStepBeside disk new chain before left after p [] q more f extra fresh l olds news r
-      → (P : Path) (a : ℕ × ℕ) → IsPathToDirectory (thread_at (last_site chain before left after) (p ∷ [])) P a → same_pair (begin_of (last_site chain before left after) (p ∷ [])) a ≡ true
-      → IsImageAfterTreeChange disk (thread_at (last_site chain before left after) (p ∷ [])) new (thread_at (last_site chain before left after) (q ∷ (more ++ f ∷ []))) change walk
-      → IsWritableImageAfterTreeChange disk (thread_at (last_site chain before left after) (p ∷ [])) new (thread_at (last_site chain before left after) (q ∷ (more ++ f ∷ []))) change walk
+  pub beside_taken : (extra fresh : List ℕ) (change : Tree → Tree) (walk : PathAddresses → PathAddresses) → IsStepBeside disk new chain before left after p [] q more f extra fresh l olds news r
+      → (P : Path) (a : ℕ × ℕ) → LeadsTo (thread_at (last_site chain before left after) (p ∷ [])) P a → same_pair (begin_of (last_site chain before left after) (p ∷ [])) a ≡ true
+      → IsChangedImage disk (thread_at (last_site chain before left after) (p ∷ [])) new (thread_at (last_site chain before left after) (q ∷ (more ++ f ∷ []))) change walk
+      → IsWritableChange disk (thread_at (last_site chain before left after) (p ∷ [])) new (thread_at (last_site chain before left after) (q ∷ (more ++ f ∷ []))) change walk
   beside_taken extra fresh change walk step P a leads same follows = record {
     follows = follows;
     writable = beside_writable disk new chain before left after p [] q more f extra fresh l olds news r step P a leads same c.writable (beside_within more c.is c.cut) (beside_filled more c.is c.cut c.run);

@@ -3,21 +3,21 @@ use Rattle.std.proofs.Common.{ℕ, zero, suc, ◌≡◌, ◌+◌, ◌/◌, ◌%�
 use Rattle.std.specs.Prelude.{slice_index, nat_le, nat_lt}
 use Rattle.std.specs.List.{list_all}
 use Rattle.std.proofs.lemmas.Bool.{and_parts, ne_eqb, leb-true, ltb-true}
-use Rattle.lfs_model.specs.Tag.{tag_of_type_id_and_length, abstract_type_of_tag, length_of_tag}
-use Rattle.lfs_model.specs.Content.{RawPairContent, content_after_log_entries}
-use Rattle.lfs_model.specs.EntryTypes.{is_attribute_removal, no_id, create_tag_type, delete_tag_type, move_state_type}
-use Rattle.lfs_model.specs.WrittenContent.{log_entry_of_type_id_and_bytes, lowest_attribute_type, bytes_of_pair_address, bytes_of_move_state, tail_type, tail_pair_or_null}
-use Rattle.lfs_model.specs.LoggedContent.{HasAsManyBytesAsTagSays, HaveAsManyBytesAsTheirTagsSay, IsWellFormedRawPairContent}
-use Rattle.lfs_model.specs.Changes.{PairContentChange, Create, Delete, PutStruct, PutAttribute, RemoveAttribute, PutTail, PutMove, log_entries_of_change, log_entries_of_changes, is_storable_pair_content_change, is_name_type, is_struct_type, is_within_tag_data_limit, raw_pair_content_after_changes}
-use Rattle.lfs_model.proofs.WrittenAnew.{length_of_tag-tag_of_type_id_and_length}
+use Rattle.lfs_model.specs.format.Tag.{make_tag, abstract_type, tag_length}
+use Rattle.lfs_model.specs.format.Content.{RawContent, content_after}
+use Rattle.lfs_model.specs.format.EntryTypes.{is_attribute_removal, no_id, create_tag_type, delete_tag_type, move_type}
+use Rattle.lfs_model.specs.layers.WrittenContent.{log_entry_of, lowest_type, address_bytes, bytes_of_move_state, tail_type, tail_or_null}
+use Rattle.lfs_model.specs.layers.LoggedContent.{HasLength, HaveLengths, IsWellFormed}
+use Rattle.lfs_model.specs.layers.Changes.{PairChange, Create, Delete, PutStruct, PutAttribute, RemoveAttribute, PutTail, PutMove, change_entries, entries_of_changes, is_storable, is_name_type, is_struct_type, fits_in_tag, changed_content_of}
+use Rattle.lfs_model.proofs.WrittenAnew.{tag_length-make_tag}
 use Rattle.lfs_model.proofs.Logged.{stored_append, logged_after_all}
 
 -- an entry with at most 1,022 bytes
-stored_data : (type id : ℕ) (bytes : List ℕ) → length bytes ≤ 1022 → (6 ≤ abstract_type_of_tag (tag_of_type_id_and_length type id (length bytes)) → (i : ℕ) → slice_index bytes i < 256) → HasAsManyBytesAsTagSays (log_entry_of_type_id_and_bytes type id bytes)
+stored_data : (type id : ℕ) (bytes : List ℕ) → length bytes ≤ 1022 → (6 ≤ abstract_type (make_tag type id (length bytes)) → (i : ℕ) → slice_index bytes i < 256) → HasLength (log_entry_of type id bytes)
 stored_data type id bytes short small =
-    let len : length_of_tag (tag_of_type_id_and_length type id (length bytes)) ≡ length bytes = length_of_tag-tag_of_type_id_and_length type id (length bytes) (omega arith) in
-    let stays : is_attribute_removal (tag_of_type_id_and_length type id (length bytes)) ≡ false = ne_eqb (length_of_tag (tag_of_type_id_and_length type id (length bytes))) 0x3ff (λ h. omega arith) in
-    record { size = sym (ap (λ b. cond b 0 (length_of_tag (tag_of_type_id_and_length type id (length bytes)))) stays ∙ len); bytes = small }
+    let len : tag_length (make_tag type id (length bytes)) ≡ length bytes = tag_length-make_tag type id (length bytes) (omega arith) in
+    let stays : is_attribute_removal (make_tag type id (length bytes)) ≡ false = ne_eqb (tag_length (make_tag type id (length bytes))) 0x3ff (λ h. omega arith) in
+    record { size = sym (ap (λ b. cond b 0 (tag_length (make_tag type id (length bytes)))) stays ∙ len); bytes = small }
 
 -- the bytes of numbers
 abbrev EachSmall : List ℕ → Type 0
@@ -32,38 +32,38 @@ small_at (b ∷ bytes) h (suc i) = small_at bytes h.1 i
 eight : (bytes : List ℕ) → EachSmall bytes → (a b c d e f g h : ℕ) → EachSmall (a % 256 ∷ b % 256 ∷ c % 256 ∷ d % 256 ∷ e % 256 ∷ f % 256 ∷ g % 256 ∷ h % 256 ∷ bytes)
 eight bytes all a b c d e f g h = (omega arith, (omega arith, (omega arith, (omega arith, (omega arith, (omega arith, (omega arith, (omega arith, all))))))))
 
-pair_small : (pair : ℕ × ℕ) → EachSmall (bytes_of_pair_address pair)
+pair_small : (pair : ℕ × ℕ) → EachSmall (address_bytes pair)
 pair_small pair = eight [] tt pair.0 (pair.0 / 256) (pair.0 / 65536) (pair.0 / 16777216) pair.1 (pair.1 / 256) (pair.1 / 65536) (pair.1 / 16777216)
 
 -- entries of names, structs and attributes are of a lower class
-stored_low : (type id : ℕ) (bytes : List ℕ) → type < 0x600 → id < 0x3ff → length bytes ≤ 1022 → HasAsManyBytesAsTagSays (log_entry_of_type_id_and_bytes type id bytes)
+stored_low : (type id : ℕ) (bytes : List ℕ) → type < 0x600 → id < 0x3ff → length bytes ≤ 1022 → HasLength (log_entry_of type id bytes)
 stored_low type id bytes t i n = stored_data type id bytes n (λ k. absurd (omega arith))
 
-stored_change : (c : PairContentChange) → is_storable_pair_content_change c ≡ true → HaveAsManyBytesAsTheirTagsSay (log_entries_of_change c)
+stored_change : (c : PairChange) → is_storable c ≡ true → HaveLengths (change_entries c)
 stored_change (Create id kind name) s =
-    let a = and_parts (nat_lt id no_id) (is_name_type kind && is_within_tag_data_limit name) s in
-    let b = and_parts (is_name_type kind) (is_within_tag_data_limit name) a.1 in
+    let a = and_parts (nat_lt id no_id) (is_name_type kind && fits_in_tag name) s in
+    let b = and_parts (is_name_type kind) (fits_in_tag name) a.1 in
     let i : id < 0x3ff = ltb-true id no_id a.0 in
     let k : kind < 0x100 = ltb-true kind 0x100 b.0 in
     let n : length name ≤ 1022 = leb-true (length name) 1022 b.1 in
     (stored_low create_tag_type id [] (omega arith) i (omega arith), (stored_low kind id name (omega arith) i n, tt))
 stored_change (Delete id) s = (stored_low delete_tag_type id [] (omega arith) (ltb-true id no_id s) (omega arith), tt)
 stored_change (PutStruct id kind bytes) s =
-    let a = and_parts (nat_lt id no_id) (is_struct_type kind && is_within_tag_data_limit bytes) s in
-    let b = and_parts (is_struct_type kind) (is_within_tag_data_limit bytes) a.1 in
+    let a = and_parts (nat_lt id no_id) (is_struct_type kind && fits_in_tag bytes) s in
+    let b = and_parts (is_struct_type kind) (fits_in_tag bytes) a.1 in
     let k = and_parts (nat_le 0x200 kind) (nat_lt kind 0x300) b.0 in
     let below : kind < 0x300 = ltb-true kind 0x300 k.1 in
     (stored_low kind id bytes (omega arith) (ltb-true id no_id a.0) (leb-true (length bytes) 1022 b.1), tt)
 stored_change (PutAttribute id attribute bytes) s =
-    let a = and_parts (nat_lt id no_id) (nat_lt attribute 0x100 && is_within_tag_data_limit bytes) s in
-    let b = and_parts (nat_lt attribute 0x100) (is_within_tag_data_limit bytes) a.1 in
+    let a = and_parts (nat_lt id no_id) (nat_lt attribute 0x100 && fits_in_tag bytes) s in
+    let b = and_parts (nat_lt attribute 0x100) (fits_in_tag bytes) a.1 in
     let below : attribute < 0x100 = ltb-true attribute 0x100 b.0 in
-    (stored_low (lowest_attribute_type + attribute) id bytes (omega arith) (ltb-true id no_id a.0) (leb-true (length bytes) 1022 b.1), tt)
+    (stored_low (lowest_type + attribute) id bytes (omega arith) (ltb-true id no_id a.0) (leb-true (length bytes) 1022 b.1), tt)
 stored_change (RemoveAttribute id attribute) s =
     let a = and_parts (nat_lt id no_id) (nat_lt attribute 0x100) s in
     let i : id < 0x3ff = ltb-true id no_id a.0 in
     let below : attribute < 0x100 = ltb-true attribute 0x100 a.1 in
-    let len : length_of_tag (tag_of_type_id_and_length (lowest_attribute_type + attribute) id 0x3ff) ≡ 0x3ff = length_of_tag-tag_of_type_id_and_length (lowest_attribute_type + attribute) id 0x3ff (omega arith) in (
+    let len : tag_length (make_tag (lowest_type + attribute) id 0x3ff) ≡ 0x3ff = tag_length-make_tag (lowest_type + attribute) id 0x3ff (omega arith) in (
       record {
         size = sym (ap (λ l. cond (l == 0x3ff) 0 l) len);
         bytes = λ k. absurd (omega arith);
@@ -71,19 +71,19 @@ stored_change (RemoveAttribute id attribute) s =
       tt,
     )
 stored_change (PutTail hard pair) s =
-    (stored_data (tail_type hard) no_id (bytes_of_pair_address (tail_pair_or_null pair)) (omega arith) (λ k. small_at (bytes_of_pair_address (tail_pair_or_null pair)) (pair_small (tail_pair_or_null pair))), tt)
+    (stored_data (tail_type hard) no_id (address_bytes (tail_or_null pair)) (omega arith) (λ k. small_at (address_bytes (tail_or_null pair)) (pair_small (tail_or_null pair))), tt)
 stored_change (PutMove state) s =
-    (stored_data move_state_type no_id (bytes_of_move_state state) (omega arith) (λ k. small_at (bytes_of_move_state state) (omega arith, (omega arith, (omega arith, (omega arith, pair_small state.pair))))), tt)
+    (stored_data move_type no_id (bytes_of_move_state state) (omega arith) (λ k. small_at (bytes_of_move_state state) (omega arith, (omega arith, (omega arith, (omega arith, pair_small state.pair))))), tt)
 
-stored_changes : (changes : List PairContentChange) → list_all is_storable_pair_content_change changes ≡ true → HaveAsManyBytesAsTheirTagsSay (log_entries_of_changes changes)
+stored_changes : (changes : List PairChange) → list_all is_storable changes ≡ true → HaveLengths (entries_of_changes changes)
 stored_changes [] s = tt
 stored_changes (c ∷ changes) s =
-    let both = and_parts (is_storable_pair_content_change c) (list_all is_storable_pair_content_change changes) s in
-    stored_append (log_entries_of_change c) (log_entries_of_changes changes) (stored_change c both.0) (stored_changes changes both.1)
+    let both = and_parts (is_storable c) (list_all is_storable changes) s in
+    stored_append (change_entries c) (entries_of_changes changes) (stored_change c both.0) (stored_changes changes both.1)
 
-pub logged_changed : (c : RawPairContent) (changes : List PairContentChange) (d : RawPairContent) → IsWellFormedRawPairContent c → raw_pair_content_after_changes c changes ≡ Some d → IsWellFormedRawPairContent d
-logged_changed c changes d h is = go (list_all is_storable_pair_content_change changes) refl is
+pub logged_changed : (c : RawContent) (changes : List PairChange) (d : RawContent) → IsWellFormed c → changed_content_of c changes ≡ Some d → IsWellFormed d
+logged_changed c changes d h is = go (list_all is_storable changes) refl is
   where
-    go : (b : Bool) → list_all is_storable_pair_content_change changes ≡ b → cond b (content_after_log_entries c (log_entries_of_changes changes)) None ≡ Some d → IsWellFormedRawPairContent d
-    go true s f = logged_after_all c (log_entries_of_changes changes) d h (stored_changes changes s) f
+    go : (b : Bool) → list_all is_storable changes ≡ b → cond b (content_after c (entries_of_changes changes)) None ≡ Some d → IsWellFormed d
+    go true s f = logged_after_all c (entries_of_changes changes) d h (stored_changes changes s) f
     go false s f = absurd (cc)

@@ -1,20 +1,20 @@
 -- Session steps that survive stops survive them.
 use Rattle.std.proofs.Common.{ℕ, ◌≡◌, Bool, true, false, cond, List, Option, Some, refl, sym, ap, ap₂, subst, ◌∙◌}
 use Rattle.lfs_model.specs.declared.limits.Profile.{Profile}
-use Rattle.lfs_model.specs.Content.{content_of_pair_at}
-use Rattle.lfs_model.specs.Disk.{Disk, block_count, disk_in_order}
-use Rattle.lfs_model.specs.Operations.{Operation, Reply}
-use Rattle.lfs_model.specs.PowerLoss.{IsHealthySessionOnWritableDisk, HasTreeBeforeOrAfterOperation, IsOperationSurvivingPowerLossInCalls, IsOperationSurvivingPowerLoss}
-use Rattle.lfs_model.specs.Run.{HealthySessionHasTreeOfDisk, IsTreeOfDiskOrNone, IsSessionStep, SystemState, is_refusal}
-use Rattle.lfs_model.specs.Session.{Session, DiskSummary}
-use Rattle.lfs_model.specs.Slots.{Gstate}
-use Rattle.lfs_model.specs.State.{Healthy, SessionHealth, IsSummaryOfDisk, reply_and_session_health_unless_remount, is_remount_operation, reply_and_session_health_after_remount}
-use Rattle.lfs_model.specs.Effects.{refusal_or_effect_of_operation}
-use Rattle.lfs_model.specs.Thread.{Pair}
-use Rattle.lfs_model.specs.View.{IsAcceptedImage}
-use Rattle.lfs_model.specs.Shown.{tree_on_disk}
+use Rattle.lfs_model.specs.format.Content.{content_at}
+use Rattle.lfs_model.specs.format.Disk.{Disk, block_count, ordered_disk}
+use Rattle.lfs_model.specs.session.Operations.{Operation, Reply}
+use Rattle.lfs_model.specs.crash.PowerLoss.{IsHealthySession, HasEither, SurvivesInCalls, SurvivesPowerLoss}
+use Rattle.lfs_model.specs.session.Run.{HealthyHasDiskTree, ShowsTree, IsStep, SystemState, is_refusal}
+use Rattle.lfs_model.specs.session.Session.{Session, DiskSummary}
+use Rattle.lfs_model.specs.format.Slots.{Gstate}
+use Rattle.lfs_model.specs.session.State.{Healthy, SessionHealth, IsSummary, reply_else, is_remount, remount_result}
+use Rattle.lfs_model.specs.session.Effects.{operation_result}
+use Rattle.lfs_model.specs.format.Thread.{Pair}
+use Rattle.lfs_model.specs.tree.View.{IsAccepted}
+use Rattle.lfs_model.specs.tree.Shown.{tree_on_disk}
 use Rattle.lfs_model.proofs.AfterStops.{left_after, left_before}
-use Rattle.lfs_model.specs.Profile.{IsWritableImage}
+use Rattle.lfs_model.specs.tree.Profile.{IsWritable}
 use Rattle.lfs_model.proofs.Kept.{one_tree}
 use Rattle.lfs_model.proofs.OtherOrder.{same_pairs, same_tree, writable_in_order}
 use Rattle.lfs_model.proofs.SessionSteps.{IsHealthy, session_step_is_healthy, true_from}
@@ -28,11 +28,11 @@ same_bit true false f g = sym (f refl)
 same_bit false true f g = g refl
 same_bit false false f g = refl
 
-pub same_surroundings : (disk : Disk) (ps qs : List Pair) (a b : DiskSummary) → IsAcceptedImage disk ps → IsAcceptedImage disk qs → IsSummaryOfDisk disk ps a → IsSummaryOfDisk disk qs b → a ≡ b
+pub same_surroundings : (disk : Disk) (ps qs : List Pair) (a b : DiskSummary) → IsAccepted disk ps → IsAccepted disk qs → IsSummary disk ps a → IsSummary disk qs b → a ≡ b
 same_surroundings disk ps qs a b one other around about =
-    all (subst (λ z. IsSummaryOfDisk disk z a) (one_thread (content_of_pair_at disk) (block_count disk) ps qs one.thread other.thread) around) about
+    all (subst (λ z. IsSummary disk z a) (one_thread (content_at disk) (block_count disk) ps qs one.thread other.thread) around) about
   where
-    all : IsSummaryOfDisk disk qs a → IsSummaryOfDisk disk qs b → a ≡ b
+    all : IsSummary disk qs a → IsSummary disk qs b → a ≡ b
     all x y =
         ap (λ (k : Profile). record a { profile = k }) (x.profile ∙ sym y.profile)
         ∙ ap₂ (λ (s p : ℕ). record a { profile = b.profile; block_size = s; page = p }) (x.block_size ∙ sym y.block_size) (x.page ∙ sym y.page)
@@ -42,44 +42,44 @@ same_surroundings disk ps qs a b one other around about =
 -- ---- a turn
 
 -- What is at the end of a session step is what the definitions have there, so a session step that survives stops survives them.
-pub session_step_survives_loss : (from : SystemState) (op : Operation) (reply : Reply) (to : SystemState) → HealthySessionHasTreeOfDisk from.disk from.state → IsSessionStep from op reply to → IsOperationSurvivingPowerLossInCalls from op to → IsOperationSurvivingPowerLoss from op to
+pub session_step_survives_loss : (from : SystemState) (op : Operation) (reply : Reply) (to : SystemState) → HealthyHasDiskTree from.disk from.state → IsStep from op reply to → SurvivesInCalls from op to → SurvivesPowerLoss from op to
 session_step_survives_loss from op reply to agrees turn survives = record { stops = survives; stands = λ s ps around work clean fails. stands s ps around work }
   where
-    stands : (s : Session) (ps : List Pair) (around : DiskSummary) → IsHealthySessionOnWritableDisk from s ps around → HasTreeBeforeOrAfterOperation to.disk s.tree (refusal_or_effect_of_operation around s op).1.tree
-    stands s ps around work = by_op (is_remount_operation op) refl
+    stands : (s : Session) (ps : List Pair) (around : DiskSummary) → IsHealthySession from s ps around → HasEither to.disk s.tree (operation_result around s op).1.tree
+    stands s ps around work = by_op (is_remount op) refl
       where
-        untouched : to.disk ≡ from.disk → HasTreeBeforeOrAfterOperation to.disk s.tree (refusal_or_effect_of_operation around s op).1.tree
-        untouched e = subst (λ d. HasTreeBeforeOrAfterOperation d s.tree (refusal_or_effect_of_operation around s op).1.tree) (sym e)
-            (left_before from.disk ps s.tree (refusal_or_effect_of_operation around s op).1.tree work.accepted work.writable
-            (one_tree from.disk (tree_on_disk from.disk ps) s.tree (ps, (work.accepted, refl)) (subst (HealthySessionHasTreeOfDisk from.disk) work.healthy agrees)))
+        untouched : to.disk ≡ from.disk → HasEither to.disk s.tree (operation_result around s op).1.tree
+        untouched e = subst (λ d. HasEither d s.tree (operation_result around s op).1.tree) (sym e)
+            (left_before from.disk ps s.tree (operation_result around s op).1.tree work.accepted work.writable
+            (one_tree from.disk (tree_on_disk from.disk ps) s.tree (ps, (work.accepted, refl)) (subst (HealthyHasDiskTree from.disk) work.healthy agrees)))
 
         -- by a remount, in the order that it found
-        read_anew : to.disk ≡ disk_in_order to.disk.order from.disk → HasTreeBeforeOrAfterOperation to.disk s.tree (refusal_or_effect_of_operation around s op).1.tree
+        read_anew : to.disk ≡ ordered_disk to.disk.order from.disk → HasEither to.disk s.tree (operation_result around s op).1.tree
         read_anew e =
             let known = true_from to (session_step_is_healthy from to op reply turn (subst IsHealthy (sym work.healthy) tt)) turn.agrees in
-            let shown = subst (λ d. IsTreeOfDiskOrNone d (Some known.session.tree)) e known.shows in
+            let shown = subst (λ d. ShowsTree d (Some known.session.tree)) e known.shows in
             let pairs = same_pairs to.disk.order from.disk ps shown.0 work.accepted shown.1.0 in
-            subst (λ d. HasTreeBeforeOrAfterOperation d s.tree (refusal_or_effect_of_operation around s op).1.tree) (sym e)
-            (left_before (disk_in_order to.disk.order from.disk) shown.0 s.tree (refusal_or_effect_of_operation around s op).1.tree shown.1.0
-            (writable_in_order to.disk.order from.disk shown.0 (subst (IsWritableImage from.disk) pairs work.writable))
-            (same_tree to.disk.order from.disk (tree_on_disk from.disk shown.0) s.tree (shown.0, (shown.1.0, refl)) (subst (HealthySessionHasTreeOfDisk from.disk) work.healthy agrees)))
+            subst (λ d. HasEither d s.tree (operation_result around s op).1.tree) (sym e)
+            (left_before (ordered_disk to.disk.order from.disk) shown.0 s.tree (operation_result around s op).1.tree shown.1.0
+            (writable_in_order to.disk.order from.disk shown.0 (subst (IsWritable from.disk) pairs work.writable))
+            (same_tree to.disk.order from.disk (tree_on_disk from.disk shown.0) s.tree (shown.0, (shown.1.0, refl)) (subst (HealthyHasDiskTree from.disk) work.healthy agrees)))
 
-        done : is_remount_operation op ≡ false → is_refusal reply ≡ false → HasTreeBeforeOrAfterOperation to.disk s.tree (refusal_or_effect_of_operation around s op).1.tree
+        done : is_remount op ≡ false → is_refusal reply ≡ false → HasEither to.disk s.tree (operation_result around s op).1.tree
         done other accepted =
             let a = turn.answered in
             let about = a.surrounds s work.healthy in
             let same = same_surroundings from.disk about.0 ps a.around around about.1.0 work.accepted about.1.1 work.surrounds in
-            let state : Healthy (refusal_or_effect_of_operation around s op).1 ≡ to.state =
+            let state : Healthy (operation_result around s op).1 ≡ to.state =
             ap (λ (z : Option Reply × SessionHealth). z.1)
-            (sym (ap (λ z. reply_and_session_health_unless_remount z (Healthy s) op) same) ∙ sym (ap (λ z. reply_and_session_health_unless_remount a.around z op) work.healthy) ∙ sym (ap (λ b. cond b (reply_and_session_health_after_remount a.shown) (reply_and_session_health_unless_remount a.around from.state op)) other) ∙ a.answers) in
-            let shown = subst (HealthySessionHasTreeOfDisk to.disk) (sym state) turn.agrees in
-            left_after to.disk shown.0 s.tree (refusal_or_effect_of_operation around s op).1.tree shown.1.0
+            (sym (ap (λ z. reply_else z (Healthy s) op) same) ∙ sym (ap (λ z. reply_else a.around z op) work.healthy) ∙ sym (ap (λ b. cond b (remount_result a.shown) (reply_else a.around from.state op)) other) ∙ a.answers) in
+            let shown = subst (HealthyHasDiskTree to.disk) (sym state) turn.agrees in
+            left_after to.disk shown.0 s.tree (operation_result around s op).1.tree shown.1.0
             ((turn.effect_on_disk accepted s work.healthy ps shown.0 work.accepted shown.1.0).profile work.writable) (sym shown.1.1)
 
-        by_reply : (b : Bool) → is_refusal reply ≡ b → is_remount_operation op ≡ false → HasTreeBeforeOrAfterOperation to.disk s.tree (refusal_or_effect_of_operation around s op).1.tree
+        by_reply : (b : Bool) → is_refusal reply ≡ b → is_remount op ≡ false → HasEither to.disk s.tree (operation_result around s op).1.tree
         by_reply true e other = untouched (turn.refused e).0
         by_reply false e other = done other e
 
-        by_op : (b : Bool) → is_remount_operation op ≡ b → HasTreeBeforeOrAfterOperation to.disk s.tree (refusal_or_effect_of_operation around s op).1.tree
+        by_op : (b : Bool) → is_remount op ≡ b → HasEither to.disk s.tree (operation_result around s op).1.tree
         by_op true e = read_anew (turn.remounted e).untouched.0
         by_op false e = by_reply (is_refusal reply) refl e

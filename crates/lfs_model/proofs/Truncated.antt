@@ -1,12 +1,12 @@
 -- What a ghost field says of a device's calls, as a truncated fact, is so: each case of it is decided.
 use Rattle.std.proofs.Common.{ℕ, ◌≡◌, ◌==◌, ◌⊎◌, inl, inr, Bool, true, false, List, [], ◌∷◌, Option, Some, None, refl, ap, ◌∙◌, eqb-true, eq-eqb}
 use Rattle.std.proofs.Math.Logic.{∥∥₁_map, ∥∥₁_elim}
-use Rattle.lfs_model.specs.Blocks.{Blocks, AreBlocksEqualExceptOne, block_bytes_by_number, bytes_after_overwrite_at}
-use Rattle.lfs_model.specs.Log.{LogEntry, BlockLog, log_of_block}
-use Rattle.lfs_model.specs.History.{DeviceCall, Read, Program, Erase, Blank, DeviceCallEvent, IsTrueOfEachCall}
-use Rattle.lfs_model.specs.Stops.{MayStoppedEraseLeaveBlock, MayStoppedProgramLeaveBlock, are_blocks_after_stopped_call, LeavesNoNewLogIfSuccessfulErase, leaves_no_new_log_if_successful_erase}
-use Rattle.lfs_model.specs.PowerLoss.{IsLikePowerLossIfCallFailed}
-use Rattle.lfs_model.specs.Premises.{IsHistoryMeetingPowerLossPremises}
+use Rattle.lfs_model.specs.format.Blocks.{Blocks, SameExcept, block_bytes, overwritten_at}
+use Rattle.lfs_model.specs.format.Log.{LogEntry, BlockLog, block_log}
+use Rattle.lfs_model.specs.session.History.{DeviceCall, Read, Program, Erase, Blank, CallEvent, AllCalls}
+use Rattle.lfs_model.specs.crash.Stops.{MayEraseLeave, MayProgramLeave, may_stop_leave, ErasesCleanly, erases_cleanly}
+use Rattle.lfs_model.specs.crash.PowerLoss.{FailsLikeLoss}
+use Rattle.lfs_model.specs.crash.Premises.{MeetsPremises}
 
 abbrev Decided : Type 0 → Type 0
 Decided A = A ⊎ (A → ⊥)
@@ -68,13 +68,13 @@ same_logs (Some x) (Some y) = elim (same_log x y) [
   | inr differs ↦ inr (λ is. let logs : x ≡ y = cc in differs logs)
 ]
 
-by_erase : (old new : List ℕ) → Decided (MayStoppedEraseLeaveBlock old new)
-by_erase old new = either (same_logs (log_of_block new) (log_of_block old)) (same_logs (log_of_block new) None)
+by_erase : (old new : List ℕ) → Decided (MayEraseLeave old new)
+by_erase old new = either (same_logs (block_log new) (block_log old)) (same_logs (block_log new) None)
 
-by_program : (off : ℕ) (bytes old new : List ℕ) → Decided (MayStoppedProgramLeaveBlock off bytes old new)
+by_program : (off : ℕ) (bytes old new : List ℕ) → Decided (MayProgramLeave off bytes old new)
 by_program off bytes old new =
-    either (same_logs (log_of_block new) (log_of_block old))
-    (either (same_logs (log_of_block new) (log_of_block (bytes_after_overwrite_at old off bytes))) (both (same_number off 0) (same_logs (log_of_block new) None)))
+    either (same_logs (block_log new) (block_log old))
+    (either (same_logs (block_log new) (block_log (overwritten_at old off bytes))) (both (same_number off 0) (same_logs (block_log new) None)))
 
 -- ---- what is truncated
 
@@ -85,34 +85,34 @@ from_decided : {A : Type 0} → Decided A → ∥ A ∥₁ → A
 from_decided (inl a) is = a
 from_decided (inr differs) is = absurd (∥∥₁_elim is none_is_one differs)
 
-same_but : (b : ℕ) (old new : Blocks) → ∥ AreBlocksEqualExceptOne b old new ∥₁ → AreBlocksEqualExceptOne b old new
+same_but : (b : ℕ) (old new : Blocks) → ∥ SameExcept b old new ∥₁ → SameExcept b old new
 same_but b old new is = record {
   count = from_decided (same_number _ _) (∥∥₁_map is (λ s. s.count));
   size = from_decided (same_number _ _) (∥∥₁_map is (λ s. s.size));
-  others = λ other d. from_decided (same_list same_number (block_bytes_by_number new other) (block_bytes_by_number old other)) (∥∥₁_map is (λ s. s.others other d));
+  others = λ other d. from_decided (same_list same_number (block_bytes new other) (block_bytes old other)) (∥∥₁_map is (λ s. s.others other d));
 }
 
-stopped : (call : DeviceCall) (before disk : Blocks) → ∥ are_blocks_after_stopped_call call before disk ∥₁ → are_blocks_after_stopped_call call before disk
+stopped : (call : DeviceCall) (before disk : Blocks) → ∥ may_stop_leave call before disk ∥₁ → may_stop_leave call before disk
 stopped (Read block off len) before disk is = from_decided (same_list (same_list same_number) disk before) is
 stopped (Program block off bytes) before disk is =
-    (same_but block before disk (∥∥₁_map is (λ s. s.0)), from_decided (by_program off bytes (block_bytes_by_number before block) (block_bytes_by_number disk block)) (∥∥₁_map is (λ s. s.1)))
+    (same_but block before disk (∥∥₁_map is (λ s. s.0)), from_decided (by_program off bytes (block_bytes before block) (block_bytes disk block)) (∥∥₁_map is (λ s. s.1)))
 stopped (Erase block) before disk is =
-    (same_but block before disk (∥∥₁_map is (λ s. s.0)), from_decided (by_erase (block_bytes_by_number before block) (block_bytes_by_number disk block)) (∥∥₁_map is (λ s. s.1)))
+    (same_but block before disk (∥∥₁_map is (λ s. s.0)), from_decided (by_erase (block_bytes before block) (block_bytes disk block)) (∥∥₁_map is (λ s. s.1)))
 stopped (Blank block off len) before disk is = from_decided (same_list (same_list same_number) disk before) is
 
-cleanly : (call : DeviceCall) (failed : Bool) (before after : Blocks) → ∥ leaves_no_new_log_if_successful_erase call failed before after ∥₁ → leaves_no_new_log_if_successful_erase call failed before after
+cleanly : (call : DeviceCall) (failed : Bool) (before after : Blocks) → ∥ erases_cleanly call failed before after ∥₁ → erases_cleanly call failed before after
 cleanly (Read block off len) failed before after is = tt
 cleanly (Program block off bytes) failed before after is = tt
 cleanly (Erase block) true before after is = tt
-cleanly (Erase block) false before after is = from_decided (by_erase (block_bytes_by_number before block) (block_bytes_by_number after block)) is
+cleanly (Erase block) false before after is = from_decided (by_erase (block_bytes before block) (block_bytes after block)) is
 cleanly (Blank block off len) failed before after is = tt
 
-each : (P : DeviceCallEvent → Type 0) → ((e : DeviceCallEvent) → ∥ P e ∥₁ → P e) → (events : List DeviceCallEvent) → ∥ IsTrueOfEachCall P events ∥₁ → IsTrueOfEachCall P events
+each : (P : CallEvent → Type 0) → ((e : CallEvent) → ∥ P e ∥₁ → P e) → (events : List CallEvent) → ∥ AllCalls P events ∥₁ → AllCalls P events
 each P one [] is = tt
 each P one (e ∷ events) is = (one e (∥∥₁_map is (λ all. all.0)), each P one events (∥∥₁_map is (λ all. all.1)))
 
-pub premises_hold : (history : List DeviceCallEvent) → ∥ IsHistoryMeetingPowerLossPremises history ∥₁ → IsHistoryMeetingPowerLossPremises history
+pub premises_hold : (history : List CallEvent) → ∥ MeetsPremises history ∥₁ → MeetsPremises history
 premises_hold history is = record {
-  erases = each LeavesNoNewLogIfSuccessfulErase (λ e one. cleanly e.call e.failed e.before e.after one) history (∥∥₁_map is (λ m. m.erases));
-  failed = each IsLikePowerLossIfCallFailed (λ e one failed. stopped e.call e.before e.after (∥∥₁_map one (λ f. f failed))) history (∥∥₁_map is (λ m. m.failed));
+  erases = each ErasesCleanly (λ e one. cleanly e.call e.failed e.before e.after one) history (∥∥₁_map is (λ m. m.erases));
+  failed = each FailsLikeLoss (λ e one failed. stopped e.call e.before e.after (∥∥₁_map one (λ f. f failed))) history (∥∥₁_map is (λ m. m.failed));
 }

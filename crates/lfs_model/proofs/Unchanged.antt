@@ -4,16 +4,16 @@ use Rattle.std.specs.Prelude.{slice_get, codes}
 use Rattle.std.specs.Option.{option_map}
 use Rattle.std.proofs.lemmas.List.Elements.{All-from_recursion, recursion_from_All}
 use Rattle.std.proofs.lemmas.List.Concat.{flat_map-append}
-use Rattle.lfs_model.specs.Disk.{Disk, block_count}
-use Rattle.lfs_model.specs.Slots.{Slot}
-use Rattle.lfs_model.specs.Thread.{Pair, blocks_of_pairs, pairs_from_first_with_slots, gstate_of_pairs, starts_with_superblock, slots_not_moved}
-use Rattle.lfs_model.specs.View.{IsSkipListIfCtzStruct, IsAcceptedImage, first_slot_name}
-use Rattle.lfs_model.specs.Shown.{all_slots_not_moved, used_blocks}
-use Rattle.lfs_model.proofs.Counts.{Each, each_always, each_both, each_right, occurrence_count_of_number}
-use Rattle.lfs_model.specs.SlotEdits.{slot_of_path}
+use Rattle.lfs_model.specs.format.Disk.{Disk, block_count}
+use Rattle.lfs_model.specs.format.Slots.{Slot}
+use Rattle.lfs_model.specs.format.Thread.{Pair, blocks_of_pairs, from_first_slots, pairs_gstate, starts_superblock, slots_not_moved}
+use Rattle.lfs_model.specs.tree.View.{IsWellFormedCtz, IsAccepted, first_slot_name}
+use Rattle.lfs_model.specs.tree.Shown.{all_slots_not_moved, used_blocks}
+use Rattle.lfs_model.proofs.Counts.{Each, each_always, each_both, each_right, number_count}
+use Rattle.lfs_model.specs.session.SlotEdits.{slot_of}
 use Rattle.lfs_model.proofs.LeftFiles.{stays_same}
-use Rattle.lfs_model.proofs.Changes.{IsImageAfterTreeChange, SameFiles, rearranged_follows, owned_same}
-use Rattle.lfs_model.proofs.Files.{HasSameFileBlocksOfStructOnDisks, is_list_same}
+use Rattle.lfs_model.proofs.Changes.{IsChangedImage, SameFiles, rearranged_follows, owned_same}
+use Rattle.lfs_model.proofs.Files.{SameFileBlocks, is_list_same}
 use Rattle.lfs_model.proofs.Splices.{IsDevice}
 use Rattle.lfs_model.proofs.Superblocks.{IsChain, meets_first, meets_from}
 use Rattle.lfs_model.proofs.Uses.{accepted_sound}
@@ -22,23 +22,23 @@ use Rattle.lfs_model.proofs.Uses.{accepted_sound}
 
 -- it has the superblock, by its name, in slot 0
 pub record HasFirst (slots : List Slot) : Type 0 where
-  pub kind : starts_with_superblock slots ≡ true
+  pub kind : starts_superblock slots ≡ true
   pub name : option_map (λ s. s.name) (slice_get slots 0) ≡ Some (codes "littlefs")
 
 -- some pair has a slot
 pub record HasFilled (ps : List Pair) : Type 0 where
   pub pair : Pair
   pub rest : List Pair
-  pub is : pairs_from_first_with_slots ps ≡ pair ∷ rest
+  pub is : from_first_slots ps ≡ pair ∷ rest
 
-pub accepted_filled : (disk : Disk) (ps : List Pair) → IsAcceptedImage disk ps → HasFilled ps
-accepted_filled disk ps ok = go (pairs_from_first_with_slots ps) refl ok.named
+pub accepted_filled : (disk : Disk) (ps : List Pair) → IsAccepted disk ps → HasFilled ps
+accepted_filled disk ps ok = go (from_first_slots ps) refl ok.named
   where
-    go : (qs : List Pair) → pairs_from_first_with_slots ps ≡ qs → first_slot_name qs ≡ Some (codes "littlefs") → HasFilled ps
+    go : (qs : List Pair) → from_first_slots ps ≡ qs → first_slot_name qs ≡ Some (codes "littlefs") → HasFilled ps
     go [] e k = absurd (cc)
     go (p ∷ rest) e k = record { pair = p; rest = rest; is = e }
 
-pub accepted_first : (disk : Disk) (ps : List Pair) (p : Pair) (rest : List Pair) → IsAcceptedImage disk ps → pairs_from_first_with_slots ps ≡ p ∷ rest → HasFirst p.content.slots
+pub accepted_first : (disk : Disk) (ps : List Pair) (p : Pair) (rest : List Pair) → IsAccepted disk ps → from_first_slots ps ≡ p ∷ rest → HasFirst p.content.slots
 accepted_first disk ps p rest ok is = record { kind = meets_first ps p rest is (meets_from ps ok.root); name = ap first_slot_name (sym is) ∙ ok.named }
 
 -- ---- the global state
@@ -46,17 +46,17 @@ accepted_first disk ps p rest ok is = record { kind = meets_first ps p rest is (
 -- ---- nothing came of it
 
 -- whatever move is set
-module _ (disk new : Disk) (chain : List Pair) (p : Pair) (rest : List Pair) (is_chain : IsChain chain (p ∷ rest)) (ok : IsAcceptedImage disk (chain ++ p ∷ rest))
+module _ (disk new : Disk) (chain : List Pair) (p : Pair) (rest : List Pair) (is_chain : IsChain chain (p ∷ rest)) (ok : IsAccepted disk (chain ++ p ∷ rest))
     (device_same : IsDevice disk new (chain ++ p ∷ rest) (chain ++ p ∷ rest)) where
   abbrev same_pairs : List Pair
   same_pairs = chain ++ p ∷ rest
 
   files_same : SameFiles disk new (all_slots_not_moved same_pairs)
-  files_same = recursion_from_All (λ (s : Slot). HasSameFileBlocksOfStructOnDisks disk new s.struct) (all_slots_not_moved same_pairs) device_same.files
+  files_same = recursion_from_All (λ (s : Slot). SameFileBlocks disk new s.struct) (all_slots_not_moved same_pairs) device_same.files
 
   owns_same : used_blocks new same_pairs ≡ used_blocks disk same_pairs
-  owns_same = owned_same disk new (gstate_of_pairs same_pairs) (gstate_of_pairs same_pairs) same_pairs device_same.geometry
-      (each_always (λ r. slots_not_moved (gstate_of_pairs same_pairs) r ≡ slots_not_moved (gstate_of_pairs same_pairs) r) (λ r. refl) same_pairs) files_same
+  owns_same = owned_same disk new (pairs_gstate same_pairs) (pairs_gstate same_pairs) same_pairs device_same.geometry
+      (each_always (λ r. slots_not_moved (pairs_gstate same_pairs) r ≡ slots_not_moved (pairs_gstate same_pairs) r) (λ r. refl) same_pairs) files_same
 
   in_range_here : Each (λ b. b < block_count disk) (blocks_of_pairs (p ∷ []))
   in_range_here =
@@ -64,7 +64,7 @@ module _ (disk new : Disk) (chain : List Pair) (p : Pair) (rest : List Pair) (is
       let k = each_right (λ b. b < block_count disk) (blocks_of_pairs chain) (blocks_of_pairs (p ∷ rest)) (subst (Each (λ b. b < block_count disk)) (flat_map-append (λ (s : Pair). s.at.0 ∷ s.at.1 ∷ []) chain (p ∷ rest)) e) in
       (k.0, (k.1.0, tt))
 
-  pub same_follows : IsImageAfterTreeChange disk same_pairs new same_pairs (λ t. t) (λ d. d)
+  pub same_follows : IsChangedImage disk same_pairs new same_pairs (λ t. t) (λ d. d)
   same_follows = rearranged_follows disk new chain [] p [] p [] rest [] is_chain ok
       (record {
         geometry = device_same.geometry;
@@ -76,15 +76,15 @@ module _ (disk new : Disk) (chain : List Pair) (p : Pair) (rest : List Pair) (is
         slots = λ m root h. h;
         move = ok.move;
         in_range = All-from_recursion (λ b. b < block_count disk) (blocks_of_pairs (p ∷ [])) in_range_here;
-        blocks = λ b. let e = ap (occurrence_count_of_number b) owns_same in omega arith;
+        blocks = λ b. let e = ap (number_count b) owns_same in omega arith;
         free = ok.owned_once;
-        lists = All-from_recursion (λ s. IsSkipListIfCtzStruct new s.struct) (all_slots_not_moved same_pairs)
-            (each_both (λ s. HasSameFileBlocksOfStructOnDisks disk new s.struct) (λ s. IsSkipListIfCtzStruct disk s.struct) (λ s. IsSkipListIfCtzStruct new s.struct) (λ s. is_list_same disk new s.struct device_same.geometry) (all_slots_not_moved same_pairs)
-            files_same (recursion_from_All (λ (s : Slot). IsSkipListIfCtzStruct disk s.struct) (all_slots_not_moved same_pairs) ok.lists));
+        lists = All-from_recursion (λ s. IsWellFormedCtz new s.struct) (all_slots_not_moved same_pairs)
+            (each_both (λ s. SameFileBlocks disk new s.struct) (λ s. IsWellFormedCtz disk s.struct) (λ s. IsWellFormedCtz new s.struct) (λ s. is_list_same disk new s.struct device_same.geometry) (all_slots_not_moved same_pairs)
+            files_same (recursion_from_All (λ (s : Slot). IsWellFormedCtz disk s.struct) (all_slots_not_moved same_pairs) ok.lists));
       })
       (λ t. t) (λ d. d) (record {
         shows = refl;
         leads = refl;
         sound = accepted_sound disk same_pairs ok;
-        stays = λ q l. stays_same (slot_of_path same_pairs q) (slot_of_path same_pairs q) refl;
+        stays = λ q l. stays_same (slot_of same_pairs q) (slot_of same_pairs q) refl;
       }) ok.branches ok.reached

@@ -1,13 +1,13 @@
 -- The pair after another begins a directory that no path leads to, and goes from the thread. So may any number of pairs, in their
 -- order.
 use Rattle.std.proofs.Common.{ℕ, ◌≡◌, ◌<◌, ◌≤◌, true, false, List, [], ◌∷◌, ◌++◌, length, refl, sym, ap, ap₂, subst, ◌∙◌, arith, append_assoc, append-nil, length-append}
-use Rattle.lfs_model.specs.Disk.{Disk}
-use Rattle.lfs_model.specs.Slots.{same_pair}
-use Rattle.lfs_model.specs.Thread.{Pair, is_hard_tail, gstate_of_pairs, pair_count_before_root, starts_with_superblock}
-use Rattle.lfs_model.specs.Tree.{Path}
-use Rattle.lfs_model.specs.View.{IsAcceptedImage}
-use Rattle.lfs_model.specs.Profile.{IsWritableImage}
-use Rattle.lfs_model.specs.Shown.{IsPathToDirectory}
+use Rattle.lfs_model.specs.format.Disk.{Disk}
+use Rattle.lfs_model.specs.format.Slots.{same_pair}
+use Rattle.lfs_model.specs.format.Thread.{Pair, is_hard_tail, pairs_gstate, pair_count_before_root, starts_superblock}
+use Rattle.lfs_model.specs.tree.Tree.{Path}
+use Rattle.lfs_model.specs.tree.View.{IsAccepted}
+use Rattle.lfs_model.specs.tree.Profile.{IsWritable}
+use Rattle.lfs_model.specs.tree.Shown.{LeadsTo}
 use Rattle.lfs_model.proofs.Global.{HasNoMove}
 use Rattle.lfs_model.proofs.Superblocks.{IsChain}
 use Rattle.lfs_model.proofs.Listings.{IsRun}
@@ -18,7 +18,7 @@ use Rattle.lfs_model.proofs.Moves.{AllReachedBut}
 use Rattle.lfs_model.proofs.Beside.{last_site}
 use Rattle.lfs_model.proofs.Drops.{IsStepDrop, softened, unthread_shape, drop_change, unthreaded}
 use Rattle.lfs_model.proofs.Indexes.{HasSite, site_of_number}
-use Rattle.lfs_model.proofs.StepsTaken.{IsWritableImageAfterTreeChange, unthread_taken}
+use Rattle.lfs_model.proofs.StepsTaken.{IsWritableChange, unthread_taken}
 
 -- lists that part at the same place
 pub record SameParts (xs : List Pair) (p : Pair) (ys us : List Pair) (q : Pair) (vs : List Pair) : Type 0 where
@@ -37,20 +37,20 @@ same_parts (x ∷ xs) p ys (u ∷ us) q vs n e =
 -- On the new disk q is in place of p and o, with p's slots and a soft tail to where o's led.
 pub record IsUnthreaded (disk new : Disk) (chain front : List Pair) (p o q : Pair) (back : List Pair) : Type 0 where
   pub device : IsDevice disk new (chain ++ (front ++ p ∷ o ∷ back)) (chain ++ (front ++ q ∷ back))
-  pub no_move : HasNoMove (gstate_of_pairs (chain ++ (front ++ q ∷ back)))
+  pub no_move : HasNoMove (pairs_gstate (chain ++ (front ++ q ∷ back)))
   pub soft : is_hard_tail p.content.tail ≡ false
   pub at : q.at ≡ p.at
   pub slots : q.content.slots ≡ p.content.slots
   pub tail : q.content.tail ≡ softened o.content.tail
   -- no path leads to o, and where the sync bit isn't set afterwards, one leads to each other directory
-  pub unled : (path : Path) (x : ℕ × ℕ) → IsPathToDirectory (chain ++ (front ++ p ∷ o ∷ back)) path x → same_pair o.at x ≡ true → ⊥
-  pub reached : (gstate_of_pairs (chain ++ (front ++ q ∷ back))).sync ≡ false → (is_hard_tail o.content.tail ≡ false) × AllReachedBut (chain ++ (front ++ p ∷ o ∷ back)) o.at
+  pub unled : (path : Path) (x : ℕ × ℕ) → LeadsTo (chain ++ (front ++ p ∷ o ∷ back)) path x → same_pair o.at x ≡ true → ⊥
+  pub reached : (pairs_gstate (chain ++ (front ++ q ∷ back))).sync ≡ false → (is_hard_tail o.content.tail ≡ false) × AllReachedBut (chain ++ (front ++ p ∷ o ∷ back)) o.at
 
 -- the disk is accepted and in the profile, no move is set, and so many pairs are before the root directory
 pub record IsReady (disk : Disk) (chain dirs : List Pair) : Type 0 where
-  pub accepted : IsAcceptedImage disk (chain ++ dirs)
-  pub writable : IsWritableImage disk (chain ++ dirs)
-  pub no_move : HasNoMove (gstate_of_pairs (chain ++ dirs))
+  pub accepted : IsAccepted disk (chain ++ dirs)
+  pub writable : IsWritable disk (chain ++ dirs)
+  pub no_move : HasNoMove (pairs_gstate (chain ++ dirs))
   pub is_chain : IsChain chain dirs
 
 -- a run ends with a soft tail
@@ -61,7 +61,7 @@ run_ends (x ∷ []) p right h e = run_ends [] p right h.1 e
 run_ends (x ∷ y ∷ left) p right h e = run_ends (y ∷ left) p right h.1 e
 
 pub record Unthreads (disk new : Disk) (chain old now : List Pair) : Type 0 where
-  pub taken : IsWritableImageAfterTreeChange disk (chain ++ old) new (chain ++ now) (λ t. t) (λ d. d)
+  pub taken : IsWritableChange disk (chain ++ old) new (chain ++ now) (λ t. t) (λ d. d)
   pub ready : IsReady new chain now
 
 pub unthread : (disk new : Disk) (chain front : List Pair) (p o q : Pair) (back : List Pair) → IsReady disk chain (front ++ p ∷ o ∷ back) → IsUnthreaded disk new chain front p o q back
@@ -113,28 +113,28 @@ unthread disk new chain front p o q back r c = record { taken = taken; ready = r
 
     step : IsStepDrop disk new at.site.chain at.site.before at.site.left back p [] o q [] [] [] p.content.slots [] [] []
     step = record {
-      accepted = subst (IsAcceptedImage disk) old_is r.accepted;
+      accepted = subst (IsAccepted disk) old_is r.accepted;
       is_chain = is_chain;
       ends = at.is_site.ends;
       run = subst (λ (x : Pair). IsRun (at.site.left ++ x ∷ [])) same.pair (subst (λ (z : List Pair). IsRun (at.site.left ++ (at.pair ∷ [] ++ z))) none at.is_site.run);
-      no_move = subst (λ z. HasNoMove (gstate_of_pairs z)) old_is r.no_move;
-      still_none = subst (λ z. HasNoMove (gstate_of_pairs z)) new_is c.no_move;
+      no_move = subst (λ z. HasNoMove (pairs_gstate z)) old_is r.no_move;
+      still_none = subst (λ z. HasNoMove (pairs_gstate z)) new_is c.no_move;
       device = subst (λ z. IsDevice disk new z (thread_at (last_site at.site.chain at.site.before at.site.left back) (q ∷ []))) old_is
           (subst (IsDevice disk new (chain ++ (front ++ p ∷ o ∷ back))) new_is c.device);
-      free = record { distinct = (subst (IsAcceptedImage disk) old_is r.accepted).owned_once; in_range = λ k d l. absurd (omega arith) };
-      shape = unthread_shape p o q c.at c.tail (λ e. ap starts_with_superblock c.slots ∙ e);
+      free = record { distinct = (subst (IsAccepted disk) old_is r.accepted).owned_once; in_range = λ k d l. absurd (omega arith) };
+      shape = unthread_shape p o q c.at c.tail (λ e. ap starts_superblock c.slots ∙ e);
       was = refl;
       is = append-nil q.content.slots ∙ c.slots ∙ sym (append-nil p.content.slots);
       splice = record { front = λ e. refl; entries = tt; lists = tt; blocks = λ b. omega arith };
     }
 
-    taken : IsWritableImageAfterTreeChange disk (chain ++ (front ++ p ∷ o ∷ back)) new (chain ++ (front ++ q ∷ back)) (λ t. t) (λ d. d)
-    taken = subst (λ z. IsWritableImageAfterTreeChange disk z new (chain ++ (front ++ q ∷ back)) (λ t. t) (λ d. d)) (sym old_is)
-        (subst (λ z. IsWritableImageAfterTreeChange disk (thread_at (last_site at.site.chain at.site.before at.site.left back) (p ∷ ([] ++ o ∷ []))) new z (λ t. t) (λ d. d)) (sym new_is)
-        (unthread_taken disk new at.site.chain at.site.before at.site.left back p o q p.content.slots [] (λ t. t) (λ d. d) (subst (IsWritableImage disk) old_is r.writable) c.tail c.slots step
+    taken : IsWritableChange disk (chain ++ (front ++ p ∷ o ∷ back)) new (chain ++ (front ++ q ∷ back)) (λ t. t) (λ d. d)
+    taken = subst (λ z. IsWritableChange disk z new (chain ++ (front ++ q ∷ back)) (λ t. t) (λ d. d)) (sym old_is)
+        (subst (λ z. IsWritableChange disk (thread_at (last_site at.site.chain at.site.before at.site.left back) (p ∷ ([] ++ o ∷ []))) new z (λ t. t) (λ d. d)) (sym new_is)
+        (unthread_taken disk new at.site.chain at.site.before at.site.left back p o q p.content.slots [] (λ t. t) (λ d. d) (subst (IsWritable disk) old_is r.writable) c.tail c.slots step
         (unthreaded disk new at.site.chain at.site.before at.site.left back p [] o q [] p.content.slots [] step
-        (λ path x l e. c.unled path x (subst (λ z. IsPathToDirectory z path x) (sym old_is) l) e)
-        (λ e. let k = c.reached (ap (λ z. (gstate_of_pairs z).sync) new_is ∙ e) in (k.0, subst (λ z. AllReachedBut z o.at) old_is k.1)))))
+        (λ path x l e. c.unled path x (subst (λ z. LeadsTo z path x) (sym old_is) l) e)
+        (λ e. let k = c.reached (ap (λ z. (pairs_gstate z).sync) new_is ∙ e) in (k.0, subst (λ z. AllReachedBut z o.at) old_is k.1)))))
 
     ready : IsReady new chain (front ++ q ∷ back)
     ready = record {
@@ -142,7 +142,7 @@ unthread disk new chain front p o q back r c = record { taken = taken; ready = r
       writable = taken.writable;
       no_move = c.no_move;
       is_chain = ap pair_count_before_root new_is
-          ∙ chain_now disk new at.site.chain (at.site.before ++ at.site.left) p ([] ++ o ∷ []) q [] back ([] ++ []) is_chain (subst (IsAcceptedImage disk) old_is r.accepted)
+          ∙ chain_now disk new at.site.chain (at.site.before ++ at.site.left) p ([] ++ o ∷ []) q [] back ([] ++ []) is_chain (subst (IsAccepted disk) old_is r.accepted)
           (drop_change disk new at.site.chain at.site.before at.site.left back p [] o q [] [] [] p.content.slots [] [] [] step)
           ∙ chain_length;
     }

@@ -7,58 +7,58 @@ use Rattle.std.proofs.lemmas.List.{append-nil}
 use Rattle.std.proofs.Math.Seq.{set-append_seam, get_or-append_seam}
 use Rattle.byteorder.specs.Endian.{little_number, little_bytes}
 use Rattle.byteorder.specs.Numbers.{little_number-reads_back}
-use Rattle.lfs_model.specs.Tag.{tag_of_type_id_and_length, type_of_tag, id_of_tag, length_of_tag, abstract_type_of_tag, chunk_of_tag}
-use Rattle.lfs_model.specs.Log.{LogEntry}
-use Rattle.lfs_model.specs.Slots.{Attributes, Tail, Gstate, zero_gstate}
-use Rattle.lfs_model.specs.Content.{RawSlot, RawPairContent, content_after_log_entry, content_after_log_entries, slots_after_log_entry, attributes_with_attribute, empty_raw_pair_content}
-use Rattle.lfs_model.specs.EntryTypes.{is_tag_of_known_type_and_length, has_tag_id_if_needed, no_id, create_tag_type, delete_tag_type, is_attribute_removal, pair_address_of_bytes, tail_to_pair_if_any, gstate_of_bytes, gstate_of_word_and_pair, move_state_type}
-use Rattle.lfs_model.specs.WrittenContent.{log_entry_of_type_id_and_bytes, log_entries_of_name_or_struct, log_entries_of_attributes, log_entries_of_slot, log_entries_of_slots, bytes_of_pair_address, log_entries_of_tail, first_word_of_move_state, bytes_of_move_state, log_entries_of_move_state, is_zero_gstate, log_entries_of_content}
-use Rattle.lfs_model.specs.LoggedContent.{IsNameOrStructTheFormatAllows, IsNameOrStructTheFormatAllowsIfSome, AreAttributesInTypeOrder, IsWellFormedRawSlot, AreWellFormedRawSlots, AreNamedSlots, Are32BitPairAddresses, IsNonNull32BitTailIfSome, AreMoveStateFieldsWithinBitWidths, IsStorableRawPairContent}
+use Rattle.lfs_model.specs.format.Tag.{make_tag, tag_type, tag_id, tag_length, abstract_type, tag_chunk}
+use Rattle.lfs_model.specs.format.Log.{LogEntry}
+use Rattle.lfs_model.specs.format.Slots.{Attributes, Tail, Gstate, zero_gstate}
+use Rattle.lfs_model.specs.format.Content.{RawSlot, RawContent, content_after_one, content_after, slots_after, attributes_with, empty_raw_content}
+use Rattle.lfs_model.specs.format.EntryTypes.{is_known_tag, has_needed_id, no_id, create_tag_type, delete_tag_type, is_attribute_removal, read_address, tail_to_pair, read_gstate, gstate_from, move_type}
+use Rattle.lfs_model.specs.layers.WrittenContent.{log_entry_of, data_entries, attribute_entries, slot_entries, entries_of_slots, address_bytes, tail_entries, move_word, bytes_of_move_state, move_state_entries, is_zero, content_entries}
+use Rattle.lfs_model.specs.layers.LoggedContent.{IsAllowed, AllowsIfSome, AttributesInOrder, IsSlotWellFormed, AreWellFormed, AreNamed, AreWords, IsAllowedTail, MoveStateFits, IsStorable}
 
 -- ---- the fields of a tag
 
-pub type_of_tag-tag_of_type_id_and_length : (type id len : ℕ) → type < 2 ^ 11 → id < 2 ^ 10 → len < 2 ^ 10 → type_of_tag (tag_of_type_id_and_length type id len) ≡ type
-type_of_tag-tag_of_type_id_and_length type id len t i l = omega arith
+pub tag_type-make_tag : (type id len : ℕ) → type < 2 ^ 11 → id < 2 ^ 10 → len < 2 ^ 10 → tag_type (make_tag type id len) ≡ type
+tag_type-make_tag type id len t i l = omega arith
 
-pub id_of_tag-tag_of_type_id_and_length : (type id len : ℕ) → id < 2 ^ 10 → len < 2 ^ 10 → id_of_tag (tag_of_type_id_and_length type id len) ≡ id
-id_of_tag-tag_of_type_id_and_length type id len i l = omega arith
+pub tag_id-make_tag : (type id len : ℕ) → id < 2 ^ 10 → len < 2 ^ 10 → tag_id (make_tag type id len) ≡ id
+tag_id-make_tag type id len i l = omega arith
 
-pub length_of_tag-tag_of_type_id_and_length : (type id len : ℕ) → len < 2 ^ 10 → length_of_tag (tag_of_type_id_and_length type id len) ≡ len
-length_of_tag-tag_of_type_id_and_length type id len l = omega arith
+pub tag_length-make_tag : (type id len : ℕ) → len < 2 ^ 10 → tag_length (make_tag type id len) ≡ len
+tag_length-make_tag type id len l = omega arith
 
 -- ---- runs of entries
 
-pub content_after_log_entries-append : (c : RawPairContent) (xs ys : List LogEntry) → content_after_log_entries c (xs ++ ys) ≡ option_and_then (λ d. content_after_log_entries d ys) (content_after_log_entries c xs)
-content_after_log_entries-append c [] ys = refl
-content_after_log_entries-append c (x ∷ xs) ys = go (content_after_log_entry c x) (λ d. content_after_log_entries-append d xs ys)
+pub content_after-append : (c : RawContent) (xs ys : List LogEntry) → content_after c (xs ++ ys) ≡ option_and_then (λ d. content_after d ys) (content_after c xs)
+content_after-append c [] ys = refl
+content_after-append c (x ∷ xs) ys = go (content_after_one c x) (λ d. content_after-append d xs ys)
   where
-    go : (o : Option RawPairContent) → ((d : RawPairContent) → content_after_log_entries d (xs ++ ys) ≡ option_and_then (λ d. content_after_log_entries d ys) (content_after_log_entries d xs))
-        → option_and_then (λ d. content_after_log_entries d (xs ++ ys)) o ≡ option_and_then (λ d. content_after_log_entries d ys) (option_and_then (λ d. content_after_log_entries d xs) o)
+    go : (o : Option RawContent) → ((d : RawContent) → content_after d (xs ++ ys) ≡ option_and_then (λ d. content_after d ys) (content_after d xs))
+        → option_and_then (λ d. content_after d (xs ++ ys)) o ≡ option_and_then (λ d. content_after d ys) (option_and_then (λ d. content_after d xs) o)
     go None h = refl
     go (Some d) h = h d
 
 -- one after the other
-pub then : (c d : RawPairContent) (xs ys : List LogEntry) (e : Option RawPairContent) → content_after_log_entries c xs ≡ Some d → content_after_log_entries d ys ≡ e → content_after_log_entries c (xs ++ ys) ≡ e
-then c d xs ys e f g = content_after_log_entries-append c xs ys ∙ ap (option_and_then (λ d. content_after_log_entries d ys)) f ∙ g
+pub then : (c d : RawContent) (xs ys : List LogEntry) (e : Option RawContent) → content_after c xs ≡ Some d → content_after d ys ≡ e → content_after c (xs ++ ys) ≡ e
+then c d xs ys e f g = content_after-append c xs ys ∙ ap (option_and_then (λ d. content_after d ys)) f ∙ g
 
 -- ---- an entry of a slot
 
 -- an entry of a class below 5 that is in the table changes the slots
-by_slots : (c : RawPairContent) (e : LogEntry) → abstract_type_of_tag e.tag < 5 → is_tag_of_known_type_and_length e.tag ≡ true → id_of_tag e.tag < 0x3ff
-    → content_after_log_entry c e ≡ option_map (λ slots. record c { slots = slots }) (slots_after_log_entry c.slots e)
+by_slots : (c : RawContent) (e : LogEntry) → abstract_type e.tag < 5 → is_known_tag e.tag ≡ true → tag_id e.tag < 0x3ff
+    → content_after_one c e ≡ option_map (λ slots. record c { slots = slots }) (slots_after c.slots e)
 by_slots c e k t i =
-    let five : abstract_type_of_tag e.tag == 5 ≡ false = ne_eqb (abstract_type_of_tag e.tag) 5 (λ h. omega arith) in
-    let six : abstract_type_of_tag e.tag == 6 ≡ false = ne_eqb (abstract_type_of_tag e.tag) 6 (λ h. omega arith) in
-    let seven : abstract_type_of_tag e.tag == 7 ≡ false = ne_eqb (abstract_type_of_tag e.tag) 7 (λ h. omega arith) in
-    let other : id_of_tag e.tag == no_id ≡ false = ne_eqb (id_of_tag e.tag) no_id (λ h. omega arith) in
-    let its : has_tag_id_if_needed e.tag ≡ true = or_right (nat_le 5 (abstract_type_of_tag e.tag)) (not (id_of_tag e.tag == no_id)) (ap not other) in
+    let five : abstract_type e.tag == 5 ≡ false = ne_eqb (abstract_type e.tag) 5 (λ h. omega arith) in
+    let six : abstract_type e.tag == 6 ≡ false = ne_eqb (abstract_type e.tag) 6 (λ h. omega arith) in
+    let seven : abstract_type e.tag == 7 ≡ false = ne_eqb (abstract_type e.tag) 7 (λ h. omega arith) in
+    let other : tag_id e.tag == no_id ≡ false = ne_eqb (tag_id e.tag) no_id (λ h. omega arith) in
+    let its : has_needed_id e.tag ≡ true = or_right (nat_le 5 (abstract_type e.tag)) (not (tag_id e.tag == no_id)) (ap not other) in
     rw (five, t, its, six, seven) refl
 
 -- a name at the end makes a slot
-name_at_end : (slots : List RawSlot) (e : LogEntry) → abstract_type_of_tag e.tag ≡ 0 → id_of_tag e.tag ≡ length slots
-    → slots_after_log_entry slots e ≡ Some (slots ++ record { name = Some (type_of_tag e.tag, e.bytes); struct = None; attributes = [] } ∷ [])
+name_at_end : (slots : List RawSlot) (e : LogEntry) → abstract_type e.tag ≡ 0 → tag_id e.tag ≡ length slots
+    → slots_after slots e ≡ Some (slots ++ record { name = Some (tag_type e.tag, e.bytes); struct = None; attributes = [] } ∷ [])
 name_at_end slots e k i =
-    let zero_class : abstract_type_of_tag e.tag == 0 ≡ true = eq-eqb (abstract_type_of_tag e.tag) 0 k in
+    let zero_class : abstract_type e.tag == 0 ≡ true = eq-eqb (abstract_type e.tag) 0 k in
     let one : length slots + 1 - length slots ≡ 1 = omega arith in
     rw (zero_class, i) (rw (one, get_or-append_seam, set-append_seam) refl)
 
@@ -67,24 +67,24 @@ abbrev last : List RawSlot → RawSlot → List RawSlot
 last slots s = slots ++ s ∷ []
 
 -- a struct for the last slot
-struct_at_end : (slots : List RawSlot) (s : RawSlot) (e : LogEntry) → is_some s.name ≡ true → abstract_type_of_tag e.tag ≡ 2 → id_of_tag e.tag ≡ length slots
-    → slots_after_log_entry (last slots s) e ≡ Some (last slots (record s { struct = Some (type_of_tag e.tag, e.bytes) }))
+struct_at_end : (slots : List RawSlot) (s : RawSlot) (e : LogEntry) → is_some s.name ≡ true → abstract_type e.tag ≡ 2 → tag_id e.tag ≡ length slots
+    → slots_after (last slots s) e ≡ Some (last slots (record s { struct = Some (tag_type e.tag, e.bytes) }))
 struct_at_end slots s e n k i =
-    let not_name : abstract_type_of_tag e.tag == 0 ≡ false = ne_eqb (abstract_type_of_tag e.tag) 0 (λ h. omega arith) in
-    let not_create : type_of_tag e.tag == create_tag_type ≡ false = ne_eqb (type_of_tag e.tag) create_tag_type (λ h. omega arith) in
-    let not_delete : type_of_tag e.tag == delete_tag_type ≡ false = ne_eqb (type_of_tag e.tag) delete_tag_type (λ h. omega arith) in
-    let is_struct : abstract_type_of_tag e.tag == 2 ≡ true = eq-eqb (abstract_type_of_tag e.tag) 2 k in
+    let not_name : abstract_type e.tag == 0 ≡ false = ne_eqb (abstract_type e.tag) 0 (λ h. omega arith) in
+    let not_create : tag_type e.tag == create_tag_type ≡ false = ne_eqb (tag_type e.tag) create_tag_type (λ h. omega arith) in
+    let not_delete : tag_type e.tag == delete_tag_type ≡ false = ne_eqb (tag_type e.tag) delete_tag_type (λ h. omega arith) in
+    let is_struct : abstract_type e.tag == 2 ≡ true = eq-eqb (abstract_type e.tag) 2 k in
     rw (not_name, not_create, not_delete, i) (rw (get_or-append_seam, n, is_struct) (rw set-append_seam refl))
 
 -- an attribute for the last slot
-attribute_at_end : (slots : List RawSlot) (s : RawSlot) (e : LogEntry) → is_some s.name ≡ true → abstract_type_of_tag e.tag ≡ 3 → id_of_tag e.tag ≡ length slots → length_of_tag e.tag < 0x3ff
-    → slots_after_log_entry (last slots s) e ≡ Some (last slots (record s { attributes = attributes_with_attribute (chunk_of_tag e.tag) e.bytes s.attributes }))
+attribute_at_end : (slots : List RawSlot) (s : RawSlot) (e : LogEntry) → is_some s.name ≡ true → abstract_type e.tag ≡ 3 → tag_id e.tag ≡ length slots → tag_length e.tag < 0x3ff
+    → slots_after (last slots s) e ≡ Some (last slots (record s { attributes = attributes_with (tag_chunk e.tag) e.bytes s.attributes }))
 attribute_at_end slots s e n k i l =
-    let not_name : abstract_type_of_tag e.tag == 0 ≡ false = ne_eqb (abstract_type_of_tag e.tag) 0 (λ h. omega arith) in
-    let not_create : type_of_tag e.tag == create_tag_type ≡ false = ne_eqb (type_of_tag e.tag) create_tag_type (λ h. omega arith) in
-    let not_delete : type_of_tag e.tag == delete_tag_type ≡ false = ne_eqb (type_of_tag e.tag) delete_tag_type (λ h. omega arith) in
-    let not_struct : abstract_type_of_tag e.tag == 2 ≡ false = ne_eqb (abstract_type_of_tag e.tag) 2 (λ h. omega arith) in
-    let stays : is_attribute_removal e.tag ≡ false = ne_eqb (length_of_tag e.tag) 0x3ff (λ h. omega arith) in
+    let not_name : abstract_type e.tag == 0 ≡ false = ne_eqb (abstract_type e.tag) 0 (λ h. omega arith) in
+    let not_create : tag_type e.tag == create_tag_type ≡ false = ne_eqb (tag_type e.tag) create_tag_type (λ h. omega arith) in
+    let not_delete : tag_type e.tag == delete_tag_type ≡ false = ne_eqb (tag_type e.tag) delete_tag_type (λ h. omega arith) in
+    let not_struct : abstract_type e.tag == 2 ≡ false = ne_eqb (abstract_type e.tag) 2 (λ h. omega arith) in
+    let stays : is_attribute_removal e.tag ≡ false = ne_eqb (tag_length e.tag) 0x3ff (λ h. omega arith) in
     rw (not_name, not_create, not_delete, i) (rw (get_or-append_seam, n, not_struct, stays) (rw set-append_seam refl))
 
 -- ---- attributes one after the other
@@ -93,7 +93,7 @@ abbrev Below : ℕ → Attributes → Type 0
 Below type [] = Unit {0}
 Below type (a ∷ others) = (a.0 < type) × Below type others
 
-put_last : (type : ℕ) (bytes : List ℕ) (front : Attributes) → Below type front → attributes_with_attribute type bytes front ≡ front ++ (type, bytes) ∷ []
+put_last : (type : ℕ) (bytes : List ℕ) (front : Attributes) → Below type front → attributes_with type bytes front ≡ front ++ (type, bytes) ∷ []
 put_last type bytes [] h = refl
 put_last type bytes (a ∷ others) h =
     let not_before : nat_lt type a.0 ≡ false = le-ltb type a.0 (omega arith) in
@@ -110,150 +110,150 @@ below_later low high (a ∷ others) l h = (omega arith, below_later low high oth
 
 -- ---- the entries that are written
 
-in_table_at : (part : ℕ × List ℕ) (class id : ℕ) → class < 5 → id < 2 ^ 10 → IsNameOrStructTheFormatAllows class part → is_tag_of_known_type_and_length (tag_of_type_id_and_length part.0 id (length part.1)) ≡ true
+in_table_at : (part : ℕ × List ℕ) (class id : ℕ) → class < 5 → id < 2 ^ 10 → IsAllowed class part → is_known_tag (make_tag part.0 id (length part.1)) ≡ true
 in_table_at part class id c i h =
     let of : part.0 / 2 ^ 8 ≡ class = h.of_class in
     let short : length part.1 < 0x3ff = h.short in
-    let kind : type_of_tag (tag_of_type_id_and_length part.0 id (length part.1)) ≡ type_of_tag (tag_of_type_id_and_length part.0 0 (length part.1)) = omega arith in
-    let len : length_of_tag (tag_of_type_id_and_length part.0 id (length part.1)) ≡ length_of_tag (tag_of_type_id_and_length part.0 0 (length part.1)) = omega arith in
+    let kind : tag_type (make_tag part.0 id (length part.1)) ≡ tag_type (make_tag part.0 0 (length part.1)) = omega arith in
+    let len : tag_length (make_tag part.0 id (length part.1)) ≡ tag_length (make_tag part.0 0 (length part.1)) = omega arith in
     rw (kind, len) h.in_table
 
-name_written : (c : RawPairContent) (part : ℕ × List ℕ) → length c.slots < 0x3ff → IsNameOrStructTheFormatAllows 0 part
-    → content_after_log_entry c (log_entry_of_type_id_and_bytes part.0 (length c.slots) part.1) ≡ Some (record c { slots = c.slots ++ record { name = Some part; struct = None; attributes = [] } ∷ [] })
+name_written : (c : RawContent) (part : ℕ × List ℕ) → length c.slots < 0x3ff → IsAllowed 0 part
+    → content_after_one c (log_entry_of part.0 (length c.slots) part.1) ≡ Some (record c { slots = c.slots ++ record { name = Some part; struct = None; attributes = [] } ∷ [] })
 name_written c part n h =
     let of : part.0 / 2 ^ 8 ≡ 0 = h.of_class in
     let short : length part.1 < 0x3ff = h.short in
-    let kind : type_of_tag (tag_of_type_id_and_length part.0 (length c.slots) (length part.1)) ≡ part.0 = type_of_tag-tag_of_type_id_and_length part.0 (length c.slots) (length part.1) (omega arith) (omega arith) (omega arith) in
-    let id : id_of_tag (tag_of_type_id_and_length part.0 (length c.slots) (length part.1)) ≡ length c.slots = id_of_tag-tag_of_type_id_and_length part.0 (length c.slots) (length part.1) (omega arith) (omega arith) in
-    by_slots c (log_entry_of_type_id_and_bytes part.0 (length c.slots) part.1) (omega arith) (in_table_at part 0 (length c.slots) (omega arith) (omega arith) h) (omega arith)
-    ∙ ap (option_map (λ slots. record c { slots = slots })) (name_at_end c.slots (log_entry_of_type_id_and_bytes part.0 (length c.slots) part.1) (omega arith) id)
+    let kind : tag_type (make_tag part.0 (length c.slots) (length part.1)) ≡ part.0 = tag_type-make_tag part.0 (length c.slots) (length part.1) (omega arith) (omega arith) (omega arith) in
+    let id : tag_id (make_tag part.0 (length c.slots) (length part.1)) ≡ length c.slots = tag_id-make_tag part.0 (length c.slots) (length part.1) (omega arith) (omega arith) in
+    by_slots c (log_entry_of part.0 (length c.slots) part.1) (omega arith) (in_table_at part 0 (length c.slots) (omega arith) (omega arith) h) (omega arith)
+    ∙ ap (option_map (λ slots. record c { slots = slots })) (name_at_end c.slots (log_entry_of part.0 (length c.slots) part.1) (omega arith) id)
     ∙ ap (λ k. Some (record c { slots = c.slots ++ record { name = Some (k, part.1); struct = None; attributes = [] } ∷ [] })) kind
 
-struct_written : (c : RawPairContent) (slots : List RawSlot) (s : RawSlot) (part : ℕ × List ℕ) → is_some s.name ≡ true → length slots < 0x3ff → IsNameOrStructTheFormatAllows 2 part
-    → content_after_log_entry (record c { slots = last slots s }) (log_entry_of_type_id_and_bytes part.0 (length slots) part.1) ≡ Some (record c { slots = last slots (record s { struct = Some part }) })
+struct_written : (c : RawContent) (slots : List RawSlot) (s : RawSlot) (part : ℕ × List ℕ) → is_some s.name ≡ true → length slots < 0x3ff → IsAllowed 2 part
+    → content_after_one (record c { slots = last slots s }) (log_entry_of part.0 (length slots) part.1) ≡ Some (record c { slots = last slots (record s { struct = Some part }) })
 struct_written c slots s part named n h =
     let of : part.0 / 2 ^ 8 ≡ 2 = h.of_class in
     let short : length part.1 < 0x3ff = h.short in
-    let kind : type_of_tag (tag_of_type_id_and_length part.0 (length slots) (length part.1)) ≡ part.0 = type_of_tag-tag_of_type_id_and_length part.0 (length slots) (length part.1) (omega arith) (omega arith) (omega arith) in
-    let id : id_of_tag (tag_of_type_id_and_length part.0 (length slots) (length part.1)) ≡ length slots = id_of_tag-tag_of_type_id_and_length part.0 (length slots) (length part.1) (omega arith) (omega arith) in
-    by_slots (record c { slots = last slots s }) (log_entry_of_type_id_and_bytes part.0 (length slots) part.1) (omega arith) (in_table_at part 2 (length slots) (omega arith) (omega arith) h) (omega arith)
-    ∙ ap (option_map (λ all. record c { slots = all })) (struct_at_end slots s (log_entry_of_type_id_and_bytes part.0 (length slots) part.1) named (omega arith) id)
+    let kind : tag_type (make_tag part.0 (length slots) (length part.1)) ≡ part.0 = tag_type-make_tag part.0 (length slots) (length part.1) (omega arith) (omega arith) (omega arith) in
+    let id : tag_id (make_tag part.0 (length slots) (length part.1)) ≡ length slots = tag_id-make_tag part.0 (length slots) (length part.1) (omega arith) (omega arith) in
+    by_slots (record c { slots = last slots s }) (log_entry_of part.0 (length slots) part.1) (omega arith) (in_table_at part 2 (length slots) (omega arith) (omega arith) h) (omega arith)
+    ∙ ap (option_map (λ all. record c { slots = all })) (struct_at_end slots s (log_entry_of part.0 (length slots) part.1) named (omega arith) id)
     ∙ ap (λ k. Some (record c { slots = last slots (record s { struct = Some (k, part.1) }) })) kind
 
-attribute_written : (c : RawPairContent) (slots : List RawSlot) (s : RawSlot) (type : ℕ) (bytes : List ℕ) → is_some s.name ≡ true → length slots < 0x3ff → type < 2 ^ 8 → length bytes < 0x3ff
-    → content_after_log_entry (record c { slots = last slots s }) (log_entry_of_type_id_and_bytes (0x300 + type) (length slots) bytes)
-    ≡ Some (record c { slots = last slots (record s { attributes = attributes_with_attribute type bytes s.attributes }) })
+attribute_written : (c : RawContent) (slots : List RawSlot) (s : RawSlot) (type : ℕ) (bytes : List ℕ) → is_some s.name ≡ true → length slots < 0x3ff → type < 2 ^ 8 → length bytes < 0x3ff
+    → content_after_one (record c { slots = last slots s }) (log_entry_of (0x300 + type) (length slots) bytes)
+    ≡ Some (record c { slots = last slots (record s { attributes = attributes_with type bytes s.attributes }) })
 attribute_written c slots s type bytes named n t short =
-    let kind : type_of_tag (tag_of_type_id_and_length (0x300 + type) (length slots) (length bytes)) ≡ 0x300 + type = type_of_tag-tag_of_type_id_and_length (0x300 + type) (length slots) (length bytes) (omega arith) (omega arith) (omega arith) in
-    let id : id_of_tag (tag_of_type_id_and_length (0x300 + type) (length slots) (length bytes)) ≡ length slots = id_of_tag-tag_of_type_id_and_length (0x300 + type) (length slots) (length bytes) (omega arith) (omega arith) in
-    let len : length_of_tag (tag_of_type_id_and_length (0x300 + type) (length slots) (length bytes)) ≡ length bytes = length_of_tag-tag_of_type_id_and_length (0x300 + type) (length slots) (length bytes) (omega arith) in
-    let class : abstract_type_of_tag (tag_of_type_id_and_length (0x300 + type) (length slots) (length bytes)) ≡ 3 = omega arith in
-    let chunk : chunk_of_tag (tag_of_type_id_and_length (0x300 + type) (length slots) (length bytes)) ≡ type = omega arith in
-    by_slots (record c { slots = last slots s }) (log_entry_of_type_id_and_bytes (0x300 + type) (length slots) bytes) (omega arith)
-    (attribute_in_table (log_entry_of_type_id_and_bytes (0x300 + type) (length slots) bytes) class (omega arith)) (omega arith)
-    ∙ ap (option_map (λ all. record c { slots = all })) (attribute_at_end slots s (log_entry_of_type_id_and_bytes (0x300 + type) (length slots) bytes) named class id (omega arith))
-    ∙ ap (λ k. Some (record c { slots = last slots (record s { attributes = attributes_with_attribute k bytes s.attributes }) })) chunk
+    let kind : tag_type (make_tag (0x300 + type) (length slots) (length bytes)) ≡ 0x300 + type = tag_type-make_tag (0x300 + type) (length slots) (length bytes) (omega arith) (omega arith) (omega arith) in
+    let id : tag_id (make_tag (0x300 + type) (length slots) (length bytes)) ≡ length slots = tag_id-make_tag (0x300 + type) (length slots) (length bytes) (omega arith) (omega arith) in
+    let len : tag_length (make_tag (0x300 + type) (length slots) (length bytes)) ≡ length bytes = tag_length-make_tag (0x300 + type) (length slots) (length bytes) (omega arith) in
+    let class : abstract_type (make_tag (0x300 + type) (length slots) (length bytes)) ≡ 3 = omega arith in
+    let chunk : tag_chunk (make_tag (0x300 + type) (length slots) (length bytes)) ≡ type = omega arith in
+    by_slots (record c { slots = last slots s }) (log_entry_of (0x300 + type) (length slots) bytes) (omega arith)
+    (attribute_in_table (log_entry_of (0x300 + type) (length slots) bytes) class (omega arith)) (omega arith)
+    ∙ ap (option_map (λ all. record c { slots = all })) (attribute_at_end slots s (log_entry_of (0x300 + type) (length slots) bytes) named class id (omega arith))
+    ∙ ap (λ k. Some (record c { slots = last slots (record s { attributes = attributes_with k bytes s.attributes }) })) chunk
   where
-    attribute_in_table : (e : LogEntry) → abstract_type_of_tag e.tag ≡ 3 → length_of_tag e.tag < 0x3ff → is_tag_of_known_type_and_length e.tag ≡ true
+    attribute_in_table : (e : LogEntry) → abstract_type e.tag ≡ 3 → tag_length e.tag < 0x3ff → is_known_tag e.tag ≡ true
     attribute_in_table e k l =
-        let stays : is_attribute_removal e.tag ≡ false = ne_eqb (length_of_tag e.tag) 0x3ff (λ h. omega arith) in
-        let is_attribute : abstract_type_of_tag e.tag == 3 ≡ true = eq-eqb (abstract_type_of_tag e.tag) 3 k in
+        let stays : is_attribute_removal e.tag ≡ false = ne_eqb (tag_length e.tag) 0x3ff (λ h. omega arith) in
+        let is_attribute : abstract_type e.tag == 3 ≡ true = eq-eqb (abstract_type e.tag) 3 k in
         rw (stays, is_attribute) refl
 
 -- attributes after those that the last slot has
-attributes_written : (c : RawPairContent) (slots : List RawSlot) (s : RawSlot) (low : ℕ) (rest : Attributes) → is_some s.name ≡ true → length slots < 0x3ff → Below low s.attributes → AreAttributesInTypeOrder low rest
-    → content_after_log_entries (record c { slots = last slots s }) (log_entries_of_attributes (length slots) rest) ≡ Some (record c { slots = last slots (record s { attributes = s.attributes ++ rest }) })
+attributes_written : (c : RawContent) (slots : List RawSlot) (s : RawSlot) (low : ℕ) (rest : Attributes) → is_some s.name ≡ true → length slots < 0x3ff → Below low s.attributes → AttributesInOrder low rest
+    → content_after (record c { slots = last slots s }) (attribute_entries (length slots) rest) ≡ Some (record c { slots = last slots (record s { attributes = s.attributes ++ rest }) })
 attributes_written c slots s low [] named n below up =
     ap (λ z. Some (record c { slots = last slots (record s { attributes = z }) })) (sym (append-nil s.attributes))
 attributes_written c slots s low (a ∷ rest) named n below up =
     let more : s.attributes ++ (a ∷ rest) ≡ (s.attributes ++ (a.0, a.1) ∷ []) ++ rest = sym (append_assoc s.attributes ((a.0, a.1) ∷ []) rest) in
-    let last_one : attributes_with_attribute a.0 a.1 s.attributes ≡ s.attributes ++ (a.0, a.1) ∷ [] = put_last a.0 a.1 s.attributes (below_later low a.0 s.attributes up.0 below) in
-    ap (option_and_then (λ d. content_after_log_entries d (log_entries_of_attributes (length slots) rest))) (attribute_written c slots s a.0 a.1 named n up.1 up.2)
-    ∙ ap (λ z. content_after_log_entries (record c { slots = last slots (record s { attributes = z }) }) (log_entries_of_attributes (length slots) rest)) last_one
+    let last_one : attributes_with a.0 a.1 s.attributes ≡ s.attributes ++ (a.0, a.1) ∷ [] = put_last a.0 a.1 s.attributes (below_later low a.0 s.attributes up.0 below) in
+    ap (option_and_then (λ d. content_after d (attribute_entries (length slots) rest))) (attribute_written c slots s a.0 a.1 named n up.1 up.2)
+    ∙ ap (λ z. content_after (record c { slots = last slots (record s { attributes = z }) }) (attribute_entries (length slots) rest)) last_one
     ∙ attributes_written c slots (record s { attributes = s.attributes ++ (a.0, a.1) ∷ [] }) (a.0 + 1) rest named n (below_more a.0 (a.0 + 1) a.1 s.attributes (omega arith) (below_later low a.0 s.attributes up.0 below)) up.3
     ∙ ap (λ z. Some (record c { slots = last slots (record s { attributes = z }) })) (sym more)
 
 -- a struct, if there is one, after a name
-struct_part_written : (c : RawPairContent) (slots : List RawSlot) (s : RawSlot) (part : Option (ℕ × List ℕ)) → s.struct ≡ None → is_some s.name ≡ true → length slots < 0x3ff → IsNameOrStructTheFormatAllowsIfSome 2 part
-    → content_after_log_entries (record c { slots = last slots s }) (log_entries_of_name_or_struct (length slots) part) ≡ Some (record c { slots = last slots (record s { struct = part }) })
+struct_part_written : (c : RawContent) (slots : List RawSlot) (s : RawSlot) (part : Option (ℕ × List ℕ)) → s.struct ≡ None → is_some s.name ≡ true → length slots < 0x3ff → AllowsIfSome 2 part
+    → content_after (record c { slots = last slots s }) (data_entries (length slots) part) ≡ Some (record c { slots = last slots (record s { struct = part }) })
 struct_part_written c slots s None none named n h = ap (λ z. Some (record c { slots = last slots (record s { struct = z }) })) none
-struct_part_written c slots s (Some part) none named n h = ap (option_and_then (λ d. content_after_log_entries d [])) (struct_written c slots s part named n h)
+struct_part_written c slots s (Some part) none named n h = ap (option_and_then (λ d. content_after d [])) (struct_written c slots s part named n h)
 
 -- a slot after others
-pub slot_written : (c : RawPairContent) (s : RawSlot) → length c.slots < 0x3ff → is_some s.name ≡ true → IsWellFormedRawSlot s
-    → content_after_log_entries c (log_entries_of_slot (length c.slots) s) ≡ Some (record c { slots = last c.slots s })
+pub slot_written : (c : RawContent) (s : RawSlot) → length c.slots < 0x3ff → is_some s.name ≡ true → IsSlotWellFormed s
+    → content_after c (slot_entries (length c.slots) s) ≡ Some (record c { slots = last c.slots s })
 slot_written c s n has_name h =
-    then c (record c { slots = last c.slots (named s.struct) }) (log_entries_of_name_or_struct (length c.slots) s.name ++ log_entries_of_name_or_struct (length c.slots) s.struct) (log_entries_of_attributes (length c.slots) s.attributes) _
-    (then c (record c { slots = last c.slots (named None) }) (log_entries_of_name_or_struct (length c.slots) s.name) (log_entries_of_name_or_struct (length c.slots) s.struct) _ front
+    then c (record c { slots = last c.slots (named s.struct) }) (data_entries (length c.slots) s.name ++ data_entries (length c.slots) s.struct) (attribute_entries (length c.slots) s.attributes) _
+    (then c (record c { slots = last c.slots (named None) }) (data_entries (length c.slots) s.name) (data_entries (length c.slots) s.struct) _ front
     (struct_part_written c c.slots (named None) s.struct refl has_name n h.struct))
     (attributes_written c c.slots (named s.struct) 0 s.attributes has_name n tt h.attributes)
   where
     named : Option (ℕ × List ℕ) → RawSlot
     named struct = record { name = s.name; struct = struct; attributes = [] }
 
-    front : content_after_log_entries c (log_entries_of_name_or_struct (length c.slots) s.name) ≡ Some (record c { slots = last c.slots (named None) })
+    front : content_after c (data_entries (length c.slots) s.name) ≡ Some (record c { slots = last c.slots (named None) })
     front = go s.name has_name h.name
       where
-        go : (o : Option (ℕ × List ℕ)) → is_some o ≡ true → IsNameOrStructTheFormatAllowsIfSome 0 o → content_after_log_entries c (log_entries_of_name_or_struct (length c.slots) o) ≡ Some (record c { slots = last c.slots (record { name = o; struct = None; attributes = [] }) })
+        go : (o : Option (ℕ × List ℕ)) → is_some o ≡ true → AllowsIfSome 0 o → content_after c (data_entries (length c.slots) o) ≡ Some (record c { slots = last c.slots (record { name = o; struct = None; attributes = [] }) })
         go None e p = absurd (cc)
-        go (Some part) e p = ap (option_and_then (λ d. content_after_log_entries d [])) (name_written c part n p)
+        go (Some part) e p = ap (option_and_then (λ d. content_after d [])) (name_written c part n p)
 
 -- slots after others
-pub slots_written : (c : RawPairContent) (slots : List RawSlot) → length c.slots + length slots < 0x400 → AreNamedSlots slots → AreWellFormedRawSlots slots
-    → content_after_log_entries c (log_entries_of_slots (length c.slots) slots) ≡ Some (record c { slots = c.slots ++ slots })
+pub slots_written : (c : RawContent) (slots : List RawSlot) → length c.slots + length slots < 0x400 → AreNamed slots → AreWellFormed slots
+    → content_after c (entries_of_slots (length c.slots) slots) ≡ Some (record c { slots = c.slots ++ slots })
 slots_written c [] n m h = ap (λ z. Some (record c { slots = z })) (sym (append-nil c.slots))
 slots_written c (s ∷ slots) n m h =
     let longer : length (last c.slots s) ≡ length c.slots + 1 = length-append c.slots (s ∷ []) in
-    then c (record c { slots = last c.slots s }) (log_entries_of_slot (length c.slots) s) (log_entries_of_slots (length c.slots + 1) slots) _
+    then c (record c { slots = last c.slots s }) (slot_entries (length c.slots) s) (entries_of_slots (length c.slots + 1) slots) _
     (slot_written c s (omega arith) m.0 h.0)
-    (ap (λ k. content_after_log_entries (record c { slots = last c.slots s }) (log_entries_of_slots k slots)) (sym longer)
+    (ap (λ k. content_after (record c { slots = last c.slots s }) (entries_of_slots k slots)) (sym longer)
     ∙ slots_written (record c { slots = last c.slots s }) slots (omega arith) m.1 h.1
     ∙ ap (λ z. Some (record c { slots = z })) (append_assoc c.slots (s ∷ []) slots))
 
 -- ---- tails and move states
 
-pub pair_address_of_bytes-bytes_of_pair_address : (pair : ℕ × ℕ) → Are32BitPairAddresses pair → pair_address_of_bytes (bytes_of_pair_address pair) ≡ pair
-pair_address_of_bytes-bytes_of_pair_address pair h =
-    let first : little_number 4 (bytes_of_pair_address pair) ≡ pair.0 = little_number-reads_back 4 pair.0 (little_bytes 4 pair.1) h.0 in
+pub read_address-address_bytes : (pair : ℕ × ℕ) → AreWords pair → read_address (address_bytes pair) ≡ pair
+read_address-address_bytes pair h =
+    let first : little_number 4 (address_bytes pair) ≡ pair.0 = little_number-reads_back 4 pair.0 (little_bytes 4 pair.1) h.0 in
     let second : little_number 4 (little_bytes 4 pair.1 ++ []) ≡ pair.1 = little_number-reads_back 4 pair.1 [] h.1 in
     ap₂ (λ x y. (x, y)) first (ap (little_number 4) (sym (append-nil (little_bytes 4 pair.1))) ∙ second)
 
-tail_written : (c : RawPairContent) (t : Option Tail) → c.tail ≡ None → IsNonNull32BitTailIfSome t → content_after_log_entries c (log_entries_of_tail t) ≡ Some (record c { tail = t })
+tail_written : (c : RawContent) (t : Option Tail) → c.tail ≡ None → IsAllowedTail t → content_after c (tail_entries t) ≡ Some (record c { tail = t })
 tail_written c None none h = ap (λ t. Some (record c { tail = t })) none
 tail_written c (Some t) none h = go t.hard
   where
-    shown : (hard : Bool) → tail_to_pair_if_any hard (pair_address_of_bytes (bytes_of_pair_address t.to)) ≡ Some (record { hard = hard; to = t.to })
-    shown hard = ap (tail_to_pair_if_any hard) (pair_address_of_bytes-bytes_of_pair_address t.to h.0) ∙ ap (λ b. cond b None (Some (record { hard = hard; to = t.to }))) h.1
+    shown : (hard : Bool) → tail_to_pair hard (read_address (address_bytes t.to)) ≡ Some (record { hard = hard; to = t.to })
+    shown hard = ap (tail_to_pair hard) (read_address-address_bytes t.to h.0) ∙ ap (λ b. cond b None (Some (record { hard = hard; to = t.to }))) h.1
 
-    go : (hard : Bool) → content_after_log_entries c (log_entries_of_tail (Some (record { hard = hard; to = t.to }))) ≡ Some (record c { tail = Some (record { hard = hard; to = t.to }) })
+    go : (hard : Bool) → content_after c (tail_entries (Some (record { hard = hard; to = t.to }))) ≡ Some (record c { tail = Some (record { hard = hard; to = t.to }) })
     go true = ap (λ z. Some (record c { tail = z })) (shown true)
     go false = ap (λ z. Some (record c { tail = z })) (shown false)
 
 -- the fields of a move state's word
-word_small : (g : Gstate) → AreMoveStateFieldsWithinBitWidths g → first_word_of_move_state g < 2 ^ 32
+word_small : (g : Gstate) → MoveStateFits g → move_word g < 2 ^ 32
 word_small g h = go g.sync
   where
-    go : (sync : Bool) → first_word_of_move_state (record g { sync = sync }) < 2 ^ 32
+    go : (sync : Bool) → move_word (record g { sync = sync }) < 2 ^ 32
     go true = omega (arith, h.kind, h.id)
     go false = omega (arith, h.kind, h.id)
 
-word_fields : (g : Gstate) → AreMoveStateFieldsWithinBitWidths g → gstate_of_word_and_pair (first_word_of_move_state g) g.pair ≡ g
+word_fields : (g : Gstate) → MoveStateFits g → gstate_from (move_word g) g.pair ≡ g
 word_fields g h = go g.sync
   where
-    fields : (sync : Bool) (word : ℕ) → nat_le (2 ^ 31) word ≡ sync → word / 2 ^ 20 % 2 ^ 11 ≡ g.kind → word / 2 ^ 10 % 2 ^ 10 ≡ g.id → gstate_of_word_and_pair word g.pair ≡ record g { sync = sync }
+    fields : (sync : Bool) (word : ℕ) → nat_le (2 ^ 31) word ≡ sync → word / 2 ^ 20 % 2 ^ 11 ≡ g.kind → word / 2 ^ 10 % 2 ^ 10 ≡ g.id → gstate_from word g.pair ≡ record g { sync = sync }
     fields sync word s k i = rw (s, k, i) refl
 
-    go : (sync : Bool) → gstate_of_word_and_pair (first_word_of_move_state (record g { sync = sync })) g.pair ≡ record g { sync = sync }
+    go : (sync : Bool) → gstate_from (move_word (record g { sync = sync })) g.pair ≡ record g { sync = sync }
     go true = fields true (2 ^ 31 + g.kind * 2 ^ 20 + g.id * 2 ^ 10) (le-leb (2 ^ 31) (2 ^ 31 + g.kind * 2 ^ 20 + g.id * 2 ^ 10) (omega arith)) (omega (arith, h.kind, h.id)) (omega (arith, h.kind, h.id))
     go false = fields false (0 + g.kind * 2 ^ 20 + g.id * 2 ^ 10) (lt-leb (2 ^ 31) (0 + g.kind * 2 ^ 20 + g.id * 2 ^ 10) (omega (arith, h.kind, h.id))) (omega (arith, h.kind, h.id)) (omega (arith, h.kind, h.id))
 
-pub gstate_of_bytes-bytes_of_move_state : (g : Gstate) → AreMoveStateFieldsWithinBitWidths g → gstate_of_bytes (bytes_of_move_state g) ≡ g
-gstate_of_bytes-bytes_of_move_state g h =
-    ap₂ gstate_of_word_and_pair (little_number-reads_back 4 (first_word_of_move_state g) (bytes_of_pair_address g.pair) (word_small g h)) (pair_address_of_bytes-bytes_of_pair_address g.pair h.pair)
+pub read_gstate-bytes_of_move_state : (g : Gstate) → MoveStateFits g → read_gstate (bytes_of_move_state g) ≡ g
+read_gstate-bytes_of_move_state g h =
+    ap₂ gstate_from (little_number-reads_back 4 (move_word g) (address_bytes g.pair) (word_small g h)) (read_address-address_bytes g.pair h.pair)
     ∙ word_fields g h
 
 -- a zero move state is none
-zero_is_none : (g : Gstate) → is_zero_gstate g ≡ true → g ≡ zero_gstate
+zero_is_none : (g : Gstate) → is_zero g ≡ true → g ≡ zero_gstate
 zero_is_none g z = go g.sync refl
   where
     go : (sync : Bool) → g.sync ≡ sync → g ≡ zero_gstate
@@ -269,19 +269,19 @@ zero_is_none g z = go g.sync refl
         ap (λ s. record g { sync = s }) e ∙ ap (λ k. record g { sync = false; kind = k }) kind
         ∙ ap₂ (λ i p. record { sync = false; kind = 0; id = i; pair = p }) id pair
 
-move_written : (c : RawPairContent) (g : Gstate) → c.move ≡ zero_gstate → AreMoveStateFieldsWithinBitWidths g → content_after_log_entries c (log_entries_of_move_state g) ≡ Some (record c { move = g })
-move_written c g none h = go (is_zero_gstate g) refl
+move_written : (c : RawContent) (g : Gstate) → c.move ≡ zero_gstate → MoveStateFits g → content_after c (move_state_entries g) ≡ Some (record c { move = g })
+move_written c g none h = go (is_zero g) refl
   where
-    go : (z : Bool) → is_zero_gstate g ≡ z → content_after_log_entries c (cond z [] (log_entry_of_type_id_and_bytes move_state_type no_id (bytes_of_move_state g) ∷ [])) ≡ Some (record c { move = g })
+    go : (z : Bool) → is_zero g ≡ z → content_after c (cond z [] (log_entry_of move_type no_id (bytes_of_move_state g) ∷ [])) ≡ Some (record c { move = g })
     go true z = ap (λ m. Some (record c { move = m })) (none ∙ sym (zero_is_none g z))
-    go false z = ap (λ m. Some (record c { move = m })) (gstate_of_bytes-bytes_of_move_state g h)
+    go false z = ap (λ m. Some (record c { move = m })) (read_gstate-bytes_of_move_state g h)
 
 -- ---- the whole
 
-pub entries_of-reads : (c : RawPairContent) → IsStorableRawPairContent c → content_after_log_entries empty_raw_pair_content (log_entries_of_content c) ≡ Some c
+pub entries_of-reads : (c : RawContent) → IsStorable c → content_after empty_raw_content (content_entries c) ≡ Some c
 entries_of-reads c h =
-    then empty_raw_pair_content (record { slots = c.slots; tail = c.tail; move = zero_gstate }) (log_entries_of_slots 0 c.slots ++ log_entries_of_tail c.tail) (log_entries_of_move_state c.move) _
-    (then empty_raw_pair_content (record { slots = c.slots; tail = None; move = zero_gstate }) (log_entries_of_slots 0 c.slots) (log_entries_of_tail c.tail) _
-    (slots_written empty_raw_pair_content c.slots (omega (arith, h.few)) h.names h.logged.slots)
+    then empty_raw_content (record { slots = c.slots; tail = c.tail; move = zero_gstate }) (entries_of_slots 0 c.slots ++ tail_entries c.tail) (move_state_entries c.move) _
+    (then empty_raw_content (record { slots = c.slots; tail = None; move = zero_gstate }) (entries_of_slots 0 c.slots) (tail_entries c.tail) _
+    (slots_written empty_raw_content c.slots (omega (arith, h.few)) h.names h.logged.slots)
     (tail_written (record { slots = c.slots; tail = None; move = zero_gstate }) c.tail refl h.logged.tail))
     (move_written (record { slots = c.slots; tail = c.tail; move = zero_gstate }) c.move refl h.logged.move)

@@ -1,10 +1,10 @@
 // Which rule of the writing profile an image breaks.
 
 ghost use Rattle.std.specs.Prelude.{List};
-ghost use Rattle.lfs_model.specs.Disk.{Disk};
-ghost use Rattle.lfs_model.specs.Profile.{IsWritableImage};
-ghost use Rattle.lfs_model.specs.ProfileBreaches.{BreaksProfile};
-ghost use Rattle.lfs_model.specs.Thread.{Pair};
+ghost use Rattle.lfs_model.specs.format.Disk.{Disk};
+ghost use Rattle.lfs_model.specs.tree.Profile.{IsWritable};
+ghost use Rattle.lfs_model.specs.layers.ProfileBreaches.{BreaksProfile};
+ghost use Rattle.lfs_model.specs.format.Thread.{Pair};
 ghost use Rattle.lfs_model.specs.declared.breaches.ProfileBreach.{ProfileBreach};
 
 /// A limit of a superblock that isn't the profile's, in bytes.
@@ -46,5 +46,5 @@ pub enum ProfileBreach {
 
 /// Where an image breaks a rule of the writing profile, it may not be written.
 pub fn breach_prevents_writing()
-    ensures { (disk : Disk) (ps : List Pair) (b : ProfileBreach) → BreaksProfile disk ps b → ¬ IsWritableImage disk ps }
+    ensures { (disk : Disk) (ps : List Pair) (b : ProfileBreach) → BreaksProfile disk ps b → ¬ IsWritable disk ps }
 {}

@@ -1,18 +1,18 @@
 // What each operation checks, in which order, and what it queries of the disk.
 
 ghost use Rattle.std.specs.Prelude.{◌≡◌, true, false, [], ◌∷◌, ◌++◌, filter, Some, None, replicate, codes};
-ghost use Rattle.lfs_model.specs.Slots.{zero_gstate};
-ghost use Rattle.lfs_model.specs.Operations as ops;
-ghost use Rattle.lfs_model.specs.Operations.{NoEnt, BadFile, Exist, NotDir, IsDir, Invalid, NoSpace, ReadOnly, NameTooLong, NotEmpty, NoAttr, EntryFull};
-ghost use Rattle.lfs_model.specs.State.{session_after_mount};
-ghost use Rattle.lfs_model.specs.Fresh.{empty_tree};
-ghost use Rattle.lfs_model.specs.Frame.{refusal_needs_no_look_up, needs_no_device_or_memory};
-ghost use Rattle.lfs_model.specs.examples.Runs.{all_refusals, session_with_writer_of_path};
-ghost use Rattle.lfs_model.specs.examples.Sessions.{writable_disk_summary, replies_to_operations, replies_from_fresh_disk, operations_each_paired_with_used_block_count, read_flags, write_flags, flags_to_open_new_file};
+ghost use Rattle.lfs_model.specs.format.Slots.{zero_gstate};
+ghost use Rattle.lfs_model.specs.session.Operations as ops;
+ghost use Rattle.lfs_model.specs.session.Operations.{NoEnt, BadFile, Exist, NotDir, IsDir, Invalid, NoSpace, ReadOnly, NameTooLong, NotEmpty, NoAttr, EntryFull};
+ghost use Rattle.lfs_model.specs.session.State.{mounted_session};
+ghost use Rattle.lfs_model.specs.tree.Fresh.{empty_tree};
+ghost use Rattle.lfs_model.specs.crash.Frame.{is_early_refusal, needs_no_resource};
+ghost use Rattle.lfs_model.specs.examples.Runs.{all_refusals, with_writer};
+ghost use Rattle.lfs_model.specs.examples.Sessions.{writable_summary, all_replies, fresh_replies, with_used_count, read_flags, write_flags, creating_flags};
 
 /// A disk outside the writing profile is read. Each call that would change it is refused before any other check.
 pub fn read_only_is_checked_first()
-    ensures { replies_to_operations (λ used. record (writable_disk_summary 4096 256 16 used) { writable = false }) (session_after_mount empty_tree) (operations_each_paired_with_used_block_count 2
+    ensures { all_replies (λ used. record (writable_summary 4096 256 16 used) { writable = false }) (mounted_session empty_tree) (with_used_count 2
         (ops.Open [] write_flags ∷ ops.Open (codes "/a") (record write_flags { read = true }) ∷ ops.Mkdir [] ∷ ops.Remove (codes "/")
         ∷ ops.Rename (codes "/") [] ∷ ops.SetAttr (codes "/") 0x41 [] ∷ ops.RemoveAttr (codes "/x/y") 0x41 ∷ ops.Recover
         ∷ ops.Open [] read_flags ∷ ops.Write 0 [] ∷ ops.ListAll (codes "/") ∷ ops.Stat (codes "/") ∷ ops.GetAttr (codes "/") 0x41 ∷ []))
@@ -23,28 +23,28 @@ pub fn read_only_is_checked_first()
 
 /// Which refusals need no look-up, and which operations take neither the device nor memory.
 pub fn some_refusals_need_no_look_up()
-    ensures made { filter (refusal_needs_no_look_up (ops.Mkdir (codes "/d"))) all_refusals ≡ BadFile ∷ Invalid ∷ ReadOnly ∷ ops.Failed ∷ [] }
-    ensures written { filter (refusal_needs_no_look_up (ops.Write 0 [])) all_refusals ≡ all_refusals }
-    ensures remounted { refusal_needs_no_look_up ops.Remount ops.Failed ≡ false }
-    ensures moved { filter (needs_no_device_or_memory (session_with_writer_of_path [] true [])) (ops.Seek 0 1 ∷ ops.Read 0 1 ∷ ops.Write 0 [] ∷ ops.Sync 0 ∷ ops.UsedCount ∷ [])
+    ensures made { filter (is_early_refusal (ops.Mkdir (codes "/d"))) all_refusals ≡ BadFile ∷ Invalid ∷ ReadOnly ∷ ops.Failed ∷ [] }
+    ensures written { filter (is_early_refusal (ops.Write 0 [])) all_refusals ≡ all_refusals }
+    ensures remounted { is_early_refusal ops.Remount ops.Failed ≡ false }
+    ensures moved { filter (needs_no_resource (with_writer [] true [])) (ops.Seek 0 1 ∷ ops.Read 0 1 ∷ ops.Write 0 [] ∷ ops.Sync 0 ∷ ops.UsedCount ∷ [])
         ≡ ops.Seek 0 1 ∷ ops.Write 0 [] ∷ ops.UsedCount ∷ [] }
 {}
 
 /// The queries of a disk.
 pub fn queries_of_disk_are_answered()
-    ensures plain { replies_to_operations (writable_disk_summary 4096 256 16) (session_after_mount empty_tree) (operations_each_paired_with_used_block_count 1
+    ensures plain { all_replies (writable_summary 4096 256 16) (mounted_session empty_tree) (with_used_count 1
         (ops.AskGstate ∷ ops.IsUsed 0 ∷ ops.IsUsed 15 ∷ ops.IsUsed 16 ∷ ops.UsedCount ∷ ops.Recover ∷ []))
         ≡ ops.GstateIs false None ∷ ops.Yes true ∷ ops.Yes false ∷ ops.Refused Invalid ∷ ops.Count 1 ∷ ops.Done ∷ [] }
-    ensures set_move { replies_to_operations (λ used. record (writable_disk_summary 4096 256 16 used) { gstate = record zero_gstate { sync = true; kind = 0x4ff; id = 3; pair = (3, 2) } }) (session_after_mount empty_tree)
-        (operations_each_paired_with_used_block_count 4 (ops.AskGstate ∷ []))
+    ensures set_move { all_replies (λ used. record (writable_summary 4096 256 16 used) { gstate = record zero_gstate { sync = true; kind = 0x4ff; id = 3; pair = (3, 2) } }) (mounted_session empty_tree)
+        (with_used_count 4 (ops.AskGstate ∷ []))
         ≡ ops.GstateIs true (Some ((3, 2), 3)) ∷ [] }
 {}
 
 /// Two blocks are needed, and one is free.
 pub fn changes_need_two_free_blocks()
-    ensures { replies_from_fresh_disk 1024 128 4
-        (operations_each_paired_with_used_block_count 2 (ops.Open (codes "/a") flags_to_open_new_file ∷ ops.Write 0 (1 ∷ []) ∷ ops.Close 0 ∷ [])
-        ++ operations_each_paired_with_used_block_count 3 (ops.Rename (codes "/a") (codes "/b") ∷ ops.Rename (codes "/a") (codes "/a") ∷ ops.SetAttr (codes "/a") 0x41 []
+    ensures { fresh_replies 1024 128 4
+        (with_used_count 2 (ops.Open (codes "/a") creating_flags ∷ ops.Write 0 (1 ∷ []) ∷ ops.Close 0 ∷ [])
+        ++ with_used_count 3 (ops.Rename (codes "/a") (codes "/b") ∷ ops.Rename (codes "/a") (codes "/a") ∷ ops.SetAttr (codes "/a") 0x41 []
         ∷ ops.RemoveAttr (codes "/a") 0x41 ∷ ops.Open (codes "/a") (record write_flags { truncate = true })
         ∷ ops.Open (codes "/a") write_flags ∷ ops.Truncate 0 0 ∷ ops.Truncate 0 1 ∷ ops.Write 0 [] ∷ ops.Close 0 ∷ ops.Remove (codes "/a") ∷ []))
         ≡ ops.Opened 0 ∷ ops.Count 1 ∷ ops.Done
@@ -54,8 +54,8 @@ pub fn changes_need_two_free_blocks()
 
 /// A rename's new name counts, and its own path may be too long.
 pub fn rename_counts_size_of_new_name()
-    ensures { replies_from_fresh_disk 1024 128 64 (operations_each_paired_with_used_block_count 2
-        (ops.Open (codes "/a") flags_to_open_new_file ∷ ops.Close 0 ∷ ops.SetAttr (codes "/a") 0x41 (replicate 200 1)
+    ensures { fresh_replies 1024 128 64 (with_used_count 2
+        (ops.Open (codes "/a") creating_flags ∷ ops.Close 0 ∷ ops.SetAttr (codes "/a") 0x41 (replicate 200 1)
         ∷ ops.Rename (codes "/a") (47 ∷ replicate 255 97) ∷ ops.Rename (47 ∷ replicate 256 97) (47 ∷ replicate 256 97)
         ∷ ops.Rename (codes "/x/y") (codes "/a/b") ∷ ops.Rename (codes "/a") (codes "/x/y") ∷ ops.Rename (codes "/a/b") (codes "/x/y") ∷ []))
         ≡ ops.Opened 0 ∷ ops.Done ∷ ops.Done ∷ ops.Refused EntryFull ∷ ops.Refused NameTooLong ∷ ops.Refused NoEnt ∷ ops.Refused NoEnt ∷ ops.Refused NotDir ∷ [] }
@@ -64,28 +64,28 @@ pub fn rename_counts_size_of_new_name()
 /// Where a write begins, and how a truncate and a sync change the end of the last write: three blocks are free, and a
 /// nonsequential writer holds four.
 pub fn truncate_and_sync_change_end_of_last_write()
-    ensures gap { replies_from_fresh_disk 1024 128 5 (operations_each_paired_with_used_block_count 2
-        (ops.Open (codes "/a") flags_to_open_new_file ∷ ops.Write 0 (replicate 500 7) ∷ ops.Seek 0 600 ∷ ops.Write 0 (1 ∷ []) ∷ ops.Seek 0 0 ∷ ops.Write 0 (1 ∷ []) ∷ []))
+    ensures gap { fresh_replies 1024 128 5 (with_used_count 2
+        (ops.Open (codes "/a") creating_flags ∷ ops.Write 0 (replicate 500 7) ∷ ops.Seek 0 600 ∷ ops.Write 0 (1 ∷ []) ∷ ops.Seek 0 0 ∷ ops.Write 0 (1 ∷ []) ∷ []))
         ≡ ops.Opened 0 ∷ ops.Count 500 ∷ ops.Done ∷ ops.Count 1 ∷ ops.Done ∷ ops.Refused NoSpace ∷ [] }
-    ensures lengthened { replies_from_fresh_disk 1024 128 5 (operations_each_paired_with_used_block_count 2
-        (ops.Open (codes "/a") flags_to_open_new_file ∷ ops.Truncate 0 500 ∷ ops.Write 0 (1 ∷ []) ∷ ops.Seek 0 500 ∷ ops.Write 0 (1 ∷ []) ∷ []))
+    ensures lengthened { fresh_replies 1024 128 5 (with_used_count 2
+        (ops.Open (codes "/a") creating_flags ∷ ops.Truncate 0 500 ∷ ops.Write 0 (1 ∷ []) ∷ ops.Seek 0 500 ∷ ops.Write 0 (1 ∷ []) ∷ []))
         ≡ ops.Opened 0 ∷ ops.Done ∷ ops.Refused NoSpace ∷ ops.Done ∷ ops.Count 1 ∷ [] }
-    ensures synced { replies_from_fresh_disk 1024 128 6
-        (operations_each_paired_with_used_block_count 2 (ops.Open (codes "/a") flags_to_open_new_file ∷ ops.Write 0 (replicate 500 7) ∷ ops.Sync 0 ∷ [])
-        ++ operations_each_paired_with_used_block_count 3 (ops.Seek 0 0 ∷ ops.Write 0 (1 ∷ []) ∷ []))
+    ensures synced { fresh_replies 1024 128 6
+        (with_used_count 2 (ops.Open (codes "/a") creating_flags ∷ ops.Write 0 (replicate 500 7) ∷ ops.Sync 0 ∷ [])
+        ++ with_used_count 3 (ops.Seek 0 0 ∷ ops.Write 0 (1 ∷ []) ∷ []))
         ≡ ops.Opened 0 ∷ ops.Count 500 ∷ ops.Done ∷ ops.Done ∷ ops.Count 1 ∷ [] }
 {}
 
 /// The first check that fails decides.
 pub fn first_failing_check_decides_refusal()
-    ensures directories { replies_from_fresh_disk 4096 256 64 ((2, ops.Mkdir (codes "/d")) ∷ operations_each_paired_with_used_block_count 4
-        (ops.Open (codes "/d") (record flags_to_open_new_file { exclusive = true }) ∷ ops.Open (codes "/d") flags_to_open_new_file ∷ ops.Open (codes "/") read_flags
-        ∷ ops.Open (codes "/d/f") flags_to_open_new_file ∷ ops.Remove (codes "/d") ∷ ops.Remove (codes "/") ∷ ops.GetAttr (codes "/") 0 ∷ ops.RemoveAttr (codes "/") 0
+    ensures directories { fresh_replies 4096 256 64 ((2, ops.Mkdir (codes "/d")) ∷ with_used_count 4
+        (ops.Open (codes "/d") (record creating_flags { exclusive = true }) ∷ ops.Open (codes "/d") creating_flags ∷ ops.Open (codes "/") read_flags
+        ∷ ops.Open (codes "/d/f") creating_flags ∷ ops.Remove (codes "/d") ∷ ops.Remove (codes "/") ∷ ops.GetAttr (codes "/") 0 ∷ ops.RemoveAttr (codes "/") 0
         ∷ ops.Rename (codes "/x/y") (codes "/d/f/z") ∷ ops.Rename (codes "/d/f/z") (codes "/x/y") ∷ []))
         ≡ ops.Done ∷ ops.Refused Exist ∷ ops.Refused IsDir ∷ ops.Refused IsDir ∷ ops.Opened 0 ∷ ops.Refused NotEmpty
         ∷ ops.Refused Invalid ∷ ops.Refused Invalid ∷ ops.Refused Invalid ∷ ops.Refused NoEnt ∷ ops.Refused NotDir ∷ [] }
-    ensures readers { replies_from_fresh_disk 4096 256 16 (operations_each_paired_with_used_block_count 2
-        (ops.Open (codes "/a") flags_to_open_new_file ∷ ops.Write 0 (codes "hello") ∷ ops.Close 0 ∷ ops.Open (codes "/a") read_flags ∷ ops.Sync 0 ∷ ops.Seek 0 3 ∷ ops.Read 0 9
+    ensures readers { fresh_replies 4096 256 16 (with_used_count 2
+        (ops.Open (codes "/a") creating_flags ∷ ops.Write 0 (codes "hello") ∷ ops.Close 0 ∷ ops.Open (codes "/a") read_flags ∷ ops.Sync 0 ∷ ops.Seek 0 3 ∷ ops.Read 0 9
         ∷ ops.Truncate 0 0 ∷ ops.Seek 7 2147483648 ∷ ops.Truncate 7 2147483648 ∷ []))
         ≡ ops.Opened 0 ∷ ops.Count 5 ∷ ops.Done ∷ ops.Opened 0 ∷ ops.Done ∷ ops.Done ∷ ops.Bytes (codes "lo")
         ∷ ops.Refused BadFile ∷ ops.Refused BadFile ∷ ops.Refused BadFile ∷ [] }

@@ -2,34 +2,34 @@
 
 ghost use Rattle.std.specs.Prelude.{◌≡◌, ℕ, ◌<◌, ◌^◌, true, false, [], ◌∷◌, ◌++◌, Some, None, codes};
 ghost use Rattle.std.specs.declared.cmp.Ordering.TheVariants.{Less};
-ghost use Rattle.lfs_model.specs.Names.{name_cmp};
+ghost use Rattle.lfs_model.specs.format.Names.{name_cmp};
 ghost use Rattle.lfs_model.specs.declared.order.NameOrder.TheVariants.{ShorterFirst, LongerFirst};
-ghost use Rattle.lfs_model.specs.Tag.{IsValidTag, tag_of_type_id_and_length, type_of_tag, id_of_tag, length_of_tag};
-ghost use Rattle.lfs_model.specs.Slots.{Gstate, zero_gstate, gstate_xor};
-ghost use Rattle.lfs_model.specs.Content.{empty_raw_pair_content, empty_slot, content_after_log_entries};
-ghost use Rattle.lfs_model.specs.EntryTypes.{gstate_of_word_and_pair, create_tag_type, delete_tag_type, file_name_type, superblock_name_type, inline_struct_type, directory_struct_type, ctz_struct_type, soft_tail_type, hard_tail_type, move_state_type, no_id};
-ghost use Rattle.lfs_model.specs.Lookup.{IsLeastIdOfName, IsIdForNewName, slot_bytes_of_type_at_id};
-ghost use Rattle.lfs_model.specs.examples.Images.{raw_slot_of_superblock, raw_slot_of_empty_file};
-ghost use Rattle.lfs_model.specs.WrittenContent.{log_entry_of_type_id_and_bytes, tail_log_entry};
-ghost use Rattle.lfs_model.specs.BlockBytes.{inline_file_name_and_struct_entries, move_state_entry_with_first_word};
+ghost use Rattle.lfs_model.specs.format.Tag.{IsValidTag, make_tag, tag_type, tag_id, tag_length};
+ghost use Rattle.lfs_model.specs.format.Slots.{Gstate, zero_gstate, gstate_xor};
+ghost use Rattle.lfs_model.specs.format.Content.{empty_raw_content, empty_slot, content_after};
+ghost use Rattle.lfs_model.specs.format.EntryTypes.{gstate_from, create_tag_type, delete_tag_type, file_name_type, superblock_name_type, inline_type, directory_type, ctz_type, soft_tail_type, hard_tail_type, move_type, no_id};
+ghost use Rattle.lfs_model.specs.layers.Lookup.{IsLeastId, IsNewId, bytes_at};
+ghost use Rattle.lfs_model.specs.examples.Images.{raw_superblock, raw_empty_file};
+ghost use Rattle.lfs_model.specs.layers.WrittenContent.{log_entry_of, tail_entry};
+ghost use Rattle.lfs_model.specs.layers.BlockBytes.{inline_entries, move_state_entry};
 
 /// A tag is its type, its id and its length.
 pub fn tag_is_its_fields()
-    ensures kind { (kind id len : ℕ) → kind < 2 ^ 11 → id < 2 ^ 10 → len < 2 ^ 10 → type_of_tag (tag_of_type_id_and_length kind id len) ≡ kind }
-    ensures id { (kind id len : ℕ) → kind < 2 ^ 11 → id < 2 ^ 10 → len < 2 ^ 10 → id_of_tag (tag_of_type_id_and_length kind id len) ≡ id }
-    ensures len { (kind id len : ℕ) → kind < 2 ^ 11 → id < 2 ^ 10 → len < 2 ^ 10 → length_of_tag (tag_of_type_id_and_length kind id len) ≡ len }
-    ensures valid { (kind id len : ℕ) → kind < 2 ^ 11 → id < 2 ^ 10 → len < 2 ^ 10 → IsValidTag (tag_of_type_id_and_length kind id len) }
-    ensures whole { (tag : ℕ) → IsValidTag tag → tag_of_type_id_and_length (type_of_tag tag) (id_of_tag tag) (length_of_tag tag) ≡ tag }
-    ensures create { tag_of_type_id_and_length create_tag_type 3 0 ≡ 0x40100c00 }
-    ensures soft_tail { tag_of_type_id_and_length soft_tail_type no_id 8 ≡ 0x600ffc08 }
-    ensures move_state { tag_of_type_id_and_length move_state_type no_id 12 ≡ 0x7ffffc0c }
+    ensures kind { (kind id len : ℕ) → kind < 2 ^ 11 → id < 2 ^ 10 → len < 2 ^ 10 → tag_type (make_tag kind id len) ≡ kind }
+    ensures id { (kind id len : ℕ) → kind < 2 ^ 11 → id < 2 ^ 10 → len < 2 ^ 10 → tag_id (make_tag kind id len) ≡ id }
+    ensures len { (kind id len : ℕ) → kind < 2 ^ 11 → id < 2 ^ 10 → len < 2 ^ 10 → tag_length (make_tag kind id len) ≡ len }
+    ensures valid { (kind id len : ℕ) → kind < 2 ^ 11 → id < 2 ^ 10 → len < 2 ^ 10 → IsValidTag (make_tag kind id len) }
+    ensures whole { (tag : ℕ) → IsValidTag tag → make_tag (tag_type tag) (tag_id tag) (tag_length tag) ≡ tag }
+    ensures create { make_tag create_tag_type 3 0 ≡ 0x40100c00 }
+    ensures soft_tail { make_tag soft_tail_type no_id 8 ≡ 0x600ffc08 }
+    ensures move_state { make_tag move_type no_id 12 ≡ 0x7ffffc0c }
 {}
 
 /// A move state is the sync bit, a move type and an id in its first word, and a pair. Its lowest ten bits are ignored.
 pub fn move_state_is_its_fields()
-    ensures set_move { gstate_of_word_and_pair 0x4ff00800 (2, 3) ≡ record { sync = false; kind = 0x4ff; id = 2; pair = (2, 3) } }
-    ensures sync { gstate_of_word_and_pair 0x80000000 (0, 0) ≡ record { sync = true; kind = 0; id = 0; pair = (0, 0) } }
-    ensures ignored { gstate_of_word_and_pair 0x000003ff (0, 0) ≡ zero_gstate }
+    ensures set_move { gstate_from 0x4ff00800 (2, 3) ≡ record { sync = false; kind = 0x4ff; id = 2; pair = (2, 3) } }
+    ensures sync { gstate_from 0x80000000 (0, 0) ≡ record { sync = true; kind = 0; id = 0; pair = (0, 0) } }
+    ensures ignored { gstate_from 0x000003ff (0, 0) ≡ zero_gstate }
     ensures ended { (g : Gstate) → gstate_xor g g ≡ zero_gstate }
     ensures kept { (g : Gstate) → gstate_xor g zero_gstate ≡ g }
 {}
@@ -37,81 +37,81 @@ pub fn move_state_is_its_fields()
 /// What entries make of an empty log, applied in order.
 pub fn log_entries_make_slots()
     // "b" is created, "a" is created before it and removed again, and "b" gets an attribute.
-    ensures shifted { content_after_log_entries empty_raw_pair_content
-        (log_entry_of_type_id_and_bytes create_tag_type 0 [] ∷ inline_file_name_and_struct_entries 0 (codes "b") []
-        ++ log_entry_of_type_id_and_bytes create_tag_type 0 [] ∷ inline_file_name_and_struct_entries 0 (codes "a") []
-        ++ log_entry_of_type_id_and_bytes delete_tag_type 0 [] ∷ log_entry_of_type_id_and_bytes 0x341 0 (codes "x") ∷ [])
-        ≡ Some (record empty_raw_pair_content { slots = record { name = Some (file_name_type, codes "b"); struct = Some (inline_struct_type, []); attributes = (0x41, codes "x") ∷ [] } ∷ [] }) }
+    ensures shifted { content_after empty_raw_content
+        (log_entry_of create_tag_type 0 [] ∷ inline_entries 0 (codes "b") []
+        ++ log_entry_of create_tag_type 0 [] ∷ inline_entries 0 (codes "a") []
+        ++ log_entry_of delete_tag_type 0 [] ∷ log_entry_of 0x341 0 (codes "x") ∷ [])
+        ≡ Some (record empty_raw_content { slots = record { name = Some (file_name_type, codes "b"); struct = Some (inline_type, []); attributes = (0x41, codes "x") ∷ [] } ∷ [] }) }
 
     // A name past the last slot makes slots up to its id.
-    ensures extended { content_after_log_entries empty_raw_pair_content (log_entry_of_type_id_and_bytes file_name_type 1 (codes "a") ∷ [])
-        ≡ Some (record empty_raw_pair_content { slots = empty_slot ∷ record empty_slot { name = Some (file_name_type, codes "a") } ∷ [] }) }
+    ensures extended { content_after empty_raw_content (log_entry_of file_name_type 1 (codes "a") ∷ [])
+        ≡ Some (record empty_raw_content { slots = empty_slot ∷ record empty_slot { name = Some (file_name_type, codes "a") } ∷ [] }) }
 
     // Attributes are in the order of their types. The last one of a type counts, or none where it was removed.
-    ensures attributes { content_after_log_entries empty_raw_pair_content
-        (log_entry_of_type_id_and_bytes file_name_type 0 (codes "a")
-        ∷ log_entry_of_type_id_and_bytes 0x342 0 (codes "y") ∷ log_entry_of_type_id_and_bytes 0x341 0 (codes "x") ∷ log_entry_of_type_id_and_bytes 0x343 0 (codes "z")
-        ∷ log_entry_of_type_id_and_bytes 0x342 0 (codes "w") ∷ record { tag = tag_of_type_id_and_length 0x343 0 0x3ff; bytes = [] } ∷ record { tag = tag_of_type_id_and_length 0x344 0 0x3ff; bytes = [] } ∷ [])
-        ≡ Some (record empty_raw_pair_content { slots = record empty_slot { name = Some (file_name_type, codes "a"); attributes = (0x41, codes "x") ∷ (0x42, codes "w") ∷ [] } ∷ [] }) }
+    ensures attributes { content_after empty_raw_content
+        (log_entry_of file_name_type 0 (codes "a")
+        ∷ log_entry_of 0x342 0 (codes "y") ∷ log_entry_of 0x341 0 (codes "x") ∷ log_entry_of 0x343 0 (codes "z")
+        ∷ log_entry_of 0x342 0 (codes "w") ∷ record { tag = make_tag 0x343 0 0x3ff; bytes = [] } ∷ record { tag = make_tag 0x344 0 0x3ff; bytes = [] } ∷ [])
+        ≡ Some (record empty_raw_content { slots = record empty_slot { name = Some (file_name_type, codes "a"); attributes = (0x41, codes "x") ∷ (0x42, codes "w") ∷ [] } ∷ [] }) }
 
     // The last tail counts, and the last move state. Their ids are ignored.
-    ensures tail { content_after_log_entries empty_raw_pair_content (tail_log_entry false (Some (2, 3)) ∷ tail_log_entry true (Some (4, 5)) ∷ [])
-        ≡ Some (record empty_raw_pair_content { tail = Some (record { hard = true; to = (4, 5) }) }) }
-    ensures no_tail { content_after_log_entries empty_raw_pair_content (tail_log_entry true (Some (2, 3)) ∷ tail_log_entry true None ∷ []) ≡ Some empty_raw_pair_content }
-    ensures any_id { content_after_log_entries empty_raw_pair_content (log_entry_of_type_id_and_bytes soft_tail_type 0 (tail_log_entry false None).bytes ∷ [])
-        ≡ Some empty_raw_pair_content }
-    ensures move_state { content_after_log_entries empty_raw_pair_content (move_state_entry_with_first_word 0x4ff00400 (0, 1) ∷ move_state_entry_with_first_word 0x80000000 (0, 0) ∷ [])
-        ≡ Some (record empty_raw_pair_content { move = record zero_gstate { sync = true } }) }
+    ensures tail { content_after empty_raw_content (tail_entry false (Some (2, 3)) ∷ tail_entry true (Some (4, 5)) ∷ [])
+        ≡ Some (record empty_raw_content { tail = Some (record { hard = true; to = (4, 5) }) }) }
+    ensures no_tail { content_after empty_raw_content (tail_entry true (Some (2, 3)) ∷ tail_entry true None ∷ []) ≡ Some empty_raw_content }
+    ensures any_id { content_after empty_raw_content (log_entry_of soft_tail_type 0 (tail_entry false None).bytes ∷ [])
+        ≡ Some empty_raw_content }
+    ensures move_state { content_after empty_raw_content (move_state_entry 0x4ff00400 (0, 1) ∷ move_state_entry 0x80000000 (0, 0) ∷ [])
+        ≡ Some (record empty_raw_content { move = record zero_gstate { sync = true } }) }
 {}
 
 /// Where entries aren't allowed.
 pub fn log_with_bad_entry_is_malformed()
-    ensures unknown_name { content_after_log_entries empty_raw_pair_content (log_entry_of_type_id_and_bytes 0x003 0 (codes "a") ∷ []) ≡ None }
-    ensures unknown_class { content_after_log_entries empty_raw_pair_content (log_entry_of_type_id_and_bytes file_name_type 0 (codes "a") ∷ log_entry_of_type_id_and_bytes 0x100 0 [] ∷ []) ≡ None }
-    ensures unknown_struct { content_after_log_entries empty_raw_pair_content (log_entry_of_type_id_and_bytes file_name_type 0 (codes "a") ∷ log_entry_of_type_id_and_bytes 0x203 0 [] ∷ []) ≡ None }
-    ensures unknown_splice { content_after_log_entries empty_raw_pair_content (log_entry_of_type_id_and_bytes 0x402 0 [] ∷ []) ≡ None }
-    ensures unknown_tail { content_after_log_entries empty_raw_pair_content (log_entry_of_type_id_and_bytes 0x602 no_id (tail_log_entry false None).bytes ∷ []) ≡ None }
-    ensures unknown_move { content_after_log_entries empty_raw_pair_content (log_entry_of_type_id_and_bytes 0x7fe no_id (move_state_entry_with_first_word 0 (0, 0)).bytes ∷ []) ≡ None }
+    ensures unknown_name { content_after empty_raw_content (log_entry_of 0x003 0 (codes "a") ∷ []) ≡ None }
+    ensures unknown_class { content_after empty_raw_content (log_entry_of file_name_type 0 (codes "a") ∷ log_entry_of 0x100 0 [] ∷ []) ≡ None }
+    ensures unknown_struct { content_after empty_raw_content (log_entry_of file_name_type 0 (codes "a") ∷ log_entry_of 0x203 0 [] ∷ []) ≡ None }
+    ensures unknown_splice { content_after empty_raw_content (log_entry_of 0x402 0 [] ∷ []) ≡ None }
+    ensures unknown_tail { content_after empty_raw_content (log_entry_of 0x602 no_id (tail_entry false None).bytes ∷ []) ≡ None }
+    ensures unknown_move { content_after empty_raw_content (log_entry_of 0x7fe no_id (move_state_entry 0 (0, 0)).bytes ∷ []) ≡ None }
 
-    ensures create_past_the_end { content_after_log_entries empty_raw_pair_content (log_entry_of_type_id_and_bytes create_tag_type 1 [] ∷ []) ≡ None }
-    ensures delete_absent { content_after_log_entries empty_raw_pair_content (log_entry_of_type_id_and_bytes delete_tag_type 0 [] ∷ []) ≡ None }
-    ensures struct_absent { content_after_log_entries empty_raw_pair_content (log_entry_of_type_id_and_bytes inline_struct_type 0 [] ∷ []) ≡ None }
-    ensures attribute_absent { content_after_log_entries empty_raw_pair_content (log_entry_of_type_id_and_bytes 0x341 0 [] ∷ []) ≡ None }
-    ensures struct_without_name { content_after_log_entries empty_raw_pair_content (log_entry_of_type_id_and_bytes create_tag_type 0 [] ∷ log_entry_of_type_id_and_bytes inline_struct_type 0 [] ∷ []) ≡ None }
-    ensures attribute_without_name { content_after_log_entries empty_raw_pair_content (log_entry_of_type_id_and_bytes create_tag_type 0 [] ∷ log_entry_of_type_id_and_bytes 0x341 0 [] ∷ []) ≡ None }
-    ensures name_without_id { content_after_log_entries empty_raw_pair_content (log_entry_of_type_id_and_bytes file_name_type no_id (codes "a") ∷ []) ≡ None }
+    ensures create_past_the_end { content_after empty_raw_content (log_entry_of create_tag_type 1 [] ∷ []) ≡ None }
+    ensures delete_absent { content_after empty_raw_content (log_entry_of delete_tag_type 0 [] ∷ []) ≡ None }
+    ensures struct_absent { content_after empty_raw_content (log_entry_of inline_type 0 [] ∷ []) ≡ None }
+    ensures attribute_absent { content_after empty_raw_content (log_entry_of 0x341 0 [] ∷ []) ≡ None }
+    ensures struct_without_name { content_after empty_raw_content (log_entry_of create_tag_type 0 [] ∷ log_entry_of inline_type 0 [] ∷ []) ≡ None }
+    ensures attribute_without_name { content_after empty_raw_content (log_entry_of create_tag_type 0 [] ∷ log_entry_of 0x341 0 [] ∷ []) ≡ None }
+    ensures name_without_id { content_after empty_raw_content (log_entry_of file_name_type no_id (codes "a") ∷ []) ≡ None }
 
-    ensures superblock_len { content_after_log_entries empty_raw_pair_content (log_entry_of_type_id_and_bytes superblock_name_type 0 (codes "little") ∷ []) ≡ None }
-    ensures directory_len { content_after_log_entries empty_raw_pair_content (log_entry_of_type_id_and_bytes file_name_type 0 (codes "a") ∷ log_entry_of_type_id_and_bytes directory_struct_type 0 (codes "1234567") ∷ []) ≡ None }
-    ensures list_len { content_after_log_entries empty_raw_pair_content (log_entry_of_type_id_and_bytes file_name_type 0 (codes "a") ∷ log_entry_of_type_id_and_bytes ctz_struct_type 0 (codes "123456789") ∷ []) ≡ None }
-    ensures create_len { content_after_log_entries empty_raw_pair_content (log_entry_of_type_id_and_bytes create_tag_type 0 (codes "1") ∷ []) ≡ None }
-    ensures delete_len { content_after_log_entries empty_raw_pair_content (log_entry_of_type_id_and_bytes create_tag_type 0 [] ∷ log_entry_of_type_id_and_bytes delete_tag_type 0 (codes "1") ∷ [])
+    ensures superblock_len { content_after empty_raw_content (log_entry_of superblock_name_type 0 (codes "little") ∷ []) ≡ None }
+    ensures directory_len { content_after empty_raw_content (log_entry_of file_name_type 0 (codes "a") ∷ log_entry_of directory_type 0 (codes "1234567") ∷ []) ≡ None }
+    ensures list_len { content_after empty_raw_content (log_entry_of file_name_type 0 (codes "a") ∷ log_entry_of ctz_type 0 (codes "123456789") ∷ []) ≡ None }
+    ensures create_len { content_after empty_raw_content (log_entry_of create_tag_type 0 (codes "1") ∷ []) ≡ None }
+    ensures delete_len { content_after empty_raw_content (log_entry_of create_tag_type 0 [] ∷ log_entry_of delete_tag_type 0 (codes "1") ∷ [])
         ≡ None }
-    ensures tail_len { content_after_log_entries empty_raw_pair_content (log_entry_of_type_id_and_bytes hard_tail_type no_id (codes "1234") ∷ []) ≡ None }
-    ensures move_len { content_after_log_entries empty_raw_pair_content (log_entry_of_type_id_and_bytes move_state_type no_id (codes "12345678") ∷ []) ≡ None }
-    ensures removed_name { content_after_log_entries empty_raw_pair_content (record { tag = tag_of_type_id_and_length file_name_type 0 0x3ff; bytes = [] } ∷ []) ≡ None }
+    ensures tail_len { content_after empty_raw_content (log_entry_of hard_tail_type no_id (codes "1234") ∷ []) ≡ None }
+    ensures move_len { content_after empty_raw_content (log_entry_of move_type no_id (codes "12345678") ∷ []) ≡ None }
+    ensures removed_name { content_after empty_raw_content (record { tag = make_tag file_name_type 0 0x3ff; bytes = [] } ∷ []) ≡ None }
 {}
 
 /// Where a name is among slots. The superblock's name and the slot that is passed over don't count.
 pub fn id_of_name_among_slots_is_found()
-    ensures found { IsLeastIdOfName (codes "b") None (raw_slot_of_superblock ∷ raw_slot_of_empty_file (codes "b") ∷ []) 1 }
+    ensures found { IsLeastId (codes "b") None (raw_superblock ∷ raw_empty_file (codes "b") ∷ []) 1 }
     ensures longer { name_cmp LongerFirst (codes "log.old") (codes "log") ≡ Less }
     ensures shorter { name_cmp ShorterFirst (codes "log") (codes "log.old") ≡ Less }
-    ensures before { IsIdForNewName ShorterFirst (codes "a") None (raw_slot_of_superblock ∷ raw_slot_of_empty_file (codes "b") ∷ []) 1 }
-    ensures behind { IsIdForNewName ShorterFirst (codes "littlefs") None (raw_slot_of_superblock ∷ raw_slot_of_empty_file (codes "b") ∷ []) 2 }
-    ensures passed_over { IsIdForNewName ShorterFirst (codes "b") (Some 1) (raw_slot_of_superblock ∷ raw_slot_of_empty_file (codes "b") ∷ []) 2 }
-    ensures second { IsLeastIdOfName (codes "b") (Some 1) (raw_slot_of_superblock ∷ raw_slot_of_empty_file (codes "b") ∷ raw_slot_of_empty_file (codes "b") ∷ []) 2 }
+    ensures before { IsNewId ShorterFirst (codes "a") None (raw_superblock ∷ raw_empty_file (codes "b") ∷ []) 1 }
+    ensures behind { IsNewId ShorterFirst (codes "littlefs") None (raw_superblock ∷ raw_empty_file (codes "b") ∷ []) 2 }
+    ensures passed_over { IsNewId ShorterFirst (codes "b") (Some 1) (raw_superblock ∷ raw_empty_file (codes "b") ∷ []) 2 }
+    ensures second { IsLeastId (codes "b") (Some 1) (raw_superblock ∷ raw_empty_file (codes "b") ∷ raw_empty_file (codes "b") ∷ []) 2 }
 {}
 
 /// What slots hold of a type for an id.
 pub fn slot_bytes_are_found_by_type_and_id()
-    ensures name { slot_bytes_of_type_at_id (raw_slot_of_superblock ∷ raw_slot_of_empty_file (codes "b") ∷ []) file_name_type 1 ≡ Some (codes "b") }
-    ensures structure { slot_bytes_of_type_at_id (raw_slot_of_superblock ∷ raw_slot_of_empty_file (codes "b") ∷ []) inline_struct_type 1 ≡ Some [] }
-    ensures attribute { slot_bytes_of_type_at_id (record (raw_slot_of_empty_file (codes "b")) { attributes = (0x41, codes "x") ∷ [] } ∷ []) 0x341 0
+    ensures name { bytes_at (raw_superblock ∷ raw_empty_file (codes "b") ∷ []) file_name_type 1 ≡ Some (codes "b") }
+    ensures structure { bytes_at (raw_superblock ∷ raw_empty_file (codes "b") ∷ []) inline_type 1 ≡ Some [] }
+    ensures attribute { bytes_at (record (raw_empty_file (codes "b")) { attributes = (0x41, codes "x") ∷ [] } ∷ []) 0x341 0
         ≡ Some (codes "x") }
-    ensures no_attribute { slot_bytes_of_type_at_id (record (raw_slot_of_empty_file (codes "b")) { attributes = (0x41, codes "x") ∷ [] } ∷ []) 0x342 0 ≡ None }
-    ensures other_name { slot_bytes_of_type_at_id (raw_slot_of_superblock ∷ []) file_name_type 0 ≡ None }
-    ensures other_struct { slot_bytes_of_type_at_id (raw_slot_of_empty_file (codes "b") ∷ []) ctz_struct_type 0 ≡ None }
-    ensures absent { slot_bytes_of_type_at_id (raw_slot_of_superblock ∷ []) file_name_type 1 ≡ None }
-    ensures splice { slot_bytes_of_type_at_id (raw_slot_of_superblock ∷ []) create_tag_type 0 ≡ None }
+    ensures no_attribute { bytes_at (record (raw_empty_file (codes "b")) { attributes = (0x41, codes "x") ∷ [] } ∷ []) 0x342 0 ≡ None }
+    ensures other_name { bytes_at (raw_superblock ∷ []) file_name_type 0 ≡ None }
+    ensures other_struct { bytes_at (raw_empty_file (codes "b") ∷ []) ctz_type 0 ≡ None }
+    ensures absent { bytes_at (raw_superblock ∷ []) file_name_type 1 ≡ None }
+    ensures splice { bytes_at (raw_superblock ∷ []) create_tag_type 0 ≡ None }
 {}

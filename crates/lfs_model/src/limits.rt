@@ -1,11 +1,11 @@
 // What is accepted of an image, and what is written.
 
 ghost use Rattle.std.specs.Prelude.{◌≡◌, ◌↔◌, IsTrue, List};
-ghost use Rattle.lfs_model.specs.Disk.{Disk, IsValidProfile, default_profile};
-ghost use Rattle.lfs_model.specs.Thread.{Pair};
-ghost use Rattle.lfs_model.specs.View.{IsAcceptedImage};
+ghost use Rattle.lfs_model.specs.format.Disk.{Disk, AreValidLimits, default_profile};
+ghost use Rattle.lfs_model.specs.format.Thread.{Pair};
+ghost use Rattle.lfs_model.specs.tree.View.{IsAccepted};
 ghost use Rattle.lfs_model.specs.declared.limits.AcceptedVersions.TheVariants.{AlsoTwoOne, OnlyTwoZero};
-ghost use Rattle.lfs_model.specs.examples.Images.{disk_with_accepted_versions};
+ghost use Rattle.lfs_model.specs.examples.Images.{disk_with_versions};
 
 /// Which on-disk versions a superblock may give. Version 2.1 adds forward checksums alone (type 0x5ff), which mean nothing here.
 #[derive(Clone, Copy, Debug, PartialEq, Eq)]
@@ -54,7 +54,7 @@ impl Profile {
 
     /// Returns whether no limit is 0 or above the format's own.
     pub fn is_valid(&self) -> bool
-        ensures { IsTrue result ↔ IsValidProfile self.now }
+        ensures { IsTrue result ↔ AreValidLimits self.now }
     {
         (1..=255).contains(&self.name_max)
             && (1..=2_147_483_647).contains(&self.file_max)
@@ -65,5 +65,5 @@ impl Profile {
 
 /// Where version 2.1 is accepted too, all images of version 2.0 still are.
 pub fn later_version_is_accepted_too()
-    ensures { (disk : Disk) (ps : List Pair) → IsAcceptedImage (disk_with_accepted_versions OnlyTwoZero disk) ps → IsAcceptedImage (disk_with_accepted_versions AlsoTwoOne disk) ps }
+    ensures { (disk : Disk) (ps : List Pair) → IsAccepted (disk_with_versions OnlyTwoZero disk) ps → IsAccepted (disk_with_versions AlsoTwoOne disk) ps }
 {}

@@ -2,91 +2,91 @@
 
 ghost use Rattle.std.specs.Prelude.{◌≡◌, ℕ, ◌+◌, ◌≤◌, ◌<◌, ◌^◌, ◌++◌, true, false, List, [], ◌∷◌, Some, None, length, take, slice_set, All, codes};
 ghost use Rattle.byteorder.specs.Endian.{little_bytes};
-ghost use Rattle.lfs_model.specs.Crc.{IsCrcOfBytesFromStartValue, crc_of};
-ghost use Rattle.lfs_model.specs.Log.{LogEntry, AreAdjacentCommitsFromBlockStart, chain_of, revision_of_block};
-ghost use Rattle.lfs_model.specs.Content.{has_commit, is_later_revision, current_block_of_two};
-ghost use Rattle.lfs_model.specs.EntryTypes.{create_tag_type, no_id};
-ghost use Rattle.lfs_model.specs.WrittenContent.{log_entry_of_type_id_and_bytes};
-ghost use Rattle.lfs_model.specs.BlockBytes.{unwritten_storage_bytes, metadata_block_bytes, checksum_entry};
-ghost use Rattle.lfs_model.specs.examples.Images.{IsNoAcceptedImage, fresh_block_of_small_image, small_disk_with_first_block, block_with_wrong_checksum_bit, block_with_shifted_slots};
+ghost use Rattle.lfs_model.specs.format.Crc.{IsCrcFrom, crc_of};
+ghost use Rattle.lfs_model.specs.format.Log.{LogEntry, AreCommits, chain_of, block_revision};
+ghost use Rattle.lfs_model.specs.format.Content.{has_commit, is_later, current_of_two};
+ghost use Rattle.lfs_model.specs.format.EntryTypes.{create_tag_type, no_id};
+ghost use Rattle.lfs_model.specs.layers.WrittenContent.{log_entry_of};
+ghost use Rattle.lfs_model.specs.layers.BlockBytes.{unwritten_bytes, metadata_bytes, checksum_entry};
+ghost use Rattle.lfs_model.specs.examples.Images.{IsNotAccepted, small_block, small_disk_beginning, bad_checksum_block, shifted_slot_block};
 
 /// The checksum that is computed is the remainder of the polynomials, and no other number of 32 bits is.
 pub fn checksum_is_remainder()
     ensures small { (start : ℕ) (bytes : List ℕ) → start < 2 ^ 32 → All (λ b. b < 2 ^ 8) bytes → crc_of start bytes < 2 ^ 32 }
     ensures remainder { (start : ℕ) (bytes : List ℕ) → start < 2 ^ 32 → All (λ b. b < 2 ^ 8) bytes
-        → IsCrcOfBytesFromStartValue start bytes (crc_of start bytes) }
+        → IsCrcFrom start bytes (crc_of start bytes) }
     ensures only { (start : ℕ) (bytes : List ℕ) (other : ℕ) → start < 2 ^ 32 → All (λ b. b < 2 ^ 8) bytes → other < 2 ^ 32
-        → IsCrcOfBytesFromStartValue start bytes other → other ≡ crc_of start bytes }
+        → IsCrcFrom start bytes other → other ≡ crc_of start bytes }
     ensures example { crc_of 0xffffffff (codes "123456789") ≡ 0x340bc6d9 }
 {}
 
 /// A block's log is a chain of commits, none is longer, and each other is a beginning of it.
 pub fn log_is_longest_commit_sequence()
-    ensures chain { (block : List ℕ) → AreAdjacentCommitsFromBlockStart block (chain_of block).commits (chain_of block).end (chain_of block).last }
-    ensures longest { (block : List ℕ) (others : List (List LogEntry)) (end last : ℕ) → AreAdjacentCommitsFromBlockStart block others end last
+    ensures chain { (block : List ℕ) → AreCommits block (chain_of block).commits (chain_of block).end (chain_of block).last }
+    ensures longest { (block : List ℕ) (others : List (List LogEntry)) (end last : ℕ) → AreCommits block others end last
         → length others ≤ length (chain_of block).commits }
-    ensures beginning { (block : List ℕ) (others : List (List LogEntry)) (end last : ℕ) → AreAdjacentCommitsFromBlockStart block others end last
+    ensures beginning { (block : List ℕ) (others : List (List LogEntry)) (end last : ℕ) → AreCommits block others end last
         → take (length others) (chain_of block).commits ≡ others }
 {}
 
 /// A commit whose checksum is wrong ends the log before it, and later commits don't count either.
 pub fn altered_commit_ends_log()
     // One bit of the checksum of the only commit is inverted.
-    ensures no_log { (k : ℕ) → k < 32 → (chain_of (block_with_wrong_checksum_bit k)).commits ≡ [] }
-    ensures no_image { (k : ℕ) → k < 32 → IsNoAcceptedImage (small_disk_with_first_block (block_with_wrong_checksum_bit k)) }
+    ensures no_log { (k : ℕ) → k < 32 → (chain_of (bad_checksum_block k)).commits ≡ [] }
+    ensures no_image { (k : ℕ) → k < 32 → IsNotAccepted (small_disk_beginning (bad_checksum_block k)) }
 
     // Of five commits the second has another byte of data, or the fourth another checksum, or the first another struct.
-    ensures second { chain_of (slice_set block_with_shifted_slots 264 0x63)
-        ≡ record { commits = take 1 (chain_of block_with_shifted_slots).commits; end = 256; last = 0x500ffcd0 } }
-    ensures fourth { chain_of (slice_set block_with_shifted_slots 776 0x1b)
-        ≡ record { commits = take 3 (chain_of block_with_shifted_slots).commits; end = 768; last = 0x500ffcef } }
-    ensures first { (chain_of (slice_set block_with_shifted_slots 20 0x01)).commits ≡ [] }
-    ensures whole { length (chain_of block_with_shifted_slots).commits ≡ 5 }
+    ensures second { chain_of (slice_set shifted_slot_block 264 0x63)
+        ≡ record { commits = take 1 (chain_of shifted_slot_block).commits; end = 256; last = 0x500ffcd0 } }
+    ensures fourth { chain_of (slice_set shifted_slot_block 776 0x1b)
+        ≡ record { commits = take 3 (chain_of shifted_slot_block).commits; end = 768; last = 0x500ffcef } }
+    ensures first { (chain_of (slice_set shifted_slot_block 20 0x01)).commits ≡ [] }
+    ensures whole { length (chain_of shifted_slot_block).commits ≡ 5 }
 
     // Padding may be any bytes.
-    ensures padding { (k : ℕ) → k < 76 → (chain_of (slice_set fresh_block_of_small_image (52 + k) 0x00)).end ≡ 128 }
+    ensures padding { (k : ℕ) → k < 76 → (chain_of (slice_set small_block (52 + k) 0x00)).end ≡ 128 }
 {}
 
 /// What ends a commit: a checksum of type 0x500 or 0x501 and of 4 to 1,022 bytes, over all before it and its own tag.
 pub fn checksum_ends_commit()
-    ensures shortest { has_commit (metadata_block_bytes 64 1 (log_entry_of_type_id_and_bytes create_tag_type 0 [] ∷ checksum_entry 0x3316d230 0 ∷ [])) ≡ true }
-    ensures longest { has_commit (metadata_block_bytes 1100 1 (log_entry_of_type_id_and_bytes create_tag_type 0 [] ∷ checksum_entry 0x45539af1 1018 ∷ []))
+    ensures shortest { has_commit (metadata_bytes 64 1 (log_entry_of create_tag_type 0 [] ∷ checksum_entry 0x3316d230 0 ∷ [])) ≡ true }
+    ensures longest { has_commit (metadata_bytes 1100 1 (log_entry_of create_tag_type 0 [] ∷ checksum_entry 0x45539af1 1018 ∷ []))
         ≡ true }
-    ensures other_type { has_commit (metadata_block_bytes 64 1 (log_entry_of_type_id_and_bytes create_tag_type 0 []
-        ∷ log_entry_of_type_id_and_bytes 0x501 no_id (little_bytes 4 0x2f307140) ∷ [])) ≡ true }
+    ensures other_type { has_commit (metadata_bytes 64 1 (log_entry_of create_tag_type 0 []
+        ∷ log_entry_of 0x501 no_id (little_bytes 4 0x2f307140) ∷ [])) ≡ true }
 
     // Three bytes of a right number; a type of the same class; a number that leaves out its own tag.
-    ensures too_short { has_commit (metadata_block_bytes 64 1 (log_entry_of_type_id_and_bytes create_tag_type 0 []
-        ∷ log_entry_of_type_id_and_bytes 0x500 no_id (little_bytes 3 0xad724793) ∷ [])) ≡ false }
-    ensures no_checksum { has_commit (metadata_block_bytes 64 1 (log_entry_of_type_id_and_bytes create_tag_type 0 []
-        ∷ log_entry_of_type_id_and_bytes 0x502 no_id (little_bytes 4 0x0b5b94d0) ∷ [])) ≡ false }
-    ensures not_its_tag { has_commit (metadata_block_bytes 64 1 (log_entry_of_type_id_and_bytes create_tag_type 0 [] ∷ checksum_entry 0x0ffefba6 0 ∷ [])) ≡ false }
+    ensures too_short { has_commit (metadata_bytes 64 1 (log_entry_of create_tag_type 0 []
+        ∷ log_entry_of 0x500 no_id (little_bytes 3 0xad724793) ∷ [])) ≡ false }
+    ensures no_checksum { has_commit (metadata_bytes 64 1 (log_entry_of create_tag_type 0 []
+        ∷ log_entry_of 0x502 no_id (little_bytes 4 0x0b5b94d0) ∷ [])) ≡ false }
+    ensures not_its_tag { has_commit (metadata_bytes 64 1 (log_entry_of create_tag_type 0 [] ∷ checksum_entry 0x0ffefba6 0 ∷ [])) ≡ false }
 
     // Its padding exceeds the end of the block; there is none at all.
-    ensures past_the_end { has_commit (take 64 (metadata_block_bytes 64 1 (log_entry_of_type_id_and_bytes create_tag_type 0 [] ∷ checksum_entry 0x7ea4b368 96 ∷ [])))
+    ensures past_the_end { has_commit (take 64 (metadata_bytes 64 1 (log_entry_of create_tag_type 0 [] ∷ checksum_entry 0x7ea4b368 96 ∷ [])))
         ≡ false }
-    ensures within { has_commit (metadata_block_bytes 64 1 (log_entry_of_type_id_and_bytes create_tag_type 0 [] ∷ checksum_entry 0x7ea4b368 96 ∷ [])) ≡ true }
-    ensures absent { has_commit (unwritten_storage_bytes 64) ≡ false }
+    ensures within { has_commit (metadata_bytes 64 1 (log_entry_of create_tag_type 0 [] ∷ checksum_entry 0x7ea4b368 96 ∷ [])) ≡ true }
+    ensures absent { has_commit (unwritten_bytes 64) ≡ false }
 {}
 
 /// Of two blocks with a commit the later one holds, by the sign of the difference of their revisions.
 pub fn later_block_is_current()
-    ensures later { is_later_revision 1 2 ≡ true }
-    ensures earlier { is_later_revision 2 1 ≡ false }
-    ensures wrapped { is_later_revision 0xffffffff 0 ≡ true }
-    ensures before_wrapping { is_later_revision 0 0xffffffff ≡ false }
-    ensures farthest { is_later_revision 0 0x7fffffff ≡ true }
+    ensures later { is_later 1 2 ≡ true }
+    ensures earlier { is_later 2 1 ≡ false }
+    ensures wrapped { is_later 0xffffffff 0 ≡ true }
+    ensures before_wrapping { is_later 0 0xffffffff ≡ false }
+    ensures farthest { is_later 0 0x7fffffff ≡ true }
 
     // Neither is later than the other: the block named first holds.
-    ensures equal { is_later_revision 5 5 ≡ false }
-    ensures half { is_later_revision 0 0x80000000 ≡ false }
-    ensures half_back { is_later_revision 0x80000000 0 ≡ false }
+    ensures equal { is_later 5 5 ≡ false }
+    ensures half { is_later 0 0x80000000 ≡ false }
+    ensures half_back { is_later 0x80000000 0 ≡ false }
 
-    ensures second { (a b : List ℕ) → has_commit a ≡ true → has_commit b ≡ true → is_later_revision (revision_of_block a) (revision_of_block b) ≡ true
-        → current_block_of_two a b ≡ Some b }
-    ensures first { (a b : List ℕ) → has_commit a ≡ true → has_commit b ≡ true → is_later_revision (revision_of_block a) (revision_of_block b)
-        ≡ false → current_block_of_two a b ≡ Some a }
-    ensures only_second { (a b : List ℕ) → has_commit a ≡ false → has_commit b ≡ true → current_block_of_two a b ≡ Some b }
-    ensures only_first { (a b : List ℕ) → has_commit a ≡ true → has_commit b ≡ false → current_block_of_two a b ≡ Some a }
-    ensures neither { (a b : List ℕ) → has_commit a ≡ false → has_commit b ≡ false → current_block_of_two a b ≡ None }
+    ensures second { (a b : List ℕ) → has_commit a ≡ true → has_commit b ≡ true → is_later (block_revision a) (block_revision b) ≡ true
+        → current_of_two a b ≡ Some b }
+    ensures first { (a b : List ℕ) → has_commit a ≡ true → has_commit b ≡ true → is_later (block_revision a) (block_revision b)
+        ≡ false → current_of_two a b ≡ Some a }
+    ensures only_second { (a b : List ℕ) → has_commit a ≡ false → has_commit b ≡ true → current_of_two a b ≡ Some b }
+    ensures only_first { (a b : List ℕ) → has_commit a ≡ true → has_commit b ≡ false → current_of_two a b ≡ Some a }
+    ensures neither { (a b : List ℕ) → has_commit a ≡ false → has_commit b ≡ false → current_of_two a b ≡ None }
 {}

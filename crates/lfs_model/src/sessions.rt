@@ -1,22 +1,22 @@
 // What sessions on a fresh disk reply.
 
 ghost use Rattle.std.specs.Prelude.{◌≡◌, true, [], ◌∷◌, ◌++◌, Some, None, replicate, codes};
-ghost use Rattle.lfs_model.specs.Disk.{default_profile};
-ghost use Rattle.lfs_model.specs.Operations as ops;
-ghost use Rattle.lfs_model.specs.Operations.{NoEnt, BadFile, Busy, Exist, NotDir, IsDir, Invalid, TooBig, NoSpace, NameTooLong, NotEmpty, NoAttr, EntryFull, Failed};
-ghost use Rattle.lfs_model.specs.State.{SessionHealth, HasFailed, Healthy, session_after_mount, reply_and_session_health_after_operation};
-ghost use Rattle.lfs_model.specs.Fresh.{empty_tree};
-ghost use Rattle.lfs_model.specs.examples.Sessions.{writable_disk_summary, replies_from_fresh_disk, replies_to_operations, operations_each_paired_with_used_block_count, no_flags, read_flags, write_flags, flags_to_open_new_file};
+ghost use Rattle.lfs_model.specs.format.Disk.{default_profile};
+ghost use Rattle.lfs_model.specs.session.Operations as ops;
+ghost use Rattle.lfs_model.specs.session.Operations.{NoEnt, BadFile, Busy, Exist, NotDir, IsDir, Invalid, TooBig, NoSpace, NameTooLong, NotEmpty, NoAttr, EntryFull, Failed};
+ghost use Rattle.lfs_model.specs.session.State.{SessionHealth, HasFailed, Healthy, mounted_session, result_and_health};
+ghost use Rattle.lfs_model.specs.tree.Fresh.{empty_tree};
+ghost use Rattle.lfs_model.specs.examples.Sessions.{writable_summary, fresh_replies, all_replies, with_used_count, no_flags, read_flags, write_flags, creating_flags};
 
 /// Paths that are refused, and names of the greatest length.
 pub fn paths_are_checked()
-    ensures forms { replies_from_fresh_disk 4096 256 16 (operations_each_paired_with_used_block_count 2
+    ensures forms { fresh_replies 4096 256 16 (with_used_count 2
         (ops.Stat [] ∷ ops.Stat (codes "a") ∷ ops.Stat (codes "/a/") ∷ ops.Stat (codes "//a") ∷ ops.Stat (codes "/.") ∷ ops.Stat (codes "/a/../b")
         ∷ ops.Stat (47 ∷ 0 ∷ []) ∷ ops.Stat (codes "/") ∷ ops.Stat (codes "/a") ∷ ops.Stat (codes "/a/b") ∷ []))
         ≡ ops.Refused Invalid ∷ ops.Refused Invalid ∷ ops.Refused Invalid ∷ ops.Refused Invalid
         ∷ ops.Refused Invalid ∷ ops.Refused Invalid
         ∷ ops.Refused Invalid ∷ ops.StatIs None ∷ ops.Refused NoEnt ∷ ops.Refused NoEnt ∷ [] }
-    ensures lengths { replies_from_fresh_disk 4096 256 16 (operations_each_paired_with_used_block_count 2
+    ensures lengths { fresh_replies 4096 256 16 (with_used_count 2
         (ops.Mkdir (47 ∷ replicate 255 97) ∷ ops.Mkdir (47 ∷ replicate 256 97) ∷ ops.Mkdir (codes "/")
         ∷ ops.Mkdir (codes "/x/y") ∷ ops.Mkdir (codes "/littlefs") ∷ []))
         ≡ ops.Done ∷ ops.Refused NameTooLong ∷ ops.Refused Exist ∷ ops.Refused NoEnt ∷ ops.Done ∷ [] }
@@ -24,8 +24,8 @@ pub fn paths_are_checked()
 
 /// Which flags an open takes, and what they do.
 pub fn flags_are_checked()
-    ensures refused { replies_from_fresh_disk 4096 256 16 (operations_each_paired_with_used_block_count 2
-        (ops.Open (codes "/a") no_flags ∷ ops.Open (codes "/a") (record flags_to_open_new_file { read = true })
+    ensures refused { fresh_replies 4096 256 16 (with_used_count 2
+        (ops.Open (codes "/a") no_flags ∷ ops.Open (codes "/a") (record creating_flags { read = true })
         ∷ ops.Open (codes "/a") (record read_flags { create = true })
         ∷ ops.Open (codes "/a") (record write_flags { exclusive = true })
         ∷ ops.Open (codes "/a") (record read_flags { unknown = true }) ∷ ops.Open (codes "/a") write_flags ∷ []))
@@ -33,9 +33,9 @@ pub fn flags_are_checked()
         ∷ ops.Refused Invalid ∷ ops.Refused NoEnt ∷ [] }
 
     // Truncate empties a file at the next sync, and append writes at its end.
-    ensures used { replies_from_fresh_disk 4096 256 16 (operations_each_paired_with_used_block_count 2
-        (ops.Open (codes "/a") flags_to_open_new_file ∷ ops.Write 0 (codes "hello") ∷ ops.Close 0
-        ∷ ops.Open (codes "/a") (record flags_to_open_new_file { exclusive = true })
+    ensures used { fresh_replies 4096 256 16 (with_used_count 2
+        (ops.Open (codes "/a") creating_flags ∷ ops.Write 0 (codes "hello") ∷ ops.Close 0
+        ∷ ops.Open (codes "/a") (record creating_flags { exclusive = true })
         ∷ ops.Open (codes "/a") (record write_flags { append = true }) ∷ ops.Write 0 (codes "!") ∷ ops.Close 0
         ∷ ops.Open (codes "/a") read_flags ∷ ops.Read 0 9 ∷ ops.Close 0
         ∷ ops.Open (codes "/a") (record write_flags { truncate = true }) ∷ ops.Stat (codes "/a") ∷ ops.Close 0
@@ -48,8 +48,8 @@ pub fn flags_are_checked()
 
 /// Positions, gaps and the greatest size of a file.
 pub fn file_positions_are_kept()
-    ensures { replies_from_fresh_disk 1024 128 64 (operations_each_paired_with_used_block_count 2
-        (ops.Open (codes "/a") flags_to_open_new_file ∷ ops.Seek 0 2147483647 ∷ ops.Write 0 (0 ∷ []) ∷ ops.Write 0 []
+    ensures { fresh_replies 1024 128 64 (with_used_count 2
+        (ops.Open (codes "/a") creating_flags ∷ ops.Seek 0 2147483647 ∷ ops.Write 0 (0 ∷ []) ∷ ops.Write 0 []
         ∷ ops.Seek 0 2147483648 ∷ ops.Truncate 0 2147483648
         ∷ ops.Seek 0 3 ∷ ops.Write 0 (codes "x") ∷ ops.Stat (codes "/a") ∷ ops.Sync 0 ∷ ops.Stat (codes "/a")
         ∷ ops.Sync 0 ∷ ops.Close 0
@@ -61,11 +61,11 @@ pub fn file_positions_are_kept()
 
 /// One writer and 16 readers, and what can't be done to an open file.
 pub fn open_files_are_busy()
-    ensures { replies_from_fresh_disk 4096 256 16 (operations_each_paired_with_used_block_count 2
-        (ops.Open (codes "/a") flags_to_open_new_file ∷ ops.Open (codes "/b") flags_to_open_new_file ∷ ops.Open (codes "/a") read_flags
+    ensures { fresh_replies 4096 256 16 (with_used_count 2
+        (ops.Open (codes "/a") creating_flags ∷ ops.Open (codes "/b") creating_flags ∷ ops.Open (codes "/a") read_flags
         ∷ ops.Remove (codes "/a") ∷ ops.Close 0
         ∷ replicate 17 (ops.Open (codes "/a") read_flags)
-        ++ ops.Open (codes "/a") write_flags ∷ ops.Open (codes "/b") flags_to_open_new_file ∷ ops.Read 16 1 ∷ ops.Write 0 []
+        ++ ops.Open (codes "/a") write_flags ∷ ops.Open (codes "/b") creating_flags ∷ ops.Read 16 1 ∷ ops.Write 0 []
         ∷ ops.Read 17 1
         ∷ ops.Rename (codes "/a") (codes "/c") ∷ ops.Rename (codes "/b") (codes "/a") ∷ ops.Close 3 ∷ ops.Read 3 1
         ∷ ops.Open (codes "/a") read_flags ∷ []))
@@ -80,31 +80,31 @@ pub fn open_files_are_busy()
 
 /// What a rename replaces, and what it moves.
 pub fn rename_moves_subtree()
-    ensures onto_itself { replies_from_fresh_disk 4096 256 16 (operations_each_paired_with_used_block_count 2
+    ensures onto_itself { fresh_replies 4096 256 16 (with_used_count 2
         (ops.Rename (codes "/a") (codes "/a/b/c") ∷ ops.Rename (codes "/") (codes "/a")
-        ∷ ops.Rename (codes "/a") (codes "/b") ∷ ops.Open (codes "/a") flags_to_open_new_file ∷ ops.Remove (codes "/a")
+        ∷ ops.Rename (codes "/a") (codes "/b") ∷ ops.Open (codes "/a") creating_flags ∷ ops.Remove (codes "/a")
         ∷ ops.Close 0
         ∷ ops.Rename (codes "/a") (codes "/a") ∷ ops.Rename (codes "/a") (codes "/a/b/c") ∷ []))
         ≡ ops.Refused Invalid ∷ ops.Refused Invalid ∷ ops.Refused NoEnt ∷ ops.Opened 0 ∷ ops.Refused Busy ∷ ops.Done
         ∷ ops.Done ∷ ops.Refused Invalid ∷ [] }
 
     // A file leaves its directory, which can then be removed.
-    ensures across { replies_from_fresh_disk 4096 256 16
-        ((2, ops.Mkdir (codes "/s")) ∷ operations_each_paired_with_used_block_count 4 (ops.Open (codes "/s/f") flags_to_open_new_file ∷ ops.Close 0
+    ensures across { fresh_replies 4096 256 16
+        ((2, ops.Mkdir (codes "/s")) ∷ with_used_count 4 (ops.Open (codes "/s/f") creating_flags ∷ ops.Close 0
         ∷ ops.Remove (codes "/s") ∷ ops.Rename (codes "/s/f") (codes "/g") ∷ ops.Remove (codes "/s") ∷ [])
         ++ (2, ops.ListAll (codes "/")) ∷ [])
         ≡ ops.Done ∷ ops.Opened 0 ∷ ops.Done ∷ ops.Refused NotEmpty ∷ ops.Done ∷ ops.Done
         ∷ ops.Items (record { name = codes "g"; size = Some 0 } ∷ []) ∷ [] }
 
     // A directory moves with the entries beneath it, and replaces an empty one.
-    ensures directories { replies_from_fresh_disk 4096 256 64
-        ((2, ops.Mkdir (codes "/a")) ∷ (4, ops.Mkdir (codes "/a/b")) ∷ (6, ops.Mkdir (codes "/c")) ∷ operations_each_paired_with_used_block_count 8
-        (ops.Open (codes "/a/b/f") flags_to_open_new_file ∷ ops.Write 0 (codes "hello") ∷ ops.Rename (codes "/a") (codes "/c")
+    ensures directories { fresh_replies 4096 256 64
+        ((2, ops.Mkdir (codes "/a")) ∷ (4, ops.Mkdir (codes "/a/b")) ∷ (6, ops.Mkdir (codes "/c")) ∷ with_used_count 8
+        (ops.Open (codes "/a/b/f") creating_flags ∷ ops.Write 0 (codes "hello") ∷ ops.Rename (codes "/a") (codes "/c")
         ∷ ops.Close 0 ∷ ops.SetAttr (codes "/a") 0x41 (codes "x")
         ∷ ops.Rename (codes "/c") (codes "/a") ∷ ops.Rename (codes "/a") (codes "/c") ∷ ops.Stat (codes "/a")
         ∷ ops.Stat (codes "/c/b/f") ∷ ops.GetAttr (codes "/c") 0x41
         ∷ ops.Rename (codes "/c/b/f") (codes "/c/b") ∷ ops.Rename (codes "/c/b/f") (codes "/c")
-        ∷ ops.Open (codes "/g") flags_to_open_new_file ∷ ops.Close 0 ∷ ops.Rename (codes "/c") (codes "/g")
+        ∷ ops.Open (codes "/g") creating_flags ∷ ops.Close 0 ∷ ops.Rename (codes "/c") (codes "/g")
         ∷ ops.Stat (codes "/g/x")
         ∷ ops.Rename (codes "/c/b/f") (codes "/g") ∷ ops.Stat (codes "/g") ∷ ops.ListAll (codes "/c")
         ∷ ops.ListAll (codes "/c/b") ∷ ops.ListAll (codes "/g") ∷ []))
@@ -118,33 +118,33 @@ pub fn rename_moves_subtree()
 
 /// What space an operation needs, and what a writer holds.
 pub fn space_for_blocks_is_checked()
-    ensures two_blocks { replies_from_fresh_disk 1024 128 2 ((2, ops.Open (codes "/a") flags_to_open_new_file) ∷ []) ≡ ops.Refused NoSpace ∷ [] }
-    ensures four_blocks { replies_from_fresh_disk 1024 128 4 (operations_each_paired_with_used_block_count 2
-        (ops.Mkdir (codes "/d") ∷ ops.Open (codes "/a") flags_to_open_new_file ∷ ops.Write 0 (1 ∷ []) ∷ ops.Mkdir (codes "/d")
+    ensures two_blocks { fresh_replies 1024 128 2 ((2, ops.Open (codes "/a") creating_flags) ∷ []) ≡ ops.Refused NoSpace ∷ [] }
+    ensures four_blocks { fresh_replies 1024 128 4 (with_used_count 2
+        (ops.Mkdir (codes "/d") ∷ ops.Open (codes "/a") creating_flags ∷ ops.Write 0 (1 ∷ []) ∷ ops.Mkdir (codes "/d")
         ∷ ops.Close 0 ∷ ops.UsedCount ∷ []))
         ≡ ops.Refused NoSpace ∷ ops.Opened 0 ∷ ops.Count 1 ∷ ops.Refused NoSpace ∷ ops.Done ∷ ops.Count 2 ∷ [] }
 
     // 5,000 bytes take five blocks. A write elsewhere makes the writer nonsequential, and it then holds them twice.
-    ensures not_turned { replies_from_fresh_disk 1024 128 13
-        (operations_each_paired_with_used_block_count 2 (ops.Open (codes "/a") flags_to_open_new_file ∷ ops.Write 0 (replicate 5000 7) ∷ ops.Seek 0 10
+    ensures not_turned { fresh_replies 1024 128 13
+        (with_used_count 2 (ops.Open (codes "/a") creating_flags ∷ ops.Write 0 (replicate 5000 7) ∷ ops.Seek 0 10
         ∷ ops.Write 0 (1 ∷ []) ∷ ops.Close 0 ∷ []) ++ (7, ops.Stat (codes "/a")) ∷ [])
         ≡ ops.Opened 0 ∷ ops.Count 5000 ∷ ops.Done ∷ ops.Refused NoSpace ∷ ops.Done ∷ ops.StatIs (Some 5000) ∷ [] }
-    ensures turned { replies_from_fresh_disk 1024 128 14
-        (operations_each_paired_with_used_block_count 2 (ops.Open (codes "/a") flags_to_open_new_file ∷ ops.Write 0 (replicate 5000 7) ∷ ops.Seek 0 10
+    ensures turned { fresh_replies 1024 128 14
+        (with_used_count 2 (ops.Open (codes "/a") creating_flags ∷ ops.Write 0 (replicate 5000 7) ∷ ops.Seek 0 10
         ∷ ops.Write 0 (1 ∷ []) ∷ ops.Seek 0 20 ∷ ops.Write 0 (1 ∷ []) ∷ ops.Close 0 ∷ [])
         ++ (7, ops.Stat (codes "/a")) ∷ [])
         ≡ ops.Opened 0 ∷ ops.Count 5000 ∷ ops.Done ∷ ops.Count 1 ∷ ops.Done ∷ ops.Count 1 ∷ ops.Done
         ∷ ops.StatIs (Some 5000) ∷ [] }
-    ensures truncated { replies_from_fresh_disk 1024 128 13
-        (operations_each_paired_with_used_block_count 2 (ops.Open (codes "/a") flags_to_open_new_file ∷ ops.Write 0 (replicate 5000 7) ∷ ops.Truncate 0 4000
+    ensures truncated { fresh_replies 1024 128 13
+        (with_used_count 2 (ops.Open (codes "/a") creating_flags ∷ ops.Write 0 (replicate 5000 7) ∷ ops.Truncate 0 4000
         ∷ ops.Truncate 0 5000 ∷ ops.Close 0 ∷ []) ++ (6, ops.Stat (codes "/a")) ∷ [])
         ≡ ops.Opened 0 ∷ ops.Count 5000 ∷ ops.Done ∷ ops.Refused NoSpace ∷ ops.Done ∷ ops.StatIs (Some 4000) ∷ [] }
 {}
 
 /// What attributes are kept, and how many bytes fit an entry: 428 here, with 128 reserved for contents.
 pub fn attributes_are_kept_up_to_charge_limit()
-    ensures limit { replies_from_fresh_disk 1024 128 64 (operations_each_paired_with_used_block_count 2
-        (ops.Open (47 ∷ replicate 255 97) flags_to_open_new_file ∷ ops.Close 0
+    ensures limit { fresh_replies 1024 128 64 (with_used_count 2
+        (ops.Open (47 ∷ replicate 255 97) creating_flags ∷ ops.Close 0
         ∷ ops.SetAttr (47 ∷ replicate 255 97) 0x41 (replicate 33 1)
         ∷ ops.SetAttr (47 ∷ replicate 255 97) 0x41 (replicate 34 2)
         ∷ ops.GetAttr (47 ∷ replicate 255 97) 0x41 ∷ ops.RemoveAttr (47 ∷ replicate 255 97) 0x41
@@ -153,8 +153,8 @@ pub fn attributes_are_kept_up_to_charge_limit()
         ∷ ops.Bytes (replicate 33 1) ∷ ops.Done ∷ ops.Refused NoAttr ∷ ops.Refused NoAttr ∷ [] }
 
     // A missing file is reported before too many bytes, and these before a full entry.
-    ensures order { replies_from_fresh_disk 1024 128 64 (operations_each_paired_with_used_block_count 2
-        (ops.SetAttr (codes "/none") 0x41 (replicate 1023 1) ∷ ops.Open (codes "/f") flags_to_open_new_file
+    ensures order { fresh_replies 1024 128 64 (with_used_count 2
+        (ops.SetAttr (codes "/none") 0x41 (replicate 1023 1) ∷ ops.Open (codes "/f") creating_flags
         ∷ ops.SetAttr (codes "/f") 0x41 (replicate 1023 1) ∷ ops.SetAttr (codes "/f") 0x41 (replicate 1022 1)
         ∷ ops.SetAttr (codes "/") 0x41 [] ∷ []))
         ≡ ops.Refused NoEnt ∷ ops.Opened 0 ∷ ops.Refused TooBig ∷ ops.Refused EntryFull ∷ ops.Refused Invalid ∷ [] }
@@ -162,12 +162,12 @@ pub fn attributes_are_kept_up_to_charge_limit()
 
 /// A session from a directory to a file of the root.
 pub fn replies_of_a_whole_session()
-    ensures { replies_from_fresh_disk 1024 128 64
-        ((2, ops.Mkdir (codes "/d")) ∷ operations_each_paired_with_used_block_count 4 (ops.Open (codes "/d/f") flags_to_open_new_file ∷ ops.Write 0 (replicate 5000 7)
+    ensures { fresh_replies 1024 128 64
+        ((2, ops.Mkdir (codes "/d")) ∷ with_used_count 4 (ops.Open (codes "/d/f") creating_flags ∷ ops.Write 0 (replicate 5000 7)
         ∷ ops.Seek 0 10 ∷ ops.Write 0 (1 ∷ []) ∷ ops.Close 0 ∷ [])
-        ++ operations_each_paired_with_used_block_count 9 (ops.SetAttr (codes "/d/f") 0x41 (codes "x") ∷ ops.Rename (codes "/d/f") (codes "/g")
+        ++ with_used_count 9 (ops.SetAttr (codes "/d/f") 0x41 (codes "x") ∷ ops.Rename (codes "/d/f") (codes "/g")
         ∷ ops.Remove (codes "/d") ∷ [])
-        ++ operations_each_paired_with_used_block_count 7 (ops.ListAll (codes "/") ∷ ops.Open (codes "/g") read_flags ∷ ops.Read 0 5000 ∷ ops.Close 0
+        ++ with_used_count 7 (ops.ListAll (codes "/") ∷ ops.Open (codes "/g") read_flags ∷ ops.Read 0 5000 ∷ ops.Close 0
         ∷ ops.GetAttr (codes "/g") 0x41 ∷ ops.UsedCount ∷ []))
         ≡ ops.Done ∷ ops.Opened 0 ∷ ops.Count 5000 ∷ ops.Done ∷ ops.Count 1 ∷ ops.Done
         ∷ ops.Done ∷ ops.Done ∷ ops.Done
@@ -177,18 +177,18 @@ pub fn replies_of_a_whole_session()
 
 /// A failed session refuses all but a remount, which begins a session with the tree of the disk.
 pub fn failed_session_refuses_all_but_remount()
-    ensures stat { reply_and_session_health_after_operation (writable_disk_summary 4096 256 16 2) (Some empty_tree) HasFailed (ops.Stat (codes "/")) ≡ (Some (ops.Refused Failed), HasFailed) }
-    ensures remount { reply_and_session_health_after_operation (writable_disk_summary 4096 256 16 2) (Some empty_tree) HasFailed ops.Remount ≡ (Some ops.Done, Healthy (session_after_mount empty_tree)) }
-    ensures after_it { reply_and_session_health_after_operation (writable_disk_summary 4096 256 16 2) (Some empty_tree) (Healthy (session_after_mount empty_tree)) (ops.Stat (codes "/d")) ≡ (Some (ops.Refused NoEnt), Healthy (session_after_mount empty_tree)) }
-    ensures not_accepted { (state : SessionHealth) → reply_and_session_health_after_operation (writable_disk_summary 4096 256 16 2) None state ops.Remount ≡ (None, HasFailed) }
+    ensures stat { result_and_health (writable_summary 4096 256 16 2) (Some empty_tree) HasFailed (ops.Stat (codes "/")) ≡ (Some (ops.Refused Failed), HasFailed) }
+    ensures remount { result_and_health (writable_summary 4096 256 16 2) (Some empty_tree) HasFailed ops.Remount ≡ (Some ops.Done, Healthy (mounted_session empty_tree)) }
+    ensures after_it { result_and_health (writable_summary 4096 256 16 2) (Some empty_tree) (Healthy (mounted_session empty_tree)) (ops.Stat (codes "/d")) ≡ (Some (ops.Refused NoEnt), Healthy (mounted_session empty_tree)) }
+    ensures not_accepted { (state : SessionHealth) → result_and_health (writable_summary 4096 256 16 2) None state ops.Remount ≡ (None, HasFailed) }
 {}
 
 /// A profile lowers the limits of names, files and attributes, and what is inline.
 pub fn limits_are_of_profile()
-    ensures { replies_to_operations (λ used. record (writable_disk_summary 4096 256 16 used) { profile = record default_profile { name_max = 3; file_max = 5; attr_max = 2 } }) (session_after_mount empty_tree)
-        (operations_each_paired_with_used_block_count 2
-        (ops.Mkdir (codes "/abc") ∷ ops.Mkdir (codes "/abcd") ∷ ops.Open (codes "/abcd") flags_to_open_new_file ∷ ops.Rename (codes "/abc") (codes "/abcd")
-        ∷ ops.Open (codes "/f") flags_to_open_new_file ∷ ops.Write 0 (codes "hello") ∷ ops.Write 0 (codes "!") ∷ ops.Truncate 0 6 ∷ ops.Seek 0 5 ∷ ops.Seek 0 6
+    ensures { all_replies (λ used. record (writable_summary 4096 256 16 used) { profile = record default_profile { name_max = 3; file_max = 5; attr_max = 2 } }) (mounted_session empty_tree)
+        (with_used_count 2
+        (ops.Mkdir (codes "/abc") ∷ ops.Mkdir (codes "/abcd") ∷ ops.Open (codes "/abcd") creating_flags ∷ ops.Rename (codes "/abc") (codes "/abcd")
+        ∷ ops.Open (codes "/f") creating_flags ∷ ops.Write 0 (codes "hello") ∷ ops.Write 0 (codes "!") ∷ ops.Truncate 0 6 ∷ ops.Seek 0 5 ∷ ops.Seek 0 6
         ∷ ops.SetAttr (codes "/abc") 0x41 (codes "xy") ∷ ops.SetAttr (codes "/abc") 0x41 (codes "xyz") ∷ []))
         ≡ ops.Done ∷ ops.Refused NameTooLong ∷ ops.Refused NameTooLong ∷ ops.Refused NameTooLong
         ∷ ops.Opened 0 ∷ ops.Count 5 ∷ ops.Refused TooBig ∷ ops.Refused TooBig ∷ ops.Done ∷ ops.Refused Invalid

@@ -1,11 +1,11 @@
 // Which rule of littlefs an image breaks.
 
 ghost use Rattle.std.specs.Prelude.{List};
-ghost use Rattle.lfs_model.specs.Content.{content_of_pair_at};
-ghost use Rattle.lfs_model.specs.Disk.{Disk, block_count};
-ghost use Rattle.lfs_model.specs.Thread.{Pair, IsThreadOfMetadataPairs};
-ghost use Rattle.lfs_model.specs.View.{IsAcceptedImage};
-ghost use Rattle.lfs_model.specs.Violations.{Breaks, BreaksPairs, BreaksThread};
+ghost use Rattle.lfs_model.specs.format.Content.{content_at};
+ghost use Rattle.lfs_model.specs.format.Disk.{Disk, block_count};
+ghost use Rattle.lfs_model.specs.format.Thread.{Pair, IsThread};
+ghost use Rattle.lfs_model.specs.tree.View.{IsAccepted};
+ghost use Rattle.lfs_model.specs.layers.Violations.{Breaks, BreaksPairs, BreaksThread};
 
 /// A rule that an image breaks, and where (SPEC.md and DESIGN.md of littlefs). A pair is known by its
 /// address, as the thread names it, and a slot by its number in its pair.
@@ -95,7 +95,7 @@ pub enum Violation {
 
 /// Where a disk breaks a rule, its image isn't accepted. Where it breaks a rule of the thread, it has no thread.
 pub fn violation_refuses_image()
-    ensures image { (disk : Disk) (v : Violation) (ps : List Pair) → Breaks disk v → ¬ IsAcceptedImage disk ps }
-    ensures pairs { (disk : Disk) (v : Violation) (ps : List Pair) → BreaksPairs disk ps v → ¬ IsAcceptedImage disk ps }
-    ensures thread { (disk : Disk) (v : Violation) (ps : List Pair) → BreaksThread disk v → ¬ IsThreadOfMetadataPairs (content_of_pair_at disk) (block_count disk) ps }
+    ensures image { (disk : Disk) (v : Violation) (ps : List Pair) → Breaks disk v → ¬ IsAccepted disk ps }
+    ensures pairs { (disk : Disk) (v : Violation) (ps : List Pair) → BreaksPairs disk ps v → ¬ IsAccepted disk ps }
+    ensures thread { (disk : Disk) (v : Violation) (ps : List Pair) → BreaksThread disk v → ¬ IsThread (content_at disk) (block_count disk) ps }
 {}

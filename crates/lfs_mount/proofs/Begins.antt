@@ -3,38 +3,38 @@ use Rattle.std.proofs.Common.{ℕ, ◌≡◌, ◌+◌, ◌≤◌, ◌<◌, Bool,
 use Rattle.std.specs.List.{IsDistinct}
 use Rattle.std.proofs.lemmas.List.{drop_more}
 use Rattle.std.proofs.lemmas.List.Concat.{flat_map-append}
-use Rattle.lfs_model.specs.Disk.{Disk}
-use Rattle.lfs_model.specs.Thread.{blocks_of_pairs}
-use Rattle.lfs_model.proofs.Counts.{occurrence_count_of_number, count_append, once_from_distinct, distinct_from_once}
-use Rattle.lfs_pair.specs.Pair.{pair_address_in_header}
+use Rattle.lfs_model.specs.format.Disk.{Disk}
+use Rattle.lfs_model.specs.format.Thread.{blocks_of_pairs}
+use Rattle.lfs_model.proofs.Counts.{number_count, count_append, once_from_distinct, distinct_from_once}
+use Rattle.lfs_pair.specs.Pair.{header_address}
 use Rattle.lfs_thread.specs.Kept.{PairHeader, pairs_of_headers}
-use Rattle.lfs_thread.specs.Places.{blocks_of_pair_addresses}
-use Rattle.lfs_mount.specs.Members.{directory_addresses_in_headers, header_has_hard_tail}
+use Rattle.lfs_thread.specs.PairPlaces.{blocks_of_addresses}
+use Rattle.lfs_mount.specs.Members.{header_addresses, has_tail_header}
 
-front_distinct : (xs more : List (ℕ × ℕ)) → IsDistinct nat_eq (blocks_of_pair_addresses (xs ++ more)) → IsDistinct nat_eq (blocks_of_pair_addresses xs)
-front_distinct xs more distinct = distinct_from_once (blocks_of_pair_addresses xs) (λ b.
-    let o = once_from_distinct (blocks_of_pair_addresses (xs ++ more)) distinct b in
-    let e = ap (occurrence_count_of_number b) (flat_map-append (λ (at : ℕ × ℕ). at.0 ∷ at.1 ∷ []) xs more) ∙ count_append b (blocks_of_pair_addresses xs) (blocks_of_pair_addresses more) in
+front_distinct : (xs more : List (ℕ × ℕ)) → IsDistinct nat_eq (blocks_of_addresses (xs ++ more)) → IsDistinct nat_eq (blocks_of_addresses xs)
+front_distinct xs more distinct = distinct_from_once (blocks_of_addresses xs) (λ b.
+    let o = once_from_distinct (blocks_of_addresses (xs ++ more)) distinct b in
+    let e = ap (number_count b) (flat_map-append (λ (at : ℕ × ℕ). at.0 ∷ at.1 ∷ []) xs more) ∙ count_append b (blocks_of_addresses xs) (blocks_of_addresses more) in
     omega arith)
 
 -- the next one has no block in common with those before it
-pub next_apart : (xs : List (ℕ × ℕ)) (hs : List PairHeader) (k : ℕ) (h : PairHeader) → k < length hs → h ≡ get_or hs k h → xs ++ directory_addresses_in_headers true (drop k hs) ≡ directory_addresses_in_headers true hs
-    → IsDistinct nat_eq (blocks_of_pair_addresses (directory_addresses_in_headers true hs)) → IsDistinct nat_eq (blocks_of_pair_addresses (xs ++ pair_address_in_header h ∷ []))
+pub next_apart : (xs : List (ℕ × ℕ)) (hs : List PairHeader) (k : ℕ) (h : PairHeader) → k < length hs → h ≡ get_or hs k h → xs ++ header_addresses true (drop k hs) ≡ header_addresses true hs
+    → IsDistinct nat_eq (blocks_of_addresses (header_addresses true hs)) → IsDistinct nat_eq (blocks_of_addresses (xs ++ header_address h ∷ []))
 next_apart xs hs k h below is e distinct =
-    let more : List (ℕ × ℕ) = directory_addresses_in_headers (not (header_has_hard_tail h)) (drop (k + 1) hs) in
-    let parts : (xs ++ pair_address_in_header h ∷ []) ++ more ≡ directory_addresses_in_headers true hs =
-    append_assoc xs (pair_address_in_header h ∷ []) more
-    ∙ ap (λ (x : PairHeader). xs ++ pair_address_in_header x ∷ directory_addresses_in_headers (not (header_has_hard_tail x)) (drop (k + 1) hs)) is ∙ ap (λ (ys : List PairHeader). xs ++ directory_addresses_in_headers true ys) (sym (drop_more hs k h below)) ∙ e in
-    front_distinct (xs ++ pair_address_in_header h ∷ []) more (subst (λ ys. IsDistinct nat_eq (blocks_of_pair_addresses ys)) (sym parts) distinct)
+    let more : List (ℕ × ℕ) = header_addresses (not (has_tail_header h)) (drop (k + 1) hs) in
+    let parts : (xs ++ header_address h ∷ []) ++ more ≡ header_addresses true hs =
+    append_assoc xs (header_address h ∷ []) more
+    ∙ ap (λ (x : PairHeader). xs ++ header_address x ∷ header_addresses (not (has_tail_header x)) (drop (k + 1) hs)) is ∙ ap (λ (ys : List PairHeader). xs ++ header_addresses true ys) (sym (drop_more hs k h below)) ∙ e in
+    front_distinct (xs ++ header_address h ∷ []) more (subst (λ ys. IsDistinct nat_eq (blocks_of_addresses ys)) (sym parts) distinct)
 
 -- ---- from the blocks of the pairs
 
-begins_count : (disk : Disk) (b : ℕ) (begins : Bool) (hs : List PairHeader) → occurrence_count_of_number b (blocks_of_pair_addresses (directory_addresses_in_headers begins hs)) ≤ occurrence_count_of_number b (blocks_of_pairs (pairs_of_headers disk hs))
+begins_count : (disk : Disk) (b : ℕ) (begins : Bool) (hs : List PairHeader) → number_count b (blocks_of_addresses (header_addresses begins hs)) ≤ number_count b (blocks_of_pairs (pairs_of_headers disk hs))
 begins_count disk b begins [] = omega arith
-begins_count disk b true (h ∷ hs) = let n = begins_count disk b (not (header_has_hard_tail h)) hs in omega arith
-begins_count disk b false (h ∷ hs) = let n = begins_count disk b (not (header_has_hard_tail h)) hs in omega arith
+begins_count disk b true (h ∷ hs) = let n = begins_count disk b (not (has_tail_header h)) hs in omega arith
+begins_count disk b false (h ∷ hs) = let n = begins_count disk b (not (has_tail_header h)) hs in omega arith
 
 -- the directories begin in blocks of their own
-pub begins_distinct : (disk : Disk) (hs : List PairHeader) → IsDistinct nat_eq (blocks_of_pairs (pairs_of_headers disk hs)) → IsDistinct nat_eq (blocks_of_pair_addresses (directory_addresses_in_headers true hs))
+pub begins_distinct : (disk : Disk) (hs : List PairHeader) → IsDistinct nat_eq (blocks_of_pairs (pairs_of_headers disk hs)) → IsDistinct nat_eq (blocks_of_addresses (header_addresses true hs))
 begins_distinct disk hs distinct =
-    distinct_from_once (blocks_of_pair_addresses (directory_addresses_in_headers true hs)) (λ b. let o = once_from_distinct (blocks_of_pairs (pairs_of_headers disk hs)) distinct b in let n = begins_count disk b true hs in omega arith)
+    distinct_from_once (blocks_of_addresses (header_addresses true hs)) (λ b. let o = once_from_distinct (blocks_of_pairs (pairs_of_headers disk hs)) distinct b in let n = begins_count disk b true hs in omega arith)

@@ -6,19 +6,19 @@ use Rattle.std.proofs.lemmas.List.{length-map}
 use Rattle.std.proofs.lemmas.List.Elements.{All-cons}
 use Rattle.std.proofs.lemmas.Option.{same_Some, slice_get-map, slice_get_within, slice_get-get_or}
 use Rattle.lfs_model.specs.declared.order.NameOrder.{NameOrder}
-use Rattle.lfs_model.specs.Names.{Name, name_cmp}
-use Rattle.lfs_model.specs.Slots.{Slot, pair_address_of_array, same_pair}
-use Rattle.lfs_model.specs.Thread.{Pair, IsAddressOfDirectoryFirstPair, ThreadDirectory, root_directory_address_of_pairs}
-use Rattle.lfs_model.specs.Tree.{names_of_directory_at_address}
-use Rattle.lfs_model.specs.Shown.{IsDirectoryAddressReachedBySomePath, directories_in_thread, entries_by_directory_in_thread}
-use Rattle.lfs_model.specs.Violations.{IsReachedAt}
+use Rattle.lfs_model.specs.format.Names.{Name, name_cmp}
+use Rattle.lfs_model.specs.format.Slots.{Slot, array_address, same_pair}
+use Rattle.lfs_model.specs.format.Thread.{Pair, BeginsAt, ThreadDirectory, root_address}
+use Rattle.lfs_model.specs.tree.Tree.{names_at}
+use Rattle.lfs_model.specs.tree.Shown.{IsReachedBySome, all_directories, all_entries}
+use Rattle.lfs_model.specs.layers.Violations.{IsReachedAt}
 use Rattle.lfs_model.specs.declared.violations.Violation.TheVariants as violation
 use Rattle.lfs_model.proofs.Pairs.{pair_back}
-use Rattle.lfs_mount.specs.Reaching.{DirectoryGraph, DirectoryVertexWithSoundnessAndBranches, AreMarksOfReachedDirectories, IsRepeatedNumber, directories_found_after_steps}
-use Rattle.lfs_mount.specs.DirectoryView.{directory_graph_view, directory_vertex_view}
+use Rattle.lfs_mount.specs.Reaching.{DirectoryGraph, Vertex, AreReachedMarks, IsRepeatedNumber, found_after_steps}
+use Rattle.lfs_mount.specs.DirectoryView.{graph_view, vertex_view}
 use Rattle.lfs_mount.specs.declared.reachability.Directory.{Directory}
-use Rattle.lfs_mount.specs.Places.{IsDirectoryReachedByPath, branch_addresses_in_slots, directory_index_at}
-use Rattle.lfs_mount.specs.Directories.{IsGraphOfThreadDirectories, IsRuleBrokenInGraph}
+use Rattle.lfs_mount.specs.DirectoryPlaces.{IsPathReached, slot_branches, directory_index}
+use Rattle.lfs_mount.specs.Directories.{IsThreadGraph, BreaksGraphRule}
 use Rattle.lfs_mount.proofs.Finished.{led_finished}
 use Rattle.lfs_mount.proofs.Indices.{at_index, begins_index, index_begins, mapped}
 use Rattle.lfs_mount.proofs.Links.{branches-links, links_in}
@@ -28,38 +28,38 @@ use Rattle.lfs_mount.proofs.Searches.{AreSoundBefore, Goes, IsLedTwice, found_le
 -- ---- the directories of the code
 
 -- where a directory begins
-pub first_at : (addresses : List (List ℕ)) (v : ℕ) → v < length addresses → slice_get (map pair_address_of_array addresses) v ≡ Some (pair_address_of_array (get_or addresses v []))
-first_at addresses v lt = slice_get-map pair_address_of_array addresses v ∙ ap (option_map pair_address_of_array) (slice_get-get_or addresses v [] lt)
+pub first_at : (addresses : List (List ℕ)) (v : ℕ) → v < length addresses → slice_get (map array_address addresses) v ≡ Some (array_address (get_or addresses v []))
+first_at addresses v lt = slice_get-map array_address addresses v ∙ ap (option_map array_address) (slice_get-get_or addresses v [] lt)
 
-pub some_in : (by : NameOrder) (ds : List Directory) → 0 < length ds → 0 < length (directory_graph_view by ds)
-some_in by ds some = omega (arith, length-map ds (directory_vertex_view by))
+pub some_in : (by : NameOrder) (ds : List Directory) → 0 < length ds → 0 < length (graph_view by ds)
+some_in by ds some = omega (arith, length-map ds (vertex_view by))
 
 -- ---- an entry that leads to no directory
 
 data Leads (ds : List ThreadDirectory) (xs : List (ℕ × ℕ)) : Type 0 where
-  loose : (i : ℕ) (x : ℕ × ℕ) → slice_get xs i ≡ Some x → directory_index_at ds x ≡ None → Leads ds xs
-  fast : All (IsAddressOfDirectoryFirstPair ds) xs → Leads ds xs
+  loose : (i : ℕ) (x : ℕ × ℕ) → slice_get xs i ≡ Some x → directory_index ds x ≡ None → Leads ds xs
+  fast : All (BeginsAt ds) xs → Leads ds xs
 
 leads_or_not : (ds : List ThreadDirectory) (xs : List (ℕ × ℕ)) → Leads ds xs
 leads_or_not ds [] = fast (λ k d lt. absurd (omega arith))
-leads_or_not ds (x ∷ xs) = go (directory_index_at ds x) refl (leads_or_not ds xs)
+leads_or_not ds (x ∷ xs) = go (directory_index ds x) refl (leads_or_not ds xs)
   where
-    go : (o : Option ℕ) → directory_index_at ds x ≡ o → Leads ds xs → Leads ds (x ∷ xs)
+    go : (o : Option ℕ) → directory_index ds x ≡ o → Leads ds xs → Leads ds (x ∷ xs)
     go None e next = loose 0 x refl e
     go (Some i) e (loose j y f g) = loose (suc j) y f g
-    go (Some i) e (fast h) = fast (All-cons (IsAddressOfDirectoryFirstPair ds) x xs (begins_index ds x i e) h)
+    go (Some i) e (fast h) = fast (All-cons (BeginsAt ds) x xs (begins_index ds x i e) h)
 
 record IsLooseLink (ds : List ThreadDirectory) (slots : List Slot) : Type 0 where
   pub b : ℕ
   pub name : Name
   pub to : ℕ × ℕ
   pub link : slice_get (links_in slots) b ≡ Some (name, to)
-  pub loose : ¬ IsAddressOfDirectoryFirstPair ds to
+  pub loose : ¬ BeginsAt ds to
 
-loose_link : (ds : List ThreadDirectory) (slots : List Slot) → ¬ All (IsAddressOfDirectoryFirstPair ds) (branch_addresses_in_slots slots) → IsLooseLink ds slots
-loose_link ds slots h = go (leads_or_not ds (branch_addresses_in_slots slots))
+loose_link : (ds : List ThreadDirectory) (slots : List Slot) → ¬ All (BeginsAt ds) (slot_branches slots) → IsLooseLink ds slots
+loose_link ds slots h = go (leads_or_not ds (slot_branches slots))
   where
-    go : Leads ds (branch_addresses_in_slots slots) → IsLooseLink ds slots
+    go : Leads ds (slot_branches slots) → IsLooseLink ds slots
     go (fast all) = absurd (h all)
     go (loose i x here none) =
         let pair : option_map (λ l. l.1) (slice_get (links_in slots) i) ≡ Some x =
@@ -76,10 +76,10 @@ loose_link ds slots h = go (leads_or_not ds (branch_addresses_in_slots slots))
 -- ---- a directory of a thread
 
 abbrev Led : List Pair → ℕ → Type 0
-Led ps v = IsDirectoryReachedByPath (directories_in_thread ps) (root_directory_address_of_pairs ps) v
+Led ps v = IsPathReached (all_directories ps) (root_address ps) v
 
 abbrev NamesRise : NameOrder → List Pair → ℕ × ℕ → Type 0
-NamesRise by ps at = AllPairs (λ a b. name_cmp by a b ≡ Less) (names_of_directory_at_address (entries_by_directory_in_thread ps) at)
+NamesRise by ps at = AllPairs (λ a b. name_cmp by a b ≡ Less) (names_at (all_entries ps) at)
 
 -- a directory that is led to, and its names don't rise
 record IsLedFalling (by : NameOrder) (ps : List Pair) (v : ℕ) : Type 0 where
@@ -91,113 +91,113 @@ record IsLedLoose (ps : List Pair) (v : ℕ) : Type 0 where
   pub led : Led ps v
   pub name : Name
   pub to : ℕ × ℕ
-  pub leads : Goes (directories_in_thread ps) (root_directory_address_of_pairs ps) (led.path ++ name ∷ []) to
-  pub loose : ¬ IsAddressOfDirectoryFirstPair (directories_in_thread ps) to
+  pub leads : Goes (all_directories ps) (root_address ps) (led.path ++ name ∷ []) to
+  pub loose : ¬ BeginsAt (all_directories ps) to
 
 module _ {by : NameOrder} (graph : DirectoryGraph) (firsts : List (ℕ × ℕ)) (sync : Bool) (some : 0 < length graph) where
-  module _ (ps : List Pair) (shows : IsGraphOfThreadDirectories by graph firsts sync ps) where
-    begins_at : (v : ℕ) (d : ThreadDirectory) (at : ℕ × ℕ) → slice_get (directories_in_thread ps) v ≡ Some d → slice_get firsts v ≡ Some at → d.at ≡ at
+  module _ (ps : List Pair) (shows : IsThreadGraph by graph firsts sync ps) where
+    begins_at : (v : ℕ) (d : ThreadDirectory) (at : ℕ × ℕ) → slice_get (all_directories ps) v ≡ Some d → slice_get firsts v ≡ Some at → d.at ≡ at
     begins_at v d at e there =
         same_Some d.at at
-        (sym (ap (option_map (λ (c : ThreadDirectory). c.at)) e) ∙ sym (slice_get-map (λ (c : ThreadDirectory). c.at) (directories_in_thread ps) v) ∙ ap (λ xs. slice_get xs v) (sym shows.places) ∙ there)
+        (sym (ap (option_map (λ (c : ThreadDirectory). c.at)) e) ∙ sym (slice_get-map (λ (c : ThreadDirectory). c.at) (all_directories ps) v) ∙ ap (λ xs. slice_get xs v) (sym shows.places) ∙ there)
 
     reached_at : (v : ℕ) (at : ℕ × ℕ) → slice_get firsts v ≡ Some at → (l : Led ps v) → IsReachedAt ps at l.path l.at
     reached_at v at there l =
-        let a = at_index (directories_in_thread ps) l.at v l.index in
+        let a = at_index (all_directories ps) l.at v l.index in
         record { leads = l.leads; same = pair_back at l.at (ap (λ (x : ℕ × ℕ). same_pair x l.at) (sym (begins_at v a.listing at a.here there)) ∙ a.same) }
 
-    led_at : (k v : ℕ) → AreSoundBefore graph k → slice_get (directories_found_after_steps graph k) k ≡ Some v → Led ps v
-    led_at k v sound here = found_led (directories_in_thread ps) (root_directory_address_of_pairs ps) graph shows.draws (first ps graph firsts sync shows some) k sound k v here
+    led_at : (k v : ℕ) → AreSoundBefore graph k → slice_get (found_after_steps graph k) k ≡ Some v → Led ps v
+    led_at k v sound here = found_led (all_directories ps) (root_address ps) graph shows.draws (first ps graph firsts sync shows some) k sound k v here
 
-    falling : (k v : ℕ) (x : DirectoryVertexWithSoundnessAndBranches) → AreSoundBefore graph k → slice_get (directories_found_after_steps graph k) k ≡ Some v → slice_get graph v ≡ Some x → x.rises ≡ false → IsLedFalling by ps v
+    falling : (k v : ℕ) (x : Vertex) → AreSoundBefore graph k → slice_get (found_after_steps graph k) k ≡ Some v → slice_get graph v ≡ Some x → x.rises ≡ false → IsLedFalling by ps v
     falling k v x sound here vertex unrisen =
         let l = led_at k v sound here in
-        let n = known_at (directories_in_thread ps) graph shows.draws l.at v l.index in
-        let same : n.vertex.rises ≡ false = ap (λ (y : DirectoryVertexWithSoundnessAndBranches). y.rises) (same_Some n.vertex x (sym n.known ∙ vertex)) ∙ unrisen in
+        let n = known_at (all_directories ps) graph shows.draws l.at v l.index in
+        let same : n.vertex.rises ≡ false = ap (λ (y : Vertex). y.rises) (same_Some n.vertex x (sym n.known ∙ vertex)) ∙ unrisen in
         record {
           led = l;
           falls = λ rise. true≢false (sym (n.drawn.rises.1 (subst (λ (slots : List Slot). AllPairs (λ a b. name_cmp by a b ≡ Less) (map (λ s. s.name) slots)) n.entries rise)) ∙ same);
         }
 
-    leading : (k v : ℕ) (x : DirectoryVertexWithSoundnessAndBranches) → AreSoundBefore graph k → slice_get (directories_found_after_steps graph k) k ≡ Some v → slice_get graph v ≡ Some x → x.rises ≡ true → x.leads ≡ false → IsLedLoose ps v
+    leading : (k v : ℕ) (x : Vertex) → AreSoundBefore graph k → slice_get (found_after_steps graph k) k ≡ Some v → slice_get graph v ≡ Some x → x.rises ≡ true → x.leads ≡ false → IsLedLoose ps v
     leading k v x sound here vertex risen unled =
         let l = led_at k v sound here in
-        let n = known_at (directories_in_thread ps) graph shows.draws l.at v l.index in
+        let n = known_at (all_directories ps) graph shows.draws l.at v l.index in
         let same : n.vertex ≡ x = same_Some n.vertex x (sym n.known ∙ vertex) in
-        let rise = n.drawn.rises.0 (ap (λ (y : DirectoryVertexWithSoundnessAndBranches). y.rises) same ∙ risen) in
-        let link = loose_link (directories_in_thread ps) n.listing.slots (λ all. true≢false (sym (n.drawn.leads.1 all) ∙ ap (λ (y : DirectoryVertexWithSoundnessAndBranches). y.leads) same ∙ unled)) in
+        let rise = n.drawn.rises.0 (ap (λ (y : Vertex). y.rises) same ∙ risen) in
+        let link = loose_link (all_directories ps) n.listing.slots (λ all. true≢false (sym (n.drawn.leads.1 all) ∙ ap (λ (y : Vertex). y.leads) same ∙ unled)) in
         record {
           led = l;
           name = link.name;
           to = link.to;
-          leads = goes_on by (directories_in_thread ps) (root_directory_address_of_pairs ps) l.path l.at l.leads n.listing.slots n.entries rise link.b link.name link.to link.link;
+          leads = goes_on by (all_directories ps) (root_address ps) l.path l.at l.leads n.listing.slots n.entries rise link.b link.name link.to link.link;
           loose = link.loose;
         }
 
-    twice : (k x : ℕ) → AreSoundBefore graph (k + 1) → IsDistinct nat_eq (directories_found_after_steps graph k) → IsRepeatedNumber (directories_found_after_steps graph (k + 1)) x → IsLedTwice (directories_in_thread ps) (root_directory_address_of_pairs ps) x
+    twice : (k x : ℕ) → AreSoundBefore graph (k + 1) → IsDistinct nat_eq (found_after_steps graph k) → IsRepeatedNumber (found_after_steps graph (k + 1)) x → IsLedTwice (all_directories ps) (root_address ps) x
     twice k x sound distinct repeated =
-        found_twice_led (directories_in_thread ps) (root_directory_address_of_pairs ps) graph shows.draws (first ps graph firsts sync shows some) k (subst (AreSoundBefore graph) (add-one k) sound) distinct x
-        (subst (λ n. IsRepeatedNumber (directories_found_after_steps graph n) x) (add-one k) repeated)
+        found_twice_led (all_directories ps) (root_address ps) graph shows.draws (first ps graph firsts sync shows some) k (subst (AreSoundBefore graph) (add-one k) sound) distinct x
+        (subst (λ n. IsRepeatedNumber (found_after_steps graph n) x) (add-one k) repeated)
 
-    never : (marks : List Bool) → AreMarksOfReachedDirectories graph marks → (v : ℕ) (d : ThreadDirectory) → slice_get (directories_in_thread ps) v ≡ Some d → slice_get marks v ≡ Some false → ¬ IsDirectoryAddressReachedBySomePath ps d.at
+    never : (marks : List Bool) → AreReachedMarks graph marks → (v : ℕ) (d : ThreadDirectory) → slice_get (all_directories ps) v ≡ Some d → slice_get marks v ≡ Some false → ¬ IsReachedBySome ps d.at
     never marks r v d here unmarked reached =
         let l = led_from_reached ps v d shows.distinct here reached in
-        let i = led_finished (directories_in_thread ps) (root_directory_address_of_pairs ps) graph shows.draws (first ps graph firsts sync shows some) r.steps r.finished v l in
+        let i = led_finished (all_directories ps) (root_address ps) graph shows.draws (first ps graph firsts sync shows some) r.steps r.finished v l in
         absurd (let clash : Some false ≡ Some true = sym unmarked ∙ r.marked.all i.0 v i.1 in cc)
 
-    directory_at : (marks : List Bool) → AreMarksOfReachedDirectories graph marks → (v : ℕ) → slice_get marks v ≡ Some false → (d : ThreadDirectory) × (slice_get (directories_in_thread ps) v ≡ Some d)
+    directory_at : (marks : List Bool) → AreReachedMarks graph marks → (v : ℕ) → slice_get marks v ≡ Some false → (d : ThreadDirectory) × (slice_get (all_directories ps) v ≡ Some d)
     directory_at marks r v unmarked =
         let none : ThreadDirectory = record { at = (0, 0); slots = [] } in
         let same = shows.draws.len in
         let len = r.len in
-        (get_or (directories_in_thread ps) v none, slice_get-get_or (directories_in_thread ps) v none (omega (arith, slice_get_within marks v false unmarked)))
+        (get_or (all_directories ps) v none, slice_get-get_or (all_directories ps) v none (omega (arith, slice_get_within marks v false unmarked)))
 
   -- ---- the rules
 
-  pub names_broken : (k v : ℕ) (x : DirectoryVertexWithSoundnessAndBranches) (pair : List ℕ) → AreSoundBefore graph k → slice_get (directories_found_after_steps graph k) k ≡ Some v → slice_get graph v ≡ Some x → x.rises ≡ false
-      → slice_get firsts v ≡ Some (pair_address_of_array pair) → IsRuleBrokenInGraph by graph firsts sync (violation.Names pair)
+  pub names_broken : (k v : ℕ) (x : Vertex) (pair : List ℕ) → AreSoundBefore graph k → slice_get (found_after_steps graph k) k ≡ Some v → slice_get graph v ≡ Some x → x.rises ≡ false
+      → slice_get firsts v ≡ Some (array_address pair) → BreaksGraphRule by graph firsts sync (violation.Names pair)
   names_broken k v x pair sound here vertex unrisen there = record {
     broken = λ disk ps order shows.
         let f = falling ps shows k v x sound here vertex unrisen in
-        record { path = f.led.path; to = f.led.at; reached = reached_at ps shows v (pair_address_of_array pair) there f.led; falls = subst (λ (o : NameOrder). ¬ NamesRise o ps f.led.at) (sym order) f.falls };
+        record { path = f.led.path; to = f.led.at; reached = reached_at ps shows v (array_address pair) there f.led; falls = subst (λ (o : NameOrder). ¬ NamesRise o ps f.led.at) (sym order) f.falls };
   }
 
-  pub branch_broken : (k v : ℕ) (x : DirectoryVertexWithSoundnessAndBranches) (pair : List ℕ) → AreSoundBefore graph k → slice_get (directories_found_after_steps graph k) k ≡ Some v → slice_get graph v ≡ Some x → x.rises ≡ true → x.leads ≡ false
-      → slice_get firsts v ≡ Some (pair_address_of_array pair) → IsRuleBrokenInGraph by graph firsts sync (violation.Branch pair)
+  pub branch_broken : (k v : ℕ) (x : Vertex) (pair : List ℕ) → AreSoundBefore graph k → slice_get (found_after_steps graph k) k ≡ Some v → slice_get graph v ≡ Some x → x.rises ≡ true → x.leads ≡ false
+      → slice_get firsts v ≡ Some (array_address pair) → BreaksGraphRule by graph firsts sync (violation.Branch pair)
   branch_broken k v x pair sound here vertex risen unled there = record {
     broken = λ disk ps order shows.
         let f = leading ps shows k v x sound here vertex risen unled in
-        record { path = f.led.path; to = f.led.at; reached = reached_at ps shows v (pair_address_of_array pair) there f.led; name = f.name; target = f.to; leads = f.leads; loose = f.loose };
+        record { path = f.led.path; to = f.led.at; reached = reached_at ps shows v (array_address pair) there f.led; name = f.name; target = f.to; leads = f.leads; loose = f.loose };
   }
 
-  pub paths_broken : (k x : ℕ) (pair : List ℕ) → AreSoundBefore graph (k + 1) → IsDistinct nat_eq (directories_found_after_steps graph k) → IsRepeatedNumber (directories_found_after_steps graph (k + 1)) x
-      → slice_get firsts x ≡ Some (pair_address_of_array pair) → IsRuleBrokenInGraph by graph firsts sync (violation.TwoPaths pair)
+  pub paths_broken : (k x : ℕ) (pair : List ℕ) → AreSoundBefore graph (k + 1) → IsDistinct nat_eq (found_after_steps graph k) → IsRepeatedNumber (found_after_steps graph (k + 1)) x
+      → slice_get firsts x ≡ Some (array_address pair) → BreaksGraphRule by graph firsts sync (violation.TwoPaths pair)
   paths_broken k x pair sound distinct repeated there = record {
     broken = λ disk ps order shows.
         let t = twice ps shows k x sound distinct repeated in
         record {
           path = t.one.path;
           to = t.one.at;
-          reached = reached_at ps shows x (pair_address_of_array pair) there t.one;
+          reached = reached_at ps shows x (array_address pair) there t.one;
           other = t.other.path;
           other_to = t.other.at;
-          other_reached = reached_at ps shows x (pair_address_of_array pair) there t.other;
+          other_reached = reached_at ps shows x (array_address pair) there t.other;
           differ = t.differ;
         };
   }
 
-  pub no_path_broken : (marks : List Bool) → AreMarksOfReachedDirectories graph marks → (v : ℕ) (pair : List ℕ) → sync ≡ false → slice_get marks v ≡ Some false → slice_get firsts v ≡ Some (pair_address_of_array pair)
-      → IsRuleBrokenInGraph by graph firsts sync (violation.NoPath pair)
+  pub no_path_broken : (marks : List Bool) → AreReachedMarks graph marks → (v : ℕ) (pair : List ℕ) → sync ≡ false → slice_get marks v ≡ Some false → slice_get firsts v ≡ Some (array_address pair)
+      → BreaksGraphRule by graph firsts sync (violation.NoPath pair)
   no_path_broken marks r v pair clear unmarked there = record {
     broken = λ disk ps order shows.
         let d = directory_at ps shows marks r v unmarked in
-        let at = begins_at ps shows v d.0 (pair_address_of_array pair) d.1 there in
+        let at = begins_at ps shows v d.0 (array_address pair) d.1 there in
         record {
           sync = shows.same ∙ clear;
           index = v;
           directory = d.0;
           there = d.1;
           at_is = at;
-          unreached = subst (λ (x : ℕ × ℕ). ¬ IsDirectoryAddressReachedBySomePath ps x) at (never ps shows marks r v d.0 d.1 unmarked);
+          unreached = subst (λ (x : ℕ × ℕ). ¬ IsReachedBySome ps x) at (never ps shows marks r v d.0 d.1 unmarked);
         };
   }

@@ -1,13 +1,13 @@
 -- What calls of a device one behind the other say of it.
 use Rattle.std.proofs.Common.{◌≡◌, ◌⊎◌, ◌∙◌, inl, inr, refl, sym, ap, Result, Ok, Err, arith}
-use Rattle.lfs_device.specs.Calls.{ReadsOnly}
+use Rattle.lfs_device.specs.DeviceCalls.{ReadsOnly}
 use Rattle.lfs_device.specs.declared.device.BlockDevice.{Ghosts}
 use Rattle.lfs_device.specs.declared.error.Error.{Error}
 use Rattle.lfs_device.specs.declared.error.Error.TheVariants as error
-use Rattle.lfs_model.specs.History.{fault_count_of_history}
+use Rattle.lfs_model.specs.session.History.{fault_count}
 use Rattle.lfs_model.specs.declared.violations.Violation.{Violation}
-use Rattle.lfs_model.proofs.Histories.{began, AreCallsSinceOnlyReads-trans}
-use Rattle.lfs_thread.specs.MountErrors.{OnlyReadsUnlessFault, mount_error_of}
+use Rattle.lfs_model.proofs.Histories.{began, OnlyReadsSince-trans}
+use Rattle.lfs_thread.specs.MountErrors.{OnlyReadsUnlessFault, mount_error_for}
 use Rattle.lfs_thread.specs.declared.mount_error.MountError.{MountError}
 use Rattle.lfs_thread.specs.declared.mount_error.MountError.TheVariants.{Corrupt, Io}
 
@@ -19,9 +19,9 @@ pub err_same : {Y : Type 0} {a b : MountError} → ◌≡◌ {A = Result Y Mount
 err_same e = cc
 
 -- a violation comes of an error below
-pub violation_of : (e : Error) (x v : Violation) → (e ≡ error.Corrupt) ⊎ (e ≡ error.NoMemory) → mount_error_of e x ≡ Corrupt v → (e ≡ error.Corrupt) × (x ≡ v)
-violation_of e x v (inl is) same = (is, (let h : Corrupt x ≡ Corrupt v = sym (ap (λ y. mount_error_of y x) is) ∙ same in cc))
-violation_of e x v (inr is) same = absurd (let h : mount_error_of error.NoMemory x ≡ Corrupt v = sym (ap (λ y. mount_error_of y x) is) ∙ same in cc)
+pub violation_of : (e : Error) (x v : Violation) → (e ≡ error.Corrupt) ⊎ (e ≡ error.NoMemory) → mount_error_for e x ≡ Corrupt v → (e ≡ error.Corrupt) × (x ≡ v)
+violation_of e x v (inl is) same = (is, (let h : Corrupt x ≡ Corrupt v = sym (ap (λ y. mount_error_for y x) is) ∙ same in cc))
+violation_of e x v (inr is) same = absurd (let h : mount_error_for error.NoMemory x ≡ Corrupt v = sym (ap (λ y. mount_error_for y x) is) ∙ same in cc)
 
 module _ {D : Type 0} (g : Ghosts D) where
   pub not_read : (d : D) → ReadsOnly g d d
@@ -31,19 +31,19 @@ module _ {D : Type 0} (g : Ghosts D) where
   read_on first second = record {
     same = second.same ∙ first.same;
     geometry = second.geometry ∙ first.geometry;
-    reads = AreCallsSinceOnlyReads-trans first.reads second.reads first.same;
+    reads = OnlyReadsSince-trans first.reads second.reads first.same;
   }
 
   -- a call that succeeds has no fault
-  pub quiet : {X : Type 0} {old new : D} {x : X} → OnlyReadsUnlessFault g old new (Ok x) → fault_count_of_history (g.history new) ≡ fault_count_of_history (g.history old)
+  pub quiet : {X : Type 0} {old new : D} {x : X} → OnlyReadsUnlessFault g old new (Ok x) → fault_count (g.history new) ≡ fault_count (g.history old)
   quiet reading = reading.no_fault (λ is. absurd (cc))
 
   -- reads without a fault, and a result that isn't `Io`
-  pub only_read : {X : Type 0} {old new : D} {r : Result X MountError} → ReadsOnly g old new → fault_count_of_history (g.history new) ≡ fault_count_of_history (g.history old) → (r ≡ Err Io → ⊥) → OnlyReadsUnlessFault g old new r
+  pub only_read : {X : Type 0} {old new : D} {r : Result X MountError} → ReadsOnly g old new → fault_count (g.history new) ≡ fault_count (g.history old) → (r ≡ Err Io → ⊥) → OnlyReadsUnlessFault g old new r
   only_read reads same other = record { device = reads; fault = λ is. absurd (other is); no_fault = λ none. same }
 
   -- an error passed on behind calls without a fault
-  pub passed_on : {X Y : Type 0} {old mid new : D} {r : Result X MountError} {e f : MountError} → r ≡ Err e → e ≡ f → ReadsOnly g old mid → fault_count_of_history (g.history mid) ≡ fault_count_of_history (g.history old)
+  pub passed_on : {X Y : Type 0} {old mid new : D} {r : Result X MountError} {e f : MountError} → r ≡ Err e → e ≡ f → ReadsOnly g old mid → fault_count (g.history mid) ≡ fault_count (g.history old)
       → OnlyReadsUnlessFault {X = Y} g mid new (Err f) → OnlyReadsUnlessFault g old new r
   passed_on {Y = Y} {f = f} is from before same reading = record {
     device = read_on before reading.device;

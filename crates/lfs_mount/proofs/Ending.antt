@@ -4,46 +4,46 @@ use Rattle.std.specs.Prelude.{All}
 use Rattle.std.specs.List.{IsDistinct}
 use Rattle.std.proofs.lemmas.List.Concat.{flat_map-append}
 use Rattle.std.proofs.lemmas.List.Elements.{All-from_recursion, recursion_from_All}
-use Rattle.lfs_model.specs.BlockSets.{BlockStateList}
-use Rattle.lfs_model.specs.Content.{content_of_pair_at}
-use Rattle.lfs_model.specs.Disk.{Disk, block_count}
-use Rattle.lfs_model.specs.SkipLists.{IsSkipList}
-use Rattle.lfs_model.specs.Slots.{Slot, Gstate}
-use Rattle.lfs_model.specs.Thread.{Pair, IsThreadOfMetadataPairs, blocks_of_pairs, gstate_of_pairs, slots_not_moved, entries_not_moved, id_of_moved_slot_in_pair}
+use Rattle.lfs_model.specs.layers.BlockSets.{BlockStates}
+use Rattle.lfs_model.specs.format.Content.{content_at}
+use Rattle.lfs_model.specs.format.Disk.{Disk, block_count}
+use Rattle.lfs_model.specs.format.SkipLists.{IsSkipList}
+use Rattle.lfs_model.specs.format.Slots.{Slot, Gstate}
+use Rattle.lfs_model.specs.format.Thread.{Pair, IsThread, blocks_of_pairs, pairs_gstate, slots_not_moved, unmoved_entries, moved_id}
 use Rattle.lfs_model.specs.declared.limits.AcceptedVersions.{AcceptedVersions}
-use Rattle.lfs_model.specs.View.{IsFileOrDirectoryEntry, IsSuperblockThenEntries, IsSuperblockThenEntriesIfAnySlot, HasSuperblockStruct, IsSkipListIfCtzStruct, HasValidMoveOrNone, IsAcceptedImage}
-use Rattle.lfs_model.specs.Shown.{skip_list_blocks_of_struct, all_slots_not_moved, used_blocks, directories_in_thread}
-use Rattle.lfs_model.proofs.Counts.{Each, each_append, each_weaker, occurrence_count_of_number, count_append, once_from_distinct, distinct_from_once}
+use Rattle.lfs_model.specs.tree.View.{IsTreeEntry, IsSuperblockFirst, SuperblockFirstIfAny, HasStruct, IsWellFormedCtz, HasValidMove, IsAccepted}
+use Rattle.lfs_model.specs.tree.Shown.{struct_blocks, all_slots_not_moved, used_blocks, all_directories}
+use Rattle.lfs_model.proofs.Counts.{Each, each_append, each_weaker, number_count, count_append, once_from_distinct, distinct_from_once}
 use Rattle.lfs_model.proofs.Superblocks.{IsChain, pairs_behind, Mark, StructMark, HoldSlots, root_rule, superblock_rule, slots_rule}
 use Rattle.lfs_mount.specs.Reaching.{DirectoryGraph}
-use Rattle.lfs_mount.specs.Directories.{IsTreeOfDirectories, IsGraphOfThreadDirectories}
-use Rattle.lfs_mount.specs.Entries.{empty_directory_scan}
-use Rattle.lfs_mount.specs.Marking.{HasExactlyTheseUsedBlocks, MarksFreeBlocksOfLists, skip_list_blocks_from_last_to_first}
-use Rattle.lfs_mount.specs.Described.{AreDescriptionsOfPairsOnDisk}
-use Rattle.lfs_mount.specs.Checked.{BeginsWithSuperblockSlot, HasSuperblockSlotAlone, HasAtMostSuperblockSlot, HasSuperblockChain, IsThreadMatchingMapAndPairDescriptions}
-use Rattle.lfs_mount.specs.Moves.{IsEntryAtIdIfSome, HasEntryAtSlotNamedBySetMove}
-use Rattle.lfs_mount.specs.Passed.{ScansPairsIntoDirectoryGraph}
+use Rattle.lfs_mount.specs.Directories.{IsDirectoryTree, IsThreadGraph}
+use Rattle.lfs_mount.specs.DirectoryEntries.{empty_scan}
+use Rattle.lfs_mount.specs.Marking.{HasUsedBlocks, MarksListsUsed, blocks_last_first}
+use Rattle.lfs_mount.specs.Described.{AreDescriptions}
+use Rattle.lfs_mount.specs.Checked.{BeginsAlone, HasSuperblockAlone, HasNothingElse, HasSuperblockChain, IsDescribedThread}
+use Rattle.lfs_mount.specs.MoveChecks.{IsEntryOrNone, NamesMovedEntry}
+use Rattle.lfs_mount.specs.Passed.{ScansPairs}
 use Rattle.lfs_mount.specs.declared.pass.PairBeforeSlotsAreRead.{PairBeforeSlotsAreRead}
-use Rattle.lfs_mount.specs.Accepted.{MapUsesExactlyTheseBlocks}
+use Rattle.lfs_mount.specs.Accepted.{MapUsesBlocks}
 use Rattle.lfs_mount.proofs.Owned.{owned_more, has_only}
 use Rattle.lfs_mount.proofs.Rules.{behind, without, unmoved-without, IsMovedEntry, lists_of, HaveEntries, passed_rules, thread_shows}
 use Rattle.lfs_mount.proofs.Accepts.{IsInline, Starting, starts_so, slots_right, no_blocks, no_lists, counted, listed}
-use Rattle.lfs_model.specs.Steps.{addresses_of_first_pairs_of_directories}
+use Rattle.lfs_model.specs.layers.Steps.{first_pair_addresses}
 
-bare_headed : (v : AcceptedVersions) (bytes : List ℕ) (chain : List Pair) → Each (HasAtMostSuperblockSlot v bytes) chain → Each (λ q. IsSuperblockThenEntriesIfAnySlot (HasSuperblockStruct v bytes) q.content.slots) chain
+bare_headed : (v : AcceptedVersions) (bytes : List ℕ) (chain : List Pair) → Each (HasNothingElse v bytes) chain → Each (λ q. SuperblockFirstIfAny (HasStruct v bytes) q.content.slots) chain
 bare_headed v bytes [] h = tt
 bare_headed v bytes (q ∷ chain) h = (go h.0, bare_headed v bytes chain h.1)
   where
-    go : HasAtMostSuperblockSlot v bytes q → IsSuperblockThenEntriesIfAnySlot (HasSuperblockStruct v bytes) q.content.slots
-    go (inl none) = subst (IsSuperblockThenEntriesIfAnySlot (HasSuperblockStruct v bytes)) (sym none) tt
-    go (inr alone) = subst (IsSuperblockThenEntriesIfAnySlot (HasSuperblockStruct v bytes)) (sym alone.slots) (alone.superblock, alone.struct, (λ k d lt. absurd (omega arith)))
+    go : HasNothingElse v bytes q → SuperblockFirstIfAny (HasStruct v bytes) q.content.slots
+    go (inl none) = subst (SuperblockFirstIfAny (HasStruct v bytes)) (sym none) tt
+    go (inr alone) = subst (SuperblockFirstIfAny (HasStruct v bytes)) (sym alone.slots) (alone.superblock, alone.struct, (λ k d lt. absurd (omega arith)))
 
-inline_slot : (v : AcceptedVersions) (bytes : List ℕ) (s : Slot) → HasSuperblockStruct v bytes s → IsInline s.struct
+inline_slot : (v : AcceptedVersions) (bytes : List ℕ) (s : Slot) → HasStruct v bytes s → IsInline s.struct
 inline_slot v bytes s h = subst IsInline (sym h.1.0) tt
 
 -- whatever the global state names
-alone_inline : (g : Gstate) (v : AcceptedVersions) (bytes : List ℕ) (q : Pair) → HasSuperblockSlotAlone v bytes q → Each (λ s. IsInline s.struct) (slots_not_moved g q)
-alone_inline g v bytes q h = subst (Each (λ s. IsInline s.struct)) (sym (unmoved-without g q ∙ ap (without (id_of_moved_slot_in_pair g q)) h.slots)) (go (id_of_moved_slot_in_pair g q))
+alone_inline : (g : Gstate) (v : AcceptedVersions) (bytes : List ℕ) (q : Pair) → HasSuperblockAlone v bytes q → Each (λ s. IsInline s.struct) (slots_not_moved g q)
+alone_inline g v bytes q h = subst (Each (λ s. IsInline s.struct)) (sym (unmoved-without g q ∙ ap (without (moved_id g q)) h.slots)) (go (moved_id g q))
   where
     go : (moved : Option ℕ) → Each (λ s. IsInline s.struct) (without moved (h.slot ∷ []))
     go None = (inline_slot v bytes h.slot h.struct, tt)
@@ -51,16 +51,16 @@ alone_inline g v bytes q h = subst (Each (λ s. IsInline s.struct)) (sym (unmove
     go (Some (suc zero)) = (inline_slot v bytes h.slot h.struct, tt)
     go (Some (suc (suc id))) = (inline_slot v bytes h.slot h.struct, tt)
 
-bare_inline : (g : Gstate) (v : AcceptedVersions) (bytes : List ℕ) (q : Pair) → HasAtMostSuperblockSlot v bytes q → Each (λ s. IsInline s.struct) (slots_not_moved g q)
+bare_inline : (g : Gstate) (v : AcceptedVersions) (bytes : List ℕ) (q : Pair) → HasNothingElse v bytes q → Each (λ s. IsInline s.struct) (slots_not_moved g q)
 bare_inline g v bytes q (inr alone) = alone_inline g v bytes q alone
-bare_inline g v bytes q (inl none) = subst (Each (λ s. IsInline s.struct)) (sym (unmoved-without g q ∙ ap (without (id_of_moved_slot_in_pair g q)) none)) (go (id_of_moved_slot_in_pair g q))
+bare_inline g v bytes q (inl none) = subst (Each (λ s. IsInline s.struct)) (sym (unmoved-without g q ∙ ap (without (moved_id g q)) none)) (go (moved_id g q))
   where
     go : (moved : Option ℕ) → Each (λ s. IsInline s.struct) (without moved [])
     go None = tt
     go (Some zero) = tt
     go (Some (suc id)) = tt
 
-chain_inline : (g : Gstate) (v : AcceptedVersions) (bytes : List ℕ) (chain : List Pair) → Each (HasAtMostSuperblockSlot v bytes) chain → Each (λ s. IsInline s.struct) (flat_map (slots_not_moved g) chain)
+chain_inline : (g : Gstate) (v : AcceptedVersions) (bytes : List ℕ) (chain : List Pair) → Each (HasNothingElse v bytes) chain → Each (λ s. IsInline s.struct) (flat_map (slots_not_moved g) chain)
 chain_inline g v bytes [] h = tt
 chain_inline g v bytes (q ∷ chain) h = each_append (λ (s : Slot). IsInline s.struct) (slots_not_moved g q) (flat_map (slots_not_moved g) chain) (bare_inline g v bytes q h.0) (chain_inline g v bytes chain h.1)
 
@@ -69,11 +69,11 @@ others_start : (v : AcceptedVersions) (bytes : List ℕ) (ps : List Pair) → St
 others_start v bytes [] = tt
 others_start v bytes (p ∷ ps) = ((λ e. absurd (cc)), others_start v bytes ps)
 
-others_hold : (g : Gstate) (m : Mark) (ps : List Pair) → HaveEntries g false ps → Each (λ p. IsMovedEntry (id_of_moved_slot_in_pair g p) p.content.slots) ps → HoldSlots m false ps
+others_hold : (g : Gstate) (m : Mark) (ps : List Pair) → HaveEntries g false ps → Each (λ p. IsMovedEntry (moved_id g p) p.content.slots) ps → HoldSlots m false ps
 others_hold g m [] h k = tt
 others_hold g m (p ∷ ps) h k = (slots_right g false p k.0 (λ e. absurd (cc)) h.0, others_hold g m ps h.1 k.1)
 
-headed : (v : AcceptedVersions) (bytes : List ℕ) (slots : List Slot) → BeginsWithSuperblockSlot v bytes slots → All IsFileOrDirectoryEntry (behind true slots) → IsSuperblockThenEntries (HasSuperblockStruct v bytes) slots
+headed : (v : AcceptedVersions) (bytes : List ℕ) (slots : List Slot) → BeginsAlone v bytes slots → All IsTreeEntry (behind true slots) → IsSuperblockFirst (HasStruct v bytes) slots
 headed v bytes [] h entries = absurd h
 headed v bytes (s ∷ slots) h entries = (h.0, h.1, entries)
 
@@ -82,7 +82,7 @@ module _ (disk : Disk) (chain : List Pair) (p : Pair) (rest : List Pair) (bytes 
   ps = chain ++ p ∷ rest
 
   abbrev g : Gstate
-  g = gstate_of_pairs ps
+  g = pairs_gstate ps
 
   abbrev dirs : List Pair
   dirs = p ∷ rest
@@ -94,33 +94,33 @@ module _ (disk : Disk) (chain : List Pair) (p : Pair) (rest : List Pair) (bytes 
   slots_parted = flat_map-append (slots_not_moved g) chain dirs
 
   -- the two rules on lists
-  all_lists : (lists : List (ℕ × ℕ)) → lists ≡ flat_map (λ q. lists_of (entries_not_moved g q)) dirs → HaveEntries g true dirs → Each (λ q. IsMovedEntry (id_of_moved_slot_in_pair g q) q.content.slots) dirs
-      → All (λ l. IsSkipList disk.blocks disk.block_size l.0 l.1) lists → All (λ s. IsSkipListIfCtzStruct disk s.struct) (all_slots_not_moved ps)
+  all_lists : (lists : List (ℕ × ℕ)) → lists ≡ flat_map (λ q. lists_of (unmoved_entries g q)) dirs → HaveEntries g true dirs → Each (λ q. IsMovedEntry (moved_id g q) q.content.slots) dirs
+      → All (λ l. IsSkipList disk.blocks disk.block_size l.0 l.1) lists → All (λ s. IsWellFormedCtz disk s.struct) (all_slots_not_moved ps)
   all_lists lists e entries moved all =
       let P : ℕ × ℕ → Type 0 = λ x. IsSkipList disk.blocks disk.block_size x.0 x.1 in
-      let Q : Slot → Type 0 = λ x. IsSkipListIfCtzStruct disk x.struct in
+      let Q : Slot → Type 0 = λ x. IsWellFormedCtz disk x.struct in
       All-from_recursion Q (all_slots_not_moved ps) (subst (Each Q) (sym slots_parted)
       (each_append Q (flat_map (slots_not_moved g) chain) (flat_map (slots_not_moved g) dirs) (no_lists disk (flat_map (slots_not_moved g) chain) (chain_inline g disk.profile.versions bytes chain head.bare))
       (listed disk g bytes true dirs starting entries moved (subst (Each P) e (recursion_from_All P lists all)))))
 
   -- the blocks that are marked are those of the files
-  used_counted : HaveEntries g true dirs → Each (λ q. IsMovedEntry (id_of_moved_slot_in_pair g q) q.content.slots) dirs
-      → (b : ℕ) → occurrence_count_of_number b (used_blocks disk ps) ≡ occurrence_count_of_number b (blocks_of_pairs ps ++ flat_map (skip_list_blocks_from_last_to_first disk) (flat_map (λ q. lists_of (entries_not_moved g q)) dirs))
+  used_counted : HaveEntries g true dirs → Each (λ q. IsMovedEntry (moved_id g q) q.content.slots) dirs
+      → (b : ℕ) → number_count b (used_blocks disk ps) ≡ number_count b (blocks_of_pairs ps ++ flat_map (blocks_last_first disk) (flat_map (λ q. lists_of (unmoved_entries g q)) dirs))
   used_counted entries moved b =
-      let marked : List ℕ = flat_map (skip_list_blocks_from_last_to_first disk) (flat_map (λ q. lists_of (entries_not_moved g q)) dirs) in
-      let blocks : List Slot → List ℕ = λ slots. flat_map (λ s. skip_list_blocks_of_struct disk s.struct) slots in
+      let marked : List ℕ = flat_map (blocks_last_first disk) (flat_map (λ q. lists_of (unmoved_entries g q)) dirs) in
+      let blocks : List Slot → List ℕ = λ slots. flat_map (λ s. struct_blocks disk s.struct) slots in
       let before = count_append b (blocks_of_pairs ps) marked in
       let after = count_append b (blocks_of_pairs ps) (blocks (all_slots_not_moved ps)) in
       let parts : blocks (all_slots_not_moved ps) ≡ blocks (flat_map (slots_not_moved g) dirs) =
-      ap blocks slots_parted ∙ flat_map-append (λ (s : Slot). skip_list_blocks_of_struct disk s.struct) (flat_map (slots_not_moved g) chain) (flat_map (slots_not_moved g) dirs)
+      ap blocks slots_parted ∙ flat_map-append (λ (s : Slot). struct_blocks disk s.struct) (flat_map (slots_not_moved g) chain) (flat_map (slots_not_moved g) dirs)
       ∙ ap (λ bs. bs ++ blocks (flat_map (slots_not_moved g) dirs)) (no_blocks disk (flat_map (slots_not_moved g) chain) (chain_inline g disk.profile.versions bytes chain head.bare)) in
-      let same : occurrence_count_of_number b (blocks (all_slots_not_moved ps)) ≡ occurrence_count_of_number b marked = ap (occurrence_count_of_number b) parts ∙ counted disk g bytes b true dirs starting entries moved in
+      let same : number_count b (blocks (all_slots_not_moved ps)) ≡ number_count b marked = ap (number_count b) parts ∙ counted disk g bytes b true dirs starting entries moved in
       omega arith
 
-  once_owned : (sets end : BlockStateList) → HaveEntries g true dirs → Each (λ q. IsMovedEntry (id_of_moved_slot_in_pair g q) q.content.slots) dirs
-      → HasExactlyTheseUsedBlocks sets (blocks_of_pairs ps) → MarksFreeBlocksOfLists disk sets (flat_map (λ q. lists_of (entries_not_moved g q)) dirs) end → IsDistinct nat_eq (used_blocks disk ps)
+  once_owned : (sets end : BlockStates) → HaveEntries g true dirs → Each (λ q. IsMovedEntry (moved_id g q) q.content.slots) dirs
+      → HasUsedBlocks sets (blocks_of_pairs ps) → MarksListsUsed disk sets (flat_map (λ q. lists_of (unmoved_entries g q)) dirs) end → IsDistinct nat_eq (used_blocks disk ps)
   once_owned sets end entries moved owns lists =
-      let marked : List ℕ = flat_map (skip_list_blocks_from_last_to_first disk) (flat_map (λ q. lists_of (entries_not_moved g q)) dirs) in
+      let marked : List ℕ = flat_map (blocks_last_first disk) (flat_map (λ q. lists_of (unmoved_entries g q)) dirs) in
       let all = owned_more sets (blocks_of_pairs ps) marked end owns lists.marked in
       distinct_from_once (used_blocks disk ps) (λ b.
       let once = once_from_distinct (blocks_of_pairs ps ++ marked) all.distinct b in
@@ -128,18 +128,18 @@ module _ (disk : Disk) (chain : List Pair) (p : Pair) (rest : List Pair) (bytes 
       omega arith)
 
   -- Ok of the pass: the map has the blocks of the image
-  pub has_blocks : (ms : List PairBeforeSlotsAreRead) (sets end : BlockStateList) (graph : DirectoryGraph) → HasExactlyTheseUsedBlocks sets (blocks_of_pairs ps)
-      → AreDescriptionsOfPairsOnDisk disk g true dirs ms → ScansPairsIntoDirectoryGraph disk (addresses_of_first_pairs_of_directories (directories_in_thread ps)) empty_directory_scan sets ms graph end → MapUsesExactlyTheseBlocks sets end (used_blocks disk ps)
+  pub has_blocks : (ms : List PairBeforeSlotsAreRead) (sets end : BlockStates) (graph : DirectoryGraph) → HasUsedBlocks sets (blocks_of_pairs ps)
+      → AreDescriptions disk g true dirs ms → ScansPairs disk (first_pair_addresses (all_directories ps)) empty_scan sets ms graph end → MapUsesBlocks sets end (used_blocks disk ps)
   has_blocks ms sets end graph owns members passes =
-      let h = passed_rules disk (addresses_of_first_pairs_of_directories (directories_in_thread ps)) g true dirs ms empty_directory_scan sets graph end members passes in
-      let marked : List ℕ = flat_map (skip_list_blocks_from_last_to_first disk) (flat_map (λ q. lists_of (entries_not_moved g q)) dirs) in
+      let h = passed_rules disk (first_pair_addresses (all_directories ps)) g true dirs ms empty_scan sets graph end members passes in
+      let marked : List ℕ = flat_map (blocks_last_first disk) (flat_map (λ q. lists_of (unmoved_entries g q)) dirs) in
       has_only sets end (blocks_of_pairs ps) marked (used_blocks disk ps) owns h.lists.marked (used_counted h.kept h.moved)
 
   -- Ok of the pass and of the search
-  pub is_accepted : (ms : List PairBeforeSlotsAreRead) (sets end : BlockStateList) (graph : DirectoryGraph) → IsThreadOfMetadataPairs (content_of_pair_at disk) (block_count disk) ps → HasValidMoveOrNone ps g → HasExactlyTheseUsedBlocks sets (blocks_of_pairs ps)
-      → AreDescriptionsOfPairsOnDisk disk g true dirs ms → ScansPairsIntoDirectoryGraph disk (addresses_of_first_pairs_of_directories (directories_in_thread ps)) empty_directory_scan sets ms graph end → IsTreeOfDirectories disk.order ps → IsAcceptedImage disk ps
+  pub is_accepted : (ms : List PairBeforeSlotsAreRead) (sets end : BlockStates) (graph : DirectoryGraph) → IsThread (content_at disk) (block_count disk) ps → HasValidMove ps g → HasUsedBlocks sets (blocks_of_pairs ps)
+      → AreDescriptions disk g true dirs ms → ScansPairs disk (first_pair_addresses (all_directories ps)) empty_scan sets ms graph end → IsDirectoryTree disk.order ps → IsAccepted disk ps
   is_accepted ms sets end graph thread move owns members passes right =
-      let h = passed_rules disk (addresses_of_first_pairs_of_directories (directories_in_thread ps)) g true dirs ms empty_directory_scan sets graph end members passes in
+      let h = passed_rules disk (first_pair_addresses (all_directories ps)) g true dirs ms empty_scan sets graph end members passes in
       let hold : HoldSlots (StructMark disk.profile.versions bytes) true dirs =
       (headed disk.profile.versions bytes p.content.slots head.start (slots_right g true p h.moved.0 (λ e. starts_so disk.profile.versions bytes p.content.slots head.start) h.kept.0), others_hold g (StructMark disk.profile.versions bytes) rest h.kept.1 h.moved.1) in
       record {
@@ -154,42 +154,42 @@ module _ (disk : Disk) (chain : List Pair) (p : Pair) (rest : List Pair) (bytes 
         once = right.tree.once;
         reached = right.reached;
         move = move;
-        lists = all_lists (flat_map (λ q. lists_of (entries_not_moved g q)) dirs) refl h.kept h.moved h.lists.lists;
+        lists = all_lists (flat_map (λ q. lists_of (unmoved_entries g q)) dirs) refl h.kept h.moved h.lists.lists;
         owned_once = once_owned sets end h.kept h.moved owns h.lists;
       }
 
 -- ---- the whole check
 
-pub known_drawn : (disk : Disk) (sets : BlockStateList) (firsts : List (ℕ × ℕ)) (ms : List PairBeforeSlotsAreRead) (sync : Bool) (chain : List Pair) (p : Pair) (rest : List Pair) (graph : DirectoryGraph) (end : BlockStateList)
-    → IsThreadMatchingMapAndPairDescriptions disk sets firsts ms sync chain p rest → ScansPairsIntoDirectoryGraph disk firsts empty_directory_scan sets ms graph end → IsGraphOfThreadDirectories disk.order graph firsts sync (chain ++ p ∷ rest)
+pub known_drawn : (disk : Disk) (sets : BlockStates) (firsts : List (ℕ × ℕ)) (ms : List PairBeforeSlotsAreRead) (sync : Bool) (chain : List Pair) (p : Pair) (rest : List Pair) (graph : DirectoryGraph) (end : BlockStates)
+    → IsDescribedThread disk sets firsts ms sync chain p rest → ScansPairs disk firsts empty_scan sets ms graph end → IsThreadGraph disk.order graph firsts sync (chain ++ p ∷ rest)
 known_drawn disk sets firsts ms sync chain p rest graph end known passes =
     let ps : List Pair = chain ++ p ∷ rest in
-    subst₂ (λ f s. IsGraphOfThreadDirectories disk.order graph f s ps) (sym known.places) known.sync_is
-    (thread_shows disk ps ms sets graph end known.thread (subst (λ qs. AreDescriptionsOfPairsOnDisk disk (gstate_of_pairs ps) true qs ms) (sym (pairs_behind chain (p ∷ rest) known.chain_is)) known.described)
-    (subst (λ f. ScansPairsIntoDirectoryGraph disk f empty_directory_scan sets ms graph end) known.places passes))
+    subst₂ (λ f s. IsThreadGraph disk.order graph f s ps) (sym known.places) known.sync_is
+    (thread_shows disk ps ms sets graph end known.thread (subst (λ qs. AreDescriptions disk (pairs_gstate ps) true qs ms) (sym (pairs_behind chain (p ∷ rest) known.chain_is)) known.described)
+    (subst (λ f. ScansPairs disk f empty_scan sets ms graph end) known.places passes))
 
-pub checked_accepted : (disk : Disk) (sets : BlockStateList) (firsts : List (ℕ × ℕ)) (ms : List PairBeforeSlotsAreRead) (sync : Bool) (chain : List Pair) (p : Pair) (rest : List Pair) (bytes : List ℕ) (graph : DirectoryGraph) (end : BlockStateList)
-    → IsThreadMatchingMapAndPairDescriptions disk sets firsts ms sync chain p rest → HasSuperblockChain disk chain p rest bytes → HasValidMoveOrNone (chain ++ p ∷ rest) (gstate_of_pairs (chain ++ p ∷ rest))
-    → ScansPairsIntoDirectoryGraph disk firsts empty_directory_scan sets ms graph end → IsTreeOfDirectories disk.order (chain ++ p ∷ rest) → IsAcceptedImage disk (chain ++ p ∷ rest)
+pub checked_accepted : (disk : Disk) (sets : BlockStates) (firsts : List (ℕ × ℕ)) (ms : List PairBeforeSlotsAreRead) (sync : Bool) (chain : List Pair) (p : Pair) (rest : List Pair) (bytes : List ℕ) (graph : DirectoryGraph) (end : BlockStates)
+    → IsDescribedThread disk sets firsts ms sync chain p rest → HasSuperblockChain disk chain p rest bytes → HasValidMove (chain ++ p ∷ rest) (pairs_gstate (chain ++ p ∷ rest))
+    → ScansPairs disk firsts empty_scan sets ms graph end → IsDirectoryTree disk.order (chain ++ p ∷ rest) → IsAccepted disk (chain ++ p ∷ rest)
 checked_accepted disk sets firsts ms sync chain p rest bytes graph end known head move passes right =
     is_accepted disk chain p rest bytes known.chain_is head ms sets end graph known.thread move known.owns known.described
-    (subst (λ f. ScansPairsIntoDirectoryGraph disk f empty_directory_scan sets ms graph end) known.places passes) right
+    (subst (λ f. ScansPairs disk f empty_scan sets ms graph end) known.places passes) right
 
 -- the map has the blocks of the image
-pub checked_blocks : (disk : Disk) (sets : BlockStateList) (firsts : List (ℕ × ℕ)) (ms : List PairBeforeSlotsAreRead) (sync : Bool) (chain : List Pair) (p : Pair) (rest : List Pair) (bytes : List ℕ) (graph : DirectoryGraph) (end : BlockStateList)
-    → IsThreadMatchingMapAndPairDescriptions disk sets firsts ms sync chain p rest → HasSuperblockChain disk chain p rest bytes → ScansPairsIntoDirectoryGraph disk firsts empty_directory_scan sets ms graph end → MapUsesExactlyTheseBlocks sets end (used_blocks disk (chain ++ p ∷ rest))
+pub checked_blocks : (disk : Disk) (sets : BlockStates) (firsts : List (ℕ × ℕ)) (ms : List PairBeforeSlotsAreRead) (sync : Bool) (chain : List Pair) (p : Pair) (rest : List Pair) (bytes : List ℕ) (graph : DirectoryGraph) (end : BlockStates)
+    → IsDescribedThread disk sets firsts ms sync chain p rest → HasSuperblockChain disk chain p rest bytes → ScansPairs disk firsts empty_scan sets ms graph end → MapUsesBlocks sets end (used_blocks disk (chain ++ p ∷ rest))
 checked_blocks disk sets firsts ms sync chain p rest bytes graph end known head passes =
     has_blocks disk chain p rest bytes known.chain_is head ms sets end graph known.owns known.described
-    (subst (λ f. ScansPairsIntoDirectoryGraph disk f empty_directory_scan sets ms graph end) known.places passes)
+    (subst (λ f. ScansPairs disk f empty_scan sets ms graph end) known.places passes)
 
 -- the slot that is moved away is an entry
-pub checked_moved : (disk : Disk) (sets : BlockStateList) (firsts : List (ℕ × ℕ)) (ms : List PairBeforeSlotsAreRead) (sync : Bool) (chain : List Pair) (p : Pair) (rest : List Pair) (graph : DirectoryGraph) (end : BlockStateList)
-    → IsThreadMatchingMapAndPairDescriptions disk sets firsts ms sync chain p rest → ScansPairsIntoDirectoryGraph disk firsts empty_directory_scan sets ms graph end → HasEntryAtSlotNamedBySetMove (gstate_of_pairs (chain ++ p ∷ rest)) (p ∷ rest)
+pub checked_moved : (disk : Disk) (sets : BlockStates) (firsts : List (ℕ × ℕ)) (ms : List PairBeforeSlotsAreRead) (sync : Bool) (chain : List Pair) (p : Pair) (rest : List Pair) (graph : DirectoryGraph) (end : BlockStates)
+    → IsDescribedThread disk sets firsts ms sync chain p rest → ScansPairs disk firsts empty_scan sets ms graph end → NamesMovedEntry (pairs_gstate (chain ++ p ∷ rest)) (p ∷ rest)
 checked_moved disk sets firsts ms sync chain p rest graph end known passes =
-    let g : Gstate = gstate_of_pairs (chain ++ p ∷ rest) in
-    each_weaker (λ q. IsMovedEntry (id_of_moved_slot_in_pair g q) q.content.slots) (λ q. IsEntryAtIdIfSome (id_of_moved_slot_in_pair g q) q.content.slots) (λ q h. entry_if_some (id_of_moved_slot_in_pair g q) q.content.slots h) (p ∷ rest)
-    (passed_rules disk firsts g true (p ∷ rest) ms empty_directory_scan sets graph end known.described passes).moved
+    let g : Gstate = pairs_gstate (chain ++ p ∷ rest) in
+    each_weaker (λ q. IsMovedEntry (moved_id g q) q.content.slots) (λ q. IsEntryOrNone (moved_id g q) q.content.slots) (λ q h. entry_if_some (moved_id g q) q.content.slots h) (p ∷ rest)
+    (passed_rules disk firsts g true (p ∷ rest) ms empty_scan sets graph end known.described passes).moved
   where
-    entry_if_some : (o : Option ℕ) (slots : List Slot) → IsMovedEntry o slots → IsEntryAtIdIfSome o slots
+    entry_if_some : (o : Option ℕ) (slots : List Slot) → IsMovedEntry o slots → IsEntryOrNone o slots
     entry_if_some None slots h = tt
     entry_if_some (Some id) slots h = h

@@ -2,49 +2,49 @@
 use Rattle.std.proofs.Common.{ℕ, zero, suc, ◌≡◌, ◌<◌, Bool, true, false, cond, List, [], ◌∷◌, length, slice_get, Option, Some, None, sym, ap, subst, ◌∙◌, option_and_then, option_map}
 use Rattle.std.specs.Prelude.{unwrap_or}
 use Rattle.std.proofs.lemmas.Option.{same_Some, slice_get-map}
-use Rattle.lfs_model.specs.Content.{RawPairContent, slots_if_names_and_structs_present, pair_content_if_slots_complete, content_after_log_entries, content_of_pair_at, current_block_of_pair_at, empty_raw_pair_content}
-use Rattle.lfs_model.specs.Disk.{Disk, block_bytes_on_disk, block_count}
-use Rattle.lfs_model.specs.History.{DeviceCallEvent}
-use Rattle.lfs_model.specs.Log.{log_entries_of_block}
-use Rattle.lfs_model.specs.Slots.{PairContent, zero_gstate}
-use Rattle.lfs_model.specs.Thread.{Pair, is_hard_tail}
+use Rattle.lfs_model.specs.format.Content.{RawContent, complete_slots, complete_content, content_after, content_at, current_block, empty_raw_content}
+use Rattle.lfs_model.specs.format.Disk.{Disk, disk_block, block_count}
+use Rattle.lfs_model.specs.session.History.{CallEvent}
+use Rattle.lfs_model.specs.format.Log.{block_entries}
+use Rattle.lfs_model.specs.format.Slots.{PairContent, zero_gstate}
+use Rattle.lfs_model.specs.format.Thread.{Pair, is_hard_tail}
 use Rattle.lfs_model.proofs.Completed.{complete_length, completed_parts}
 use Rattle.lfs_tag.specs.ContentView.{tail_view}
 use Rattle.lfs_tag.specs.FieldsView.{move_view}
-use Rattle.lfs_pair.specs.Pair.{active_block_at, pair_address_in_header, is_second_block_active}
-use Rattle.lfs_thread.specs.Kept.{PairHeader, ArePairHeadersOnDisk, IsPairHeaderOnDisk, pair_on_disk_at, pairs_of_headers}
+use Rattle.lfs_pair.specs.Pair.{active_block_at, header_address, is_second_active}
+use Rattle.lfs_thread.specs.Kept.{PairHeader, AreHeaders, IsHeader, disk_pair_at, pairs_of_headers}
 
 abbrev pub pair_of : Disk → PairHeader → Pair
-pair_of disk h = pair_on_disk_at disk (pair_address_in_header h)
+pair_of disk h = disk_pair_at disk (header_address h)
 
 pub record IsSeen (disk : Disk) (h : PairHeader) : Type 0 where
   pub active : h.active < block_count disk
-  pub held : RawPairContent
-  pub log : content_after_log_entries empty_raw_pair_content (log_entries_of_block (block_bytes_on_disk disk h.active)) ≡ Some held
-  pub slots : slots_if_names_and_structs_present held.slots ≡ Some (pair_of disk h).content.slots
+  pub held : RawContent
+  pub log : content_after empty_raw_content (block_entries (disk_block disk h.active)) ≡ Some held
+  pub slots : complete_slots held.slots ≡ Some (pair_of disk h).content.slots
   pub move : move_view h.move_state ≡ (pair_of disk h).content.move
   pub count : h.slot_count ≡ length (pair_of disk h).content.slots
   pub hard : is_hard_tail (option_map tail_view h.tail) ≡ is_hard_tail (pair_of disk h).content.tail
-  pub holds : current_block_of_pair_at disk (pair_address_in_header h) ≡ Some (block_bytes_on_disk disk h.active)
-  pub content : content_of_pair_at disk (pair_address_in_header h) ≡ Some (pair_of disk h).content
+  pub holds : current_block disk (header_address h) ≡ Some (disk_block disk h.active)
+  pub content : content_at disk (header_address h) ≡ Some (pair_of disk h).content
 
-content_on : (disk : Disk) (at : ℕ × ℕ) (c : PairContent) → content_of_pair_at disk at ≡ Some c → (pair_on_disk_at disk at).content ≡ c
+content_on : (disk : Disk) (at : ℕ × ℕ) (c : PairContent) → content_at disk at ≡ Some c → (disk_pair_at disk at).content ≡ c
 content_on disk at c e = ap (λ (o : Option PairContent). unwrap_or o (record { slots = []; tail = None; move = zero_gstate })) e
 
 active_within : (disk : Disk) (at : ℕ × ℕ) → at.0 < block_count disk → at.1 < block_count disk → active_block_at disk at < block_count disk
-active_within disk at first second = go (is_second_block_active (block_bytes_on_disk disk at.0) (block_bytes_on_disk disk at.1))
+active_within disk at first second = go (is_second_active (disk_block disk at.0) (disk_block disk at.1))
   where
     go : (b : Bool) → cond b at.1 at.0 < block_count disk
     go true = second
     go false = first
 
-pub seen_from : (disk : Disk) (history : List DeviceCallEvent) (h : PairHeader) → IsPairHeaderOnDisk disk history h → IsSeen disk h
+pub seen_from : (disk : Disk) (history : List CallEvent) (h : PairHeader) → IsHeader disk history h → IsSeen disk h
 seen_from disk history h is =
-    let at = pair_address_in_header h in
-    let whole : content_of_pair_at disk at ≡ Some is.content = ap (option_and_then pair_content_if_slots_complete) is.raw ∙ is.complete in
+    let at = header_address h in
+    let whole : content_at disk at ≡ Some is.content = ap (option_and_then complete_content) is.raw ∙ is.complete in
     let content : (pair_of disk h).content ≡ is.content = content_on disk at is.content whole in
     let parts = completed_parts is.held is.content is.complete in
-    let slots : slots_if_names_and_structs_present is.held.slots ≡ Some (pair_of disk h).content.slots = parts.slots ∙ ap (λ (c : PairContent). Some c.slots) (sym content) in
+    let slots : complete_slots is.held.slots ≡ Some (pair_of disk h).content.slots = parts.slots ∙ ap (λ (c : PairContent). Some c.slots) (sym content) in
     let d = is.is_pair.describes in
     record {
       active = subst (λ b. b < block_count disk) (sym is.is_pair.active) (active_within disk at is.address.first is.address.second);
@@ -59,7 +59,7 @@ seen_from disk history h is =
     }
 
 -- the header at an index
-pub header_at : (disk : Disk) (history : List DeviceCallEvent) (hs : List PairHeader) (k : ℕ) (h : PairHeader) → ArePairHeadersOnDisk disk history hs → slice_get hs k ≡ Some h → IsSeen disk h
+pub header_at : (disk : Disk) (history : List CallEvent) (hs : List PairHeader) (k : ℕ) (h : PairHeader) → AreHeaders disk history hs → slice_get hs k ≡ Some h → IsSeen disk h
 header_at disk history [] k h is e = absurd (cc)
 header_at disk history (x ∷ hs) zero h is e = subst (IsSeen disk) (same_Some x h e) (seen_from disk history x is.0)
 header_at disk history (x ∷ hs) (suc k) h is e = header_at disk history hs k h is.1 e

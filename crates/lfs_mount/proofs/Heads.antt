@@ -4,24 +4,24 @@ use Rattle.std.proofs.lemmas.Bool.{and_from, and_parts, and_right, eqb-false}
 use Rattle.std.proofs.lemmas.List.{length-map}
 use Rattle.std.proofs.lemmas.Option.{same_Some, slice_get_read, slice_get_within}
 use Rattle.lfs_device.specs.declared.geometry.Geometry.{Geometry}
-use Rattle.lfs_model.specs.Blocks.{Blocks, block_bytes_by_number}
-use Rattle.lfs_model.specs.Content.{current_block_of_pair_at}
-use Rattle.lfs_model.specs.Disk.{Disk, block_bytes_on_disk, block_count}
-use Rattle.lfs_model.specs.History.{DeviceCallEvent}
-use Rattle.lfs_model.specs.Slots.{Slot, Inline, pair_address_of_array}
-use Rattle.lfs_model.specs.Thread as Thread
-use Rattle.lfs_model.specs.Thread.{Pair, first_pair_address, pairs_from_first_with_slots, has_slots, has_no_slot_or_only_superblock, is_hard_tail, has_superblock_in_first_nonempty_pair, starts_with_superblock, starts_with_superblock_or_default_without_slots, pair_count_before_root, pairs_from_root_directory_on}
-use Rattle.lfs_model.specs.View.{BeginsWithLogEntry, HasSuperblockStruct, first_pair_slots, first_slot_name, IsSuperblockStruct, superblock_name_log_entry}
-use Rattle.lfs_model.specs.Violations.{BreaksPairs, HasFirstSlot, first_address_with_slots}
+use Rattle.lfs_model.specs.format.Blocks.{Blocks, block_bytes}
+use Rattle.lfs_model.specs.format.Content.{current_block}
+use Rattle.lfs_model.specs.format.Disk.{Disk, disk_block, block_count}
+use Rattle.lfs_model.specs.session.History.{CallEvent}
+use Rattle.lfs_model.specs.format.Slots.{Slot, Inline, array_address}
+use Rattle.lfs_model.specs.format.Thread as Thread
+use Rattle.lfs_model.specs.format.Thread.{Pair, first_address, from_first_slots, has_slots, has_no_entry, is_hard_tail, has_superblock, starts_superblock, starts_or, pair_count_before_root, pairs_from_root}
+use Rattle.lfs_model.specs.tree.View.{BeginsWith, HasStruct, first_slots, first_slot_name, IsSuperblock, superblock_entry}
+use Rattle.lfs_model.specs.layers.Violations.{BreaksPairs, HasFirstSlot, first_filled_address}
 use Rattle.lfs_model.specs.declared.limits.AcceptedVersions.{AcceptedVersions}
 use Rattle.lfs_model.specs.declared.violations.Violation.{Violation}
 use Rattle.lfs_model.specs.declared.violations.Violation.TheVariants as violation
 use Rattle.lfs_model.proofs.Counts.{Each}
 use Rattle.lfs_model.proofs.Superblocks.{meets_from, meets_starting}
 use Rattle.lfs_tag.specs.ContentView.{tail_view}
-use Rattle.lfs_thread.specs.Kept.{ArePairHeadersOnDisk, PairHeader, pairs_of_headers}
-use Rattle.lfs_mount.specs.Checked.{BeginsWithSuperblockSlot, HasSuperblockSlotAlone, HasAtMostSuperblockSlot}
-use Rattle.lfs_mount.specs.SuperblockChain.{AreHeadersOfDiskThread, BreaksFirstSuperblock, HasSuperblockChainOfLength, IsSuperblockStructInBlock, number_of_first_pair_with_nonzero_slot_count, superblock_chain_may_continue_after, first_slot_repeats_superblock, block_repeats_superblock, superblock_struct_in_block_log, superblock_struct_in_first_slot}
+use Rattle.lfs_thread.specs.Kept.{AreHeaders, PairHeader, pairs_of_headers}
+use Rattle.lfs_mount.specs.Checked.{BeginsAlone, HasSuperblockAlone, HasNothingElse}
+use Rattle.lfs_mount.specs.SuperblockChain.{AreThreadHeaders, BreaksFirstSuperblock, HasChain, IsBlockStruct, first_filled, may_continue_after, first_repeats_superblock, repeats_superblock, struct_in_log, first_slot_struct}
 use Rattle.lfs_mount.proofs.FirstSlots.{IsFirst, begins_struct, first_begins, first_found, first_is, first_of_disk, repeats_false, repeats_none, repeats_true, struct_described}
 use Rattle.lfs_mount.proofs.Headers.{IsSeen, header_at, pair_at, pair_of, seen_from}
 
@@ -29,7 +29,7 @@ use Rattle.lfs_mount.proofs.Headers.{IsSeen, header_at, pair_at, pair_of, seen_f
 
 -- a pair in front of the root's first one; `v` are the versions that are accepted
 abbrev pub IsLink : AcceptedVersions → List ℕ → Pair → Type 0
-IsLink v bytes p = HasAtMostSuperblockSlot v bytes p × (is_hard_tail p.content.tail ≡ true)
+IsLink v bytes p = HasNothingElse v bytes p × (is_hard_tail p.content.tail ≡ true)
 
 -- so many of them
 abbrev pub Linked : AcceptedVersions → List ℕ → ℕ → List Pair → Type 0
@@ -40,36 +40,36 @@ Linked v bytes (suc k) (p ∷ ps) = IsLink v bytes p × Linked v bytes k ps
 -- and behind them one that begins with the superblock
 abbrev pub Led : AcceptedVersions → List ℕ → ℕ → List Pair → Type 0
 Led v bytes k [] = ⊥
-Led v bytes zero (p ∷ ps) = BeginsWithSuperblockSlot v bytes p.content.slots
+Led v bytes zero (p ∷ ps) = BeginsAlone v bytes p.content.slots
 Led v bytes (suc k) (p ∷ ps) = IsLink v bytes p × Led v bytes k ps
 
-starts_so : (v : AcceptedVersions) (bytes : List ℕ) (slots : List Slot) → BeginsWithSuperblockSlot v bytes slots → starts_with_superblock slots ≡ true
+starts_so : (v : AcceptedVersions) (bytes : List ℕ) (slots : List Slot) → BeginsAlone v bytes slots → starts_superblock slots ≡ true
 starts_so v bytes [] h = absurd h
 starts_so v bytes (s ∷ slots) h = h.0
 
-alone_start : (v : AcceptedVersions) (bytes : List ℕ) (p : Pair) → HasSuperblockSlotAlone v bytes p → BeginsWithSuperblockSlot v bytes p.content.slots
-alone_start v bytes p a = subst (BeginsWithSuperblockSlot v bytes) (sym a.slots) (a.superblock, a.struct)
+alone_start : (v : AcceptedVersions) (bytes : List ℕ) (p : Pair) → HasSuperblockAlone v bytes p → BeginsAlone v bytes p.content.slots
+alone_start v bytes p a = subst (BeginsAlone v bytes) (sym a.slots) (a.superblock, a.struct)
 
-link_bare : (v : AcceptedVersions) (bytes : List ℕ) (p : Pair) → HasAtMostSuperblockSlot v bytes p → has_no_slot_or_only_superblock p.content.slots ≡ true
-link_bare v bytes p (inl none) = ap has_no_slot_or_only_superblock none
-link_bare v bytes p (inr alone) = ap has_no_slot_or_only_superblock alone.slots ∙ alone.superblock
+link_bare : (v : AcceptedVersions) (bytes : List ℕ) (p : Pair) → HasNothingElse v bytes p → has_no_entry p.content.slots ≡ true
+link_bare v bytes p (inl none) = ap has_no_entry none
+link_bare v bytes p (inr alone) = ap has_no_entry alone.slots ∙ alone.superblock
 
-link_leads : (v : AcceptedVersions) (bytes : List ℕ) (p : Pair) → IsLink v bytes p → Thread.may_superblock_chain_continue_after_pair p ≡ true
-link_leads v bytes p h = and_from (has_no_slot_or_only_superblock p.content.slots) (is_hard_tail p.content.tail) (link_bare v bytes p h.0) h.1
+link_leads : (v : AcceptedVersions) (bytes : List ℕ) (p : Pair) → IsLink v bytes p → Thread.may_continue p ≡ true
+link_leads v bytes p h = and_from (has_no_entry p.content.slots) (is_hard_tail p.content.tail) (link_bare v bytes p h.0) h.1
 
-link_meets : (v : AcceptedVersions) (bytes : List ℕ) (p : Pair) (ps : List Pair) → IsLink v bytes p → has_superblock_in_first_nonempty_pair ps ≡ true → has_superblock_in_first_nonempty_pair (p ∷ ps) ≡ true
-link_meets v bytes p ps (inl none, hard) e = ap (λ z. starts_with_superblock_or_default_without_slots z (is_hard_tail p.content.tail && has_superblock_in_first_nonempty_pair ps)) none ∙ and_from (is_hard_tail p.content.tail) (has_superblock_in_first_nonempty_pair ps) hard e
+link_meets : (v : AcceptedVersions) (bytes : List ℕ) (p : Pair) (ps : List Pair) → IsLink v bytes p → has_superblock ps ≡ true → has_superblock (p ∷ ps) ≡ true
+link_meets v bytes p ps (inl none, hard) e = ap (λ z. starts_or z (is_hard_tail p.content.tail && has_superblock ps)) none ∙ and_from (is_hard_tail p.content.tail) (has_superblock ps) hard e
 link_meets v bytes p ps (inr alone, hard) e = meets_starting p ps (starts_so v bytes p.content.slots (alone_start v bytes p alone))
 
-before_link : (v : AcceptedVersions) (bytes : List ℕ) (p : Pair) (ps : List Pair) → IsLink v bytes p → has_superblock_in_first_nonempty_pair ps ≡ true → pair_count_before_root (p ∷ ps) ≡ suc (pair_count_before_root ps)
-before_link v bytes p ps h e = ap (λ b. cond b (1 + pair_count_before_root ps) 0) (and_from (has_superblock_in_first_nonempty_pair ps) (Thread.may_superblock_chain_continue_after_pair p) e (link_leads v bytes p h)) ∙ (let n = pair_count_before_root ps in omega arith)
+before_link : (v : AcceptedVersions) (bytes : List ℕ) (p : Pair) (ps : List Pair) → IsLink v bytes p → has_superblock ps ≡ true → pair_count_before_root (p ∷ ps) ≡ suc (pair_count_before_root ps)
+before_link v bytes p ps h e = ap (λ b. cond b (1 + pair_count_before_root ps) 0) (and_from (has_superblock ps) (Thread.may_continue p) e (link_leads v bytes p h)) ∙ (let n = pair_count_before_root ps in omega arith)
 
-linked_meets : (v : AcceptedVersions) (bytes : List ℕ) (k : ℕ) (ps : List Pair) → Linked v bytes k ps → has_superblock_in_first_nonempty_pair (drop k ps) ≡ true → has_superblock_in_first_nonempty_pair ps ≡ true
+linked_meets : (v : AcceptedVersions) (bytes : List ℕ) (k : ℕ) (ps : List Pair) → Linked v bytes k ps → has_superblock (drop k ps) ≡ true → has_superblock ps ≡ true
 linked_meets v bytes zero ps h e = e
 linked_meets v bytes (suc k) [] h e = absurd h
 linked_meets v bytes (suc k) (p ∷ ps) h e = link_meets v bytes p ps h.0 (linked_meets v bytes k ps h.1 e)
 
-linked_before : (v : AcceptedVersions) (bytes : List ℕ) (k : ℕ) (ps : List Pair) → Linked v bytes k ps → has_superblock_in_first_nonempty_pair (drop k ps) ≡ true → pair_count_before_root ps ≡ k + pair_count_before_root (drop k ps)
+linked_before : (v : AcceptedVersions) (bytes : List ℕ) (k : ℕ) (ps : List Pair) → Linked v bytes k ps → has_superblock (drop k ps) ≡ true → pair_count_before_root ps ≡ k + pair_count_before_root (drop k ps)
 linked_before v bytes zero ps h e = omega arith
 linked_before v bytes (suc k) [] h e = absurd h
 linked_before v bytes (suc k) (p ∷ ps) h e =
@@ -82,9 +82,9 @@ linked_more v bytes k [] p h e link = absurd (cc)
 linked_more v bytes zero (x ∷ ps) p h e link = (subst (IsLink v bytes) (sym (same_Some x p e)) link, tt)
 linked_more v bytes (suc k) (x ∷ ps) p h e link = (h.0, linked_more v bytes k ps p h.1 e link)
 
-led_from : (v : AcceptedVersions) (bytes : List ℕ) (k : ℕ) (ps : List Pair) (p : Pair) → Linked v bytes k ps → slice_get ps k ≡ Some p → BeginsWithSuperblockSlot v bytes p.content.slots → Led v bytes k ps
+led_from : (v : AcceptedVersions) (bytes : List ℕ) (k : ℕ) (ps : List Pair) (p : Pair) → Linked v bytes k ps → slice_get ps k ≡ Some p → BeginsAlone v bytes p.content.slots → Led v bytes k ps
 led_from v bytes k [] p h e start = absurd (cc)
-led_from v bytes zero (x ∷ ps) p h e start = subst (λ (z : Pair). BeginsWithSuperblockSlot v bytes z.content.slots) (sym (same_Some x p e)) start
+led_from v bytes zero (x ∷ ps) p h e start = subst (λ (z : Pair). BeginsAlone v bytes z.content.slots) (sym (same_Some x p e)) start
 led_from v bytes (suc k) (x ∷ ps) p h e start = (h.0, led_from v bytes k ps p h.1 e start)
 
 led_linked : (v : AcceptedVersions) (bytes : List ℕ) (k : ℕ) (ps : List Pair) → Led v bytes k ps → Linked v bytes k ps
@@ -92,9 +92,9 @@ led_linked v bytes k [] l = absurd l
 led_linked v bytes zero (p ∷ ps) l = tt
 led_linked v bytes (suc k) (p ∷ ps) l = (l.0, led_linked v bytes k ps l.1)
 
-led_start : (v : AcceptedVersions) (bytes : List ℕ) (k : ℕ) (ps : List Pair) (p : Pair) → Led v bytes k ps → slice_get ps k ≡ Some p → BeginsWithSuperblockSlot v bytes p.content.slots
+led_start : (v : AcceptedVersions) (bytes : List ℕ) (k : ℕ) (ps : List Pair) (p : Pair) → Led v bytes k ps → slice_get ps k ≡ Some p → BeginsAlone v bytes p.content.slots
 led_start v bytes k [] p l e = absurd l
-led_start v bytes zero (x ∷ ps) p l e = subst (λ (z : Pair). BeginsWithSuperblockSlot v bytes z.content.slots) (same_Some x p e) l
+led_start v bytes zero (x ∷ ps) p l e = subst (λ (z : Pair). BeginsAlone v bytes z.content.slots) (same_Some x p e) l
 led_start v bytes (suc k) (x ∷ ps) p l e = led_start v bytes k ps p l.1 e
 
 dropped : (ps : List Pair) (k : ℕ) (p : Pair) → slice_get ps k ≡ Some p → drop k ps ≡ p ∷ drop (suc k) ps
@@ -102,7 +102,7 @@ dropped [] k p e = absurd (cc)
 dropped (x ∷ ps) zero p e = ap (λ (z : Pair). z ∷ ps) (same_Some x p e)
 dropped (x ∷ ps) (suc k) p e = dropped ps k p e
 
-led_meets : (v : AcceptedVersions) (bytes : List ℕ) (k : ℕ) (ps : List Pair) → Led v bytes k ps → has_superblock_in_first_nonempty_pair (drop k ps) ≡ true
+led_meets : (v : AcceptedVersions) (bytes : List ℕ) (k : ℕ) (ps : List Pair) → Led v bytes k ps → has_superblock (drop k ps) ≡ true
 led_meets v bytes k [] l = absurd l
 led_meets v bytes zero (p ∷ ps) l = meets_starting p ps (starts_so v bytes p.content.slots l)
 led_meets v bytes (suc k) (p ∷ ps) l = led_meets v bytes k ps l.1
@@ -114,8 +114,8 @@ pub record IsWalked (v : AcceptedVersions) (bytes : List ℕ) (ps : List Pair) (
   pub led : Led v bytes root ps
   pub linked : Linked v bytes index ps
   pub below : root ≤ index
-  pub bare : (p : Pair) → slice_get ps index ≡ Some p → (p.content.slots ≡ []) ⊎ BeginsWithSuperblockSlot v bytes p.content.slots
-  pub ends : (p : Pair) → slice_get ps index ≡ Some p → (has_superblock_in_first_nonempty_pair (drop (suc index) ps) && Thread.may_superblock_chain_continue_after_pair p) ≡ false → pair_count_before_root ps ≡ root
+  pub bare : (p : Pair) → slice_get ps index ≡ Some p → (p.content.slots ≡ []) ⊎ BeginsAlone v bytes p.content.slots
+  pub ends : (p : Pair) → slice_get ps index ≡ Some p → (has_superblock (drop (suc index) ps) && Thread.may_continue p) ≡ false → pair_count_before_root ps ≡ root
 
 walked_at : (v : AcceptedVersions) (bytes : List ℕ) (k : ℕ) (ps : List Pair) → Led v bytes k ps → IsWalked v bytes ps k k
 walked_at v bytes k ps l = record {
@@ -137,29 +137,29 @@ few_le n f = go (n == 0) refl (n == 1) refl f
     go false e true g h = let z = eqb-true n 1 g in omega arith
     go false e false g h = absurd (cc)
 
-bare_from : (v : AcceptedVersions) (bytes : List ℕ) (p : Pair) → (p.content.slots ≡ []) ⊎ BeginsWithSuperblockSlot v bytes p.content.slots → (length p.content.slots == 0 || length p.content.slots == 1) ≡ true → HasAtMostSuperblockSlot v bytes p
+bare_from : (v : AcceptedVersions) (bytes : List ℕ) (p : Pair) → (p.content.slots ≡ []) ⊎ BeginsAlone v bytes p.content.slots → (length p.content.slots == 0 || length p.content.slots == 1) ≡ true → HasNothingElse v bytes p
 bare_from v bytes p (inl none) few = inl none
 bare_from v bytes p (inr start) few = go p.content.slots refl start (few_le (length p.content.slots) few)
   where
-    go : (slots : List Slot) → p.content.slots ≡ slots → BeginsWithSuperblockSlot v bytes slots → length p.content.slots ≤ 1 → HasAtMostSuperblockSlot v bytes p
+    go : (slots : List Slot) → p.content.slots ≡ slots → BeginsAlone v bytes slots → length p.content.slots ≤ 1 → HasNothingElse v bytes p
     go [] is k f = absurd k
     go (s ∷ []) is k f = inr (record { slot = s; slots = is; superblock = k.0; struct = k.1 })
     go (s ∷ t ∷ slots) is k f = absurd (let l = ap length is in omega arith)
 
-many_slots : (slots : List Slot) → (length slots == 0 || length slots == 1) ≡ false → has_no_slot_or_only_superblock slots ≡ false
+many_slots : (slots : List Slot) → (length slots == 0 || length slots == 1) ≡ false → has_no_entry slots ≡ false
 many_slots [] f = absurd (let clash : true ≡ false = f in cc)
 many_slots (s ∷ []) f = absurd (let clash : true ≡ false = f in cc)
 many_slots (s ∷ t ∷ slots) f = refl
 
 -- the chain stops at a pair that doesn't lead on
-stops : (p : Pair) → ((length p.content.slots == 0 || length p.content.slots == 1) && is_hard_tail p.content.tail) ≡ false → Thread.may_superblock_chain_continue_after_pair p ≡ false
+stops : (p : Pair) → ((length p.content.slots == 0 || length p.content.slots == 1) && is_hard_tail p.content.tail) ≡ false → Thread.may_continue p ≡ false
 stops p e = go (length p.content.slots == 0 || length p.content.slots == 1) refl e
   where
-    go : (b : Bool) → (length p.content.slots == 0 || length p.content.slots == 1) ≡ b → (b && is_hard_tail p.content.tail) ≡ false → Thread.may_superblock_chain_continue_after_pair p ≡ false
+    go : (b : Bool) → (length p.content.slots == 0 || length p.content.slots == 1) ≡ b → (b && is_hard_tail p.content.tail) ≡ false → Thread.may_continue p ≡ false
     go false f k = ap (λ b. b && is_hard_tail p.content.tail) (many_slots p.content.slots f)
-    go true f k = and_right (has_no_slot_or_only_superblock p.content.slots) (is_hard_tail p.content.tail) k
+    go true f k = and_right (has_no_entry p.content.slots) (is_hard_tail p.content.tail) k
 
-meets_slots : (slots : List Slot) (later : Bool) → (slots ≡ [] → ⊥) → starts_with_superblock_or_default_without_slots slots later ≡ starts_with_superblock slots
+meets_slots : (slots : List Slot) (later : Bool) → (slots ≡ [] → ⊥) → starts_or slots later ≡ starts_superblock slots
 meets_slots [] later some = absurd (some refl)
 meets_slots (s ∷ slots) later some = refl
 
@@ -171,8 +171,8 @@ record IsSplit (v : AcceptedVersions) (bytes : List ℕ) (k : ℕ) (ps : List Pa
   rest : List Pair
   parts : ps ≡ chain ++ p ∷ rest
   chain_is : length chain ≡ k
-  bare : Each (HasAtMostSuperblockSlot v bytes) chain
-  start : BeginsWithSuperblockSlot v bytes p.content.slots
+  bare : Each (HasNothingElse v bytes) chain
+  start : BeginsAlone v bytes p.content.slots
 
 split : (v : AcceptedVersions) (bytes : List ℕ) (k : ℕ) (ps : List Pair) → Led v bytes k ps → IsSplit v bytes k ps
 split v bytes k [] l = absurd l
@@ -191,13 +191,13 @@ some_first : (slots : List Slot) → (slots ≡ [] → ⊥) → (s : Slot) × (s
 some_first [] some = absurd (some refl)
 some_first (s ∷ slots) some = (s, refl)
 
-starting_some : (slots : List Slot) → starts_with_superblock slots ≡ true → slots ≡ [] → ⊥
+starting_some : (slots : List Slot) → starts_superblock slots ≡ true → slots ≡ [] → ⊥
 starting_some [] h e = cc
 starting_some (s ∷ slots) h e = cc
 
-starting_so : (v : AcceptedVersions) (bytes : List ℕ) (slots : List Slot) (s : Slot) → slice_get slots 0 ≡ Some s → starts_with_superblock slots ≡ true → HasSuperblockStruct v bytes s → BeginsWithSuperblockSlot v bytes slots
+starting_so : (v : AcceptedVersions) (bytes : List ℕ) (slots : List Slot) (s : Slot) → slice_get slots 0 ≡ Some s → starts_superblock slots ≡ true → HasStruct v bytes s → BeginsAlone v bytes slots
 starting_so v bytes [] s e starts h = absurd (cc)
-starting_so v bytes (x ∷ slots) s e starts h = (starts, subst (HasSuperblockStruct v bytes) (sym (same_Some x s e)) h)
+starting_so v bytes (x ∷ slots) s e starts h = (starts, subst (HasStruct v bytes) (sym (same_Some x s e)) h)
 
 -- ---- headers
 
@@ -220,10 +220,10 @@ step_at hs index h next low high e f =
 
 -- the same of another geometry, and of blocks and bytes that are the same
 pub same_block : (was now : Geometry) (blocks then : Blocks) (bytes read : List ℕ) (h : PairHeader) (o : Option Bool) → now ≡ was → then ≡ blocks → read ≡ bytes
-    → block_repeats_superblock now.profile.versions read (block_bytes_by_number then h.active) ≡ o → block_repeats_superblock was.profile.versions bytes (block_bytes_by_number blocks h.active) ≡ o
+    → repeats_superblock now.profile.versions read (block_bytes then h.active) ≡ o → repeats_superblock was.profile.versions bytes (block_bytes blocks h.active) ≡ o
 same_block was now blocks then bytes read h o g b r f =
-    ap₂ (λ (x : Blocks) (y : List ℕ). block_repeats_superblock was.profile.versions y (block_bytes_by_number x h.active)) (sym b) (sym r)
-    ∙ ap (λ (x : Geometry). block_repeats_superblock x.profile.versions read (block_bytes_by_number then h.active)) (sym g) ∙ f
+    ap₂ (λ (x : Blocks) (y : List ℕ). repeats_superblock was.profile.versions y (block_bytes x h.active)) (sym b) (sym r)
+    ∙ ap (λ (x : Geometry). repeats_superblock x.profile.versions read (block_bytes then h.active)) (sym g) ∙ f
 
 -- the first one of a pair that has a slot, with pairs of the chain in front of it
 record IsFilled (disk : Disk) (hs : List PairHeader) (k : ℕ) (bytes : List ℕ) : Type 0 where
@@ -232,7 +232,7 @@ record IsFilled (disk : Disk) (hs : List PairHeader) (k : ℕ) (bytes : List ℕ
   some : (pair_of disk header).content.slots ≡ [] → ⊥
   linked : Linked disk.profile.versions bytes k (pairs_of_headers disk hs)
   rest : List Pair
-  from : pairs_from_first_with_slots (pairs_of_headers disk hs) ≡ pair_of disk header ∷ rest
+  from : from_first_slots (pairs_of_headers disk hs) ≡ pair_of disk header ∷ rest
 
 no_slots : (slots : List Slot) → length slots ≡ 0 → slots ≡ []
 no_slots [] e = refl
@@ -242,23 +242,23 @@ filled_slots : (slots : List Slot) → (slots ≡ [] → ⊥) → has_slots slot
 filled_slots [] some = absurd (some refl)
 filled_slots (s ∷ slots) some = refl
 
-filled : (disk : Disk) (history : List DeviceCallEvent) (bytes : List ℕ) (hs : List PairHeader) (k : ℕ) → ArePairHeadersOnDisk disk history hs → number_of_first_pair_with_nonzero_slot_count hs ≡ Some k → IsFilled disk hs k bytes
+filled : (disk : Disk) (history : List CallEvent) (bytes : List ℕ) (hs : List PairHeader) (k : ℕ) → AreHeaders disk history hs → first_filled hs ≡ Some k → IsFilled disk hs k bytes
 filled disk history bytes [] k each e = absurd (cc)
 filled disk history bytes (x ∷ hs) k each e =
-    go (x.slot_count == 0) refl (is_hard_tail (option_map tail_view x.tail)) refl (number_of_first_pair_with_nonzero_slot_count hs) refl e (λ j f. filled disk history bytes hs j each.1 f)
+    go (x.slot_count == 0) refl (is_hard_tail (option_map tail_view x.tail)) refl (first_filled hs) refl e (λ j f. filled disk history bytes hs j each.1 f)
   where
     seen : IsSeen disk x
     seen = seen_from disk history x each.0
 
-    go : (a : Bool) → (x.slot_count == 0) ≡ a → (b : Bool) → is_hard_tail (option_map tail_view x.tail) ≡ b → (o : Option ℕ) → number_of_first_pair_with_nonzero_slot_count hs ≡ o
-        → cond a (cond b (option_map (λ n. suc n) o) None) (Some 0) ≡ Some k → ((j : ℕ) → number_of_first_pair_with_nonzero_slot_count hs ≡ Some j → IsFilled disk hs j bytes) → IsFilled disk (x ∷ hs) k bytes
+    go : (a : Bool) → (x.slot_count == 0) ≡ a → (b : Bool) → is_hard_tail (option_map tail_view x.tail) ≡ b → (o : Option ℕ) → first_filled hs ≡ o
+        → cond a (cond b (option_map (λ n. suc n) o) None) (Some 0) ≡ Some k → ((j : ℕ) → first_filled hs ≡ Some j → IsFilled disk hs j bytes) → IsFilled disk (x ∷ hs) k bytes
     go false n b hard o f is next = subst (λ i. IsFilled disk (x ∷ hs) i bytes) (same_Some 0 k is) (record {
       header = x;
       here = refl;
       some = some;
       linked = tt;
       rest = pairs_of_headers disk hs;
-      from = ap (λ t. cond t (pair_of disk x ∷ pairs_of_headers disk hs) (pairs_from_first_with_slots (pairs_of_headers disk hs))) (filled_slots (pair_of disk x).content.slots some);
+      from = ap (λ t. cond t (pair_of disk x ∷ pairs_of_headers disk hs) (from_first_slots (pairs_of_headers disk hs))) (filled_slots (pair_of disk x).content.slots some);
     })
       where
         some : (pair_of disk x).content.slots ≡ [] → ⊥
@@ -271,31 +271,31 @@ filled disk history bytes (x ∷ hs) k each e =
       some = (next j f).some;
       linked = ((inl empty, sym seen.hard ∙ hard), (next j f).linked);
       rest = (next j f).rest;
-      from = ap (λ z. cond (has_slots z) (pair_of disk x ∷ pairs_of_headers disk hs) (pairs_from_first_with_slots (pairs_of_headers disk hs))) empty ∙ (next j f).from;
+      from = ap (λ z. cond (has_slots z) (pair_of disk x ∷ pairs_of_headers disk hs) (from_first_slots (pairs_of_headers disk hs))) empty ∙ (next j f).from;
     })
       where
         empty : (pair_of disk x).content.slots ≡ []
         empty = no_slots (pair_of disk x).content.slots (sym seen.count ∙ eqb-true x.slot_count 0 n)
 
-none_filled : (disk : Disk) (history : List DeviceCallEvent) (hs : List PairHeader) → ArePairHeadersOnDisk disk history hs → number_of_first_pair_with_nonzero_slot_count hs ≡ None → has_superblock_in_first_nonempty_pair (pairs_of_headers disk hs) ≡ false
+none_filled : (disk : Disk) (history : List CallEvent) (hs : List PairHeader) → AreHeaders disk history hs → first_filled hs ≡ None → has_superblock (pairs_of_headers disk hs) ≡ false
 none_filled disk history [] each e = refl
-none_filled disk history (x ∷ hs) each e = go (x.slot_count == 0) refl (is_hard_tail (option_map tail_view x.tail)) refl (number_of_first_pair_with_nonzero_slot_count hs) refl e (λ f. none_filled disk history hs each.1 f)
+none_filled disk history (x ∷ hs) each e = go (x.slot_count == 0) refl (is_hard_tail (option_map tail_view x.tail)) refl (first_filled hs) refl e (λ f. none_filled disk history hs each.1 f)
   where
     seen : IsSeen disk x
     seen = seen_from disk history x each.0
 
-    go : (a : Bool) → (x.slot_count == 0) ≡ a → (b : Bool) → is_hard_tail (option_map tail_view x.tail) ≡ b → (o : Option ℕ) → number_of_first_pair_with_nonzero_slot_count hs ≡ o
-        → cond a (cond b (option_map (λ n. suc n) o) None) (Some 0) ≡ None → (number_of_first_pair_with_nonzero_slot_count hs ≡ None → has_superblock_in_first_nonempty_pair (pairs_of_headers disk hs) ≡ false) → has_superblock_in_first_nonempty_pair (pairs_of_headers disk (x ∷ hs)) ≡ false
+    go : (a : Bool) → (x.slot_count == 0) ≡ a → (b : Bool) → is_hard_tail (option_map tail_view x.tail) ≡ b → (o : Option ℕ) → first_filled hs ≡ o
+        → cond a (cond b (option_map (λ n. suc n) o) None) (Some 0) ≡ None → (first_filled hs ≡ None → has_superblock (pairs_of_headers disk hs) ≡ false) → has_superblock (pairs_of_headers disk (x ∷ hs)) ≡ false
     go false n b hard o f is next = absurd (cc)
     go true n true hard (Some j) f is next = absurd (cc)
     go true n true hard None f is next = empty ∙ ap (λ b. is_hard_tail (pair_of disk x).content.tail && b) (next f) ∙ and_right (is_hard_tail (pair_of disk x).content.tail) false refl
       where
-        empty : has_superblock_in_first_nonempty_pair (pairs_of_headers disk (x ∷ hs)) ≡ (is_hard_tail (pair_of disk x).content.tail && has_superblock_in_first_nonempty_pair (pairs_of_headers disk hs))
-        empty = ap (λ z. starts_with_superblock_or_default_without_slots z (is_hard_tail (pair_of disk x).content.tail && has_superblock_in_first_nonempty_pair (pairs_of_headers disk hs))) (no_slots (pair_of disk x).content.slots (sym seen.count ∙ eqb-true x.slot_count 0 n))
-    go true n false hard o f is next = empty ∙ ap (λ b. b && has_superblock_in_first_nonempty_pair (pairs_of_headers disk hs)) (sym seen.hard ∙ hard)
+        empty : has_superblock (pairs_of_headers disk (x ∷ hs)) ≡ (is_hard_tail (pair_of disk x).content.tail && has_superblock (pairs_of_headers disk hs))
+        empty = ap (λ z. starts_or z (is_hard_tail (pair_of disk x).content.tail && has_superblock (pairs_of_headers disk hs))) (no_slots (pair_of disk x).content.slots (sym seen.count ∙ eqb-true x.slot_count 0 n))
+    go true n false hard o f is next = empty ∙ ap (λ b. b && has_superblock (pairs_of_headers disk hs)) (sym seen.hard ∙ hard)
       where
-        empty : has_superblock_in_first_nonempty_pair (pairs_of_headers disk (x ∷ hs)) ≡ (is_hard_tail (pair_of disk x).content.tail && has_superblock_in_first_nonempty_pair (pairs_of_headers disk hs))
-        empty = ap (λ z. starts_with_superblock_or_default_without_slots z (is_hard_tail (pair_of disk x).content.tail && has_superblock_in_first_nonempty_pair (pairs_of_headers disk hs))) (no_slots (pair_of disk x).content.slots (sym seen.count ∙ eqb-true x.slot_count 0 n))
+        empty : has_superblock (pairs_of_headers disk (x ∷ hs)) ≡ (is_hard_tail (pair_of disk x).content.tail && has_superblock (pairs_of_headers disk hs))
+        empty = ap (λ z. starts_or z (is_hard_tail (pair_of disk x).content.tail && has_superblock (pairs_of_headers disk hs))) (no_slots (pair_of disk x).content.slots (sym seen.count ∙ eqb-true x.slot_count 0 n))
 
 with_true : (b : Bool) → (b && true) ≡ b
 with_true true = refl
@@ -307,7 +307,7 @@ turned true false = refl
 turned false true = refl
 turned false false = refl
 
-module _ (disk : Disk) (history : List DeviceCallEvent) (hs : List PairHeader) (has : AreHeadersOfDiskThread disk history hs) where
+module _ (disk : Disk) (history : List CallEvent) (hs : List PairHeader) (has : AreThreadHeaders disk history hs) where
   abbrev ps : List Pair
   ps = pairs_of_headers disk hs
 
@@ -316,13 +316,13 @@ module _ (disk : Disk) (history : List DeviceCallEvent) (hs : List PairHeader) (
 
   -- ---- one step
 
-  leads_seen : (h : PairHeader) → IsSeen disk h → superblock_chain_may_continue_after h ≡ ((length (pair_of disk h).content.slots == 0 || length (pair_of disk h).content.slots == 1) && is_hard_tail (pair_of disk h).content.tail)
+  leads_seen : (h : PairHeader) → IsSeen disk h → may_continue_after h ≡ ((length (pair_of disk h).content.slots == 0 || length (pair_of disk h).content.slots == 1) && is_hard_tail (pair_of disk h).content.tail)
   leads_seen h seen = ap₂ (λ n b. (n == 0 || n == 1) && b) seen.count seen.hard
 
   -- the chain stops at a pair that doesn't lead on
-  pub halts : (bytes : List ℕ) (root index : ℕ) (h : PairHeader) → slice_get hs index ≡ Some h → IsWalked v bytes ps root index → superblock_chain_may_continue_after h ≡ false → pair_count_before_root ps ≡ root
+  pub halts : (bytes : List ℕ) (root index : ℕ) (h : PairHeader) → slice_get hs index ≡ Some h → IsWalked v bytes ps root index → may_continue_after h ≡ false → pair_count_before_root ps ≡ root
   halts bytes root index h here w e = w.ends (pair_of disk h) (pair_at disk hs index h here)
-      (and_right (has_superblock_in_first_nonempty_pair (drop (suc index) ps)) (Thread.may_superblock_chain_continue_after_pair (pair_of disk h)) (stops (pair_of disk h) (sym (leads_seen h (header_at disk history hs index h has.each here)) ∙ e)))
+      (and_right (has_superblock (drop (suc index) ps)) (Thread.may_continue (pair_of disk h)) (stops (pair_of disk h) (sym (leads_seen h (header_at disk history hs index h has.each here)) ∙ e)))
 
   module _ (bytes : List ℕ) (root index : ℕ) (h next : PairHeader) (s : IsStep hs index h next) (walked : IsWalked v bytes ps root (index - 1)) where
     abbrev p : Pair
@@ -346,16 +346,16 @@ module _ (disk : Disk) (history : List DeviceCallEvent) (hs : List PairHeader) (
     abbrev seen_next : IsSeen disk next
     seen_next = header_at disk history hs (suc s.k) next has.each s.there
 
-    repeats : block_repeats_superblock v bytes (block_bytes_on_disk disk next.active) ≡ first_slot_repeats_superblock v bytes seen_next.held.slots
-    repeats = ap (option_and_then (λ c. first_slot_repeats_superblock v bytes c.slots)) seen_next.log
+    repeats : repeats_superblock v bytes (disk_block disk next.active) ≡ first_repeats_superblock v bytes seen_next.held.slots
+    repeats = ap (option_and_then (λ c. first_repeats_superblock v bytes c.slots)) seen_next.log
 
     pub within : next.active < block_count disk
     within = seen_next.active
 
-    leads_is : superblock_chain_may_continue_after h ≡ ((length p.content.slots == 0 || length p.content.slots == 1) && is_hard_tail p.content.tail)
+    leads_is : may_continue_after h ≡ ((length p.content.slots == 0 || length p.content.slots == 1) && is_hard_tail p.content.tail)
     leads_is = leads_seen h seen
 
-    module _ (leads : superblock_chain_may_continue_after h ≡ true) where
+    module _ (leads : may_continue_after h ≡ true) where
       link : IsLink v bytes p
       link =
           let both = and_parts (length p.content.slots == 0 || length p.content.slots == 1) (is_hard_tail p.content.tail) (sym leads_is ∙ leads) in
@@ -364,11 +364,11 @@ module _ (disk : Disk) (history : List DeviceCallEvent) (hs : List PairHeader) (
       linked : Linked v bytes (suc s.k) ps
       linked = linked_more v bytes s.k ps p w.linked p_at link
 
-      goes : (has_superblock_in_first_nonempty_pair (drop (suc s.k) ps) && Thread.may_superblock_chain_continue_after_pair p) ≡ has_superblock_in_first_nonempty_pair (drop (suc s.k) ps)
-      goes = ap (λ b. has_superblock_in_first_nonempty_pair (drop (suc s.k) ps) && b) (link_leads v bytes p link) ∙ with_true (has_superblock_in_first_nonempty_pair (drop (suc s.k) ps))
+      goes : (has_superblock (drop (suc s.k) ps) && Thread.may_continue p) ≡ has_superblock (drop (suc s.k) ps)
+      goes = ap (λ b. has_superblock (drop (suc s.k) ps) && b) (link_leads v bytes p link) ∙ with_true (has_superblock (drop (suc s.k) ps))
 
-      meets : has_superblock_in_first_nonempty_pair (drop (suc s.k) ps) ≡ starts_with_superblock_or_default_without_slots q.content.slots (is_hard_tail q.content.tail && has_superblock_in_first_nonempty_pair (drop (suc (suc s.k)) ps))
-      meets = ap has_superblock_in_first_nonempty_pair (dropped ps (suc s.k) q q_at)
+      meets : has_superblock (drop (suc s.k) ps) ≡ starts_or q.content.slots (is_hard_tail q.content.tail && has_superblock (drop (suc (suc s.k)) ps))
+      meets = ap has_superblock (dropped ps (suc s.k) q q_at)
 
       -- no slot
       pub passes : next.slot_count ≡ 0 → IsWalked v bytes ps root (index + 1 - 1)
@@ -377,9 +377,9 @@ module _ (disk : Disk) (history : List DeviceCallEvent) (hs : List PairHeader) (
         linked = linked;
         below = (let b = w.below in omega arith);
         bare = λ x e. inl (subst (λ (z : Pair). z.content.slots ≡ []) (same_Some q x (sym q_at ∙ e)) empty);
-        ends = λ x e k. w.ends p p_at (goes ∙ meets ∙ ap (λ z. starts_with_superblock_or_default_without_slots z (is_hard_tail q.content.tail && has_superblock_in_first_nonempty_pair (drop (suc (suc s.k)) ps))) empty ∙ turned (is_hard_tail q.content.tail) (has_superblock_in_first_nonempty_pair (drop (suc (suc s.k)) ps))
-            ∙ ap (λ z. has_superblock_in_first_nonempty_pair (drop (suc (suc s.k)) ps) && (has_no_slot_or_only_superblock z && is_hard_tail q.content.tail)) (sym empty)
-            ∙ ap (λ (z : Pair). has_superblock_in_first_nonempty_pair (drop (suc (suc s.k)) ps) && Thread.may_superblock_chain_continue_after_pair z) (same_Some q x (sym q_at ∙ e)) ∙ k);
+        ends = λ x e k. w.ends p p_at (goes ∙ meets ∙ ap (λ z. starts_or z (is_hard_tail q.content.tail && has_superblock (drop (suc (suc s.k)) ps))) empty ∙ turned (is_hard_tail q.content.tail) (has_superblock (drop (suc (suc s.k)) ps))
+            ∙ ap (λ z. has_superblock (drop (suc (suc s.k)) ps) && (has_no_entry z && is_hard_tail q.content.tail)) (sym empty)
+            ∙ ap (λ (z : Pair). has_superblock (drop (suc (suc s.k)) ps) && Thread.may_continue z) (same_Some q x (sym q_at ∙ e)) ∙ k);
       })
         where
           empty : q.content.slots ≡ []
@@ -389,21 +389,21 @@ module _ (disk : Disk) (history : List DeviceCallEvent) (hs : List PairHeader) (
       some filled e = filled (seen_next.count ∙ ap length e)
 
       -- the superblock again
-      pub more : block_repeats_superblock v bytes (block_bytes_on_disk disk next.active) ≡ Some true → IsWalked v bytes ps index (index + 1 - 1)
+      pub more : repeats_superblock v bytes (disk_block disk next.active) ≡ Some true → IsWalked v bytes ps index (index + 1 - 1)
       more is = subst (IsWalked v bytes ps index) (omega arith) (subst (λ n. IsWalked v bytes ps n n) (sym s.is) (walked_at v bytes (suc s.k) ps
           (led_from v bytes (suc s.k) ps q linked q_at (repeats_true v bytes seen_next.held.slots q.content.slots seen_next.slots (sym repeats ∙ is)))))
 
       -- other slots
-      pub ends : (next.slot_count ≡ 0 → ⊥) → block_repeats_superblock v bytes (block_bytes_on_disk disk next.active) ≡ Some false → pair_count_before_root ps ≡ root
-      ends filled is = w.ends p p_at (goes ∙ meets ∙ meets_slots q.content.slots (is_hard_tail q.content.tail && has_superblock_in_first_nonempty_pair (drop (suc (suc s.k)) ps)) (some filled)
+      pub ends : (next.slot_count ≡ 0 → ⊥) → repeats_superblock v bytes (disk_block disk next.active) ≡ Some false → pair_count_before_root ps ≡ root
+      ends filled is = w.ends p p_at (goes ∙ meets ∙ meets_slots q.content.slots (is_hard_tail q.content.tail && has_superblock (drop (suc (suc s.k)) ps)) (some filled)
           ∙ repeats_false v bytes seen_next.held.slots q.content.slots seen_next.slots (sym repeats ∙ is))
 
       -- a superblock with another struct
-      pub differs : IsFirstStruct ps bytes → block_repeats_superblock v bytes (block_bytes_on_disk disk next.active) ≡ None → BreaksPairs disk ps (violation.OtherSuperblock next.blocks)
+      pub differs : IsFirstStruct ps bytes → repeats_superblock v bytes (disk_block disk next.active) ≡ None → BreaksPairs disk ps (violation.OtherSuperblock next.blocks)
       differs first is =
           let other = repeats_none v bytes seen_next.held.slots q.content.slots seen_next.slots (sym repeats ∙ is) in
           let own = some_first q.content.slots (starting_some q.content.slots other.0) in
-          let before = linked_before v bytes (suc s.k) ps linked (meets ∙ meets_slots q.content.slots (is_hard_tail q.content.tail && has_superblock_in_first_nonempty_pair (drop (suc (suc s.k)) ps)) (starting_some q.content.slots other.0) ∙ other.0) in
+          let before = linked_before v bytes (suc s.k) ps linked (meets ∙ meets_slots q.content.slots (is_hard_tail q.content.tail && has_superblock (drop (suc (suc s.k)) ps)) (starting_some q.content.slots other.0) ∙ other.0) in
           record {
             index = suc s.k;
             pair = q;
@@ -421,14 +421,14 @@ module _ (disk : Disk) (history : List DeviceCallEvent) (hs : List PairHeader) (
 
   -- ---- the first header of a pair that has a slot, as it is read
 
-  pub no_superblock : number_of_first_pair_with_nonzero_slot_count hs ≡ None → BreaksPairs disk ps violation.NoSuperblock
-  no_superblock none = go (starts_with_superblock (first_pair_slots (pairs_from_root_directory_on ps))) refl
+  pub no_superblock : first_filled hs ≡ None → BreaksPairs disk ps violation.NoSuperblock
+  no_superblock none = go (starts_superblock (first_slots (pairs_from_root ps))) refl
     where
-      go : (b : Bool) → starts_with_superblock (first_pair_slots (pairs_from_root_directory_on ps)) ≡ b → b ≡ false
+      go : (b : Bool) → starts_superblock (first_slots (pairs_from_root ps)) ≡ b → b ≡ false
       go true starts = absurd (let e = sym (meets_from ps starts) ∙ none_filled disk history hs has.each none in cc)
       go false starts = refl
 
-  module _ (k : ℕ) (found : number_of_first_pair_with_nonzero_slot_count hs ≡ Some k) where
+  module _ (k : ℕ) (found : first_filled hs ≡ Some k) where
     pub within_first : k < length hs
     within_first = let f = filled disk history [] hs k has.each found in slice_get_within hs k f.header f.here
 
@@ -457,25 +457,25 @@ module _ (disk : Disk) (history : List DeviceCallEvent) (hs : List PairHeader) (
       linked_first : (bytes : List ℕ) → Linked v bytes k ps
       linked_first bytes = (f bytes).linked
 
-      from : pairs_from_first_with_slots ps ≡ pair_of disk h ∷ (f []).rest
+      from : from_first_slots ps ≡ pair_of disk h ∷ (f []).rest
       from = (f []).from ∙ ap (λ (x : PairHeader). pair_of disk x ∷ (f []).rest) (same_header [])
 
       some_slot : (pair_of disk h).content.slots ≡ [] → ⊥
       some_slot = subst (λ (x : PairHeader). (pair_of disk x).content.slots ≡ [] → ⊥) (same_header []) (f []).some
 
-      held_first : current_block_of_pair_at disk (first_pair_address (pairs_from_first_with_slots ps)) ≡ Some (block_bytes_on_disk disk h.active)
-      held_first = ap (λ (qs : List Pair). current_block_of_pair_at disk (first_pair_address qs)) from ∙ first_seen.holds
+      held_first : current_block disk (first_address (from_first_slots ps)) ≡ Some (disk_block disk h.active)
+      held_first = ap (λ (qs : List Pair). current_block disk (first_address qs)) from ∙ first_seen.holds
 
       -- the superblock that its block has
       abbrev pub HasFound : List ℕ → Type 0
-      HasFound bytes = IsSuperblockStructInBlock disk h.active bytes
+      HasFound bytes = IsBlockStruct disk h.active bytes
 
       is_first : (bytes : List ℕ) → HasFound bytes → IsFirst v disk.block_size (block_count disk) bytes (pair_of disk h).content.slots
       is_first bytes s =
           first_found v disk.block_size (block_count disk) first_seen.held.slots (pair_of disk h).content.slots bytes first_seen.slots
-          (sym (ap (option_and_then (λ c. superblock_struct_in_first_slot v disk.block_size (block_count disk) c.slots)) first_seen.log) ∙ s.struct)
+          (sym (ap (option_and_then (λ c. first_slot_struct v disk.block_size (block_count disk) c.slots)) first_seen.log) ∙ s.struct)
 
-      struct_read : (bytes : List ℕ) → HasFound bytes → IsSuperblockStruct disk bytes
+      struct_read : (bytes : List ℕ) → HasFound bytes → IsSuperblock disk bytes
       struct_read bytes s = struct_described disk bytes (is_first bytes s).describes
 
       pub found_length : (bytes : List ℕ) → HasFound bytes → length bytes ≡ 24
@@ -487,23 +487,23 @@ module _ (disk : Disk) (history : List DeviceCallEvent) (hs : List PairHeader) (
 
       -- ---- it has none
 
-      at_first : first_address_with_slots ps ≡ pair_address_of_array h.blocks
-      at_first = ap first_pair_address from
+      at_first : first_filled_address ps ≡ array_address h.blocks
+      at_first = ap first_address from
 
       -- the log begins with another entry
-      pub other_entry : (BeginsWithLogEntry (Some (block_bytes_on_disk disk h.active)) superblock_name_log_entry → ⊥) → BreaksPairs disk ps (violation.FirstEntry h.blocks)
-      other_entry not = (at_first, λ begins. not (subst (λ o. BeginsWithLogEntry o superblock_name_log_entry) first_seen.holds begins))
+      pub other_entry : (BeginsWith (Some (disk_block disk h.active)) superblock_entry → ⊥) → BreaksPairs disk ps (violation.FirstEntry h.blocks)
+      other_entry not = (at_first, λ begins. not (subst (λ o. BeginsWith o superblock_entry) first_seen.holds begins))
 
       -- slot 0 is no superblock of the disk
-      pub no_struct : superblock_struct_in_block_log v disk.block_size (block_count disk) (block_bytes_on_disk disk h.active) ≡ None → BreaksPairs disk ps (violation.Superblock h.blocks)
+      pub no_struct : struct_in_log v disk.block_size (block_count disk) (disk_block disk h.active) ≡ None → BreaksPairs disk ps (violation.Superblock h.blocks)
       no_struct none =
           let own = some_first (pair_of disk h).content.slots some_slot in (
             at_first,
             own.0,
             (
-              ap (λ (qs : List Pair). slice_get (first_pair_slots qs) 0) from ∙ own.1,
+              ap (λ (qs : List Pair). slice_get (first_slots qs) 0) from ∙ own.1,
               λ is_so.
-                  let some = ap (option_and_then (λ c. superblock_struct_in_first_slot v disk.block_size (block_count disk) c.slots)) first_seen.log
+                  let some = ap (option_and_then (λ c. first_slot_struct v disk.block_size (block_count disk) c.slots)) first_seen.log
                   ∙ first_is v disk.block_size (block_count disk) first_seen.held.slots (pair_of disk h).content.slots is_so.bytes first_seen.slots (first_of_disk disk (pair_of disk h).content.slots own.0 own.1 is_so) in
                   let clash : Some is_so.bytes ≡ None = sym some ∙ none in cc,
             ),
@@ -518,11 +518,11 @@ module _ (disk : Disk) (history : List DeviceCallEvent) (hs : List PairHeader) (
       pub first_struct : (bytes : List ℕ) → HasFound bytes → IsFirstStruct ps bytes
       first_struct bytes s =
           let own = begins_struct bytes (pair_of disk h).content.slots (is_first bytes s).start in
-          (own.0, (ap (λ (qs : List Pair). slice_get (first_pair_slots qs) 0) from ∙ own.1.0, own.1.1))
+          (own.0, (ap (λ (qs : List Pair). slice_get (first_slots qs) 0) from ∙ own.1.0, own.1.1))
 
       -- ---- the head
 
-      pub head_is : (bytes : List ℕ) (root index : ℕ) → HasFound bytes → IsWalked v bytes ps root index → pair_count_before_root ps ≡ root → HasSuperblockChainOfLength disk ps root
+      pub head_is : (bytes : List ℕ) (root index : ℕ) → HasFound bytes → IsWalked v bytes ps root index → pair_count_before_root ps ≡ root → HasChain disk ps root
       head_is bytes root index s w before =
           let apart = split v bytes root ps w.led in
           let d = is_first bytes s in
@@ -535,9 +535,9 @@ module _ (disk : Disk) (history : List DeviceCallEvent) (hs : List PairHeader) (
             before = before;
             bytes = bytes;
             head = record {
-              first = subst (λ (qs : List Pair). BeginsWithLogEntry (current_block_of_pair_at disk (first_pair_address (pairs_from_first_with_slots qs))) superblock_name_log_entry) apart.parts
-                  (subst (λ o. BeginsWithLogEntry o superblock_name_log_entry) (sym held_first) s.begins);
-              named = ap (λ (qs : List Pair). first_slot_name (pairs_from_first_with_slots qs)) (sym apart.parts) ∙ ap first_slot_name from ∙ d.named;
+              first = subst (λ (qs : List Pair). BeginsWith (current_block disk (first_address (from_first_slots qs))) superblock_entry) apart.parts
+                  (subst (λ o. BeginsWith o superblock_entry) (sym held_first) s.begins);
+              named = ap (λ (qs : List Pair). first_slot_name (from_first_slots qs)) (sym apart.parts) ∙ ap first_slot_name from ∙ d.named;
               struct = struct_read bytes s;
               bare = apart.bare;
               start = apart.start;
@@ -545,7 +545,7 @@ module _ (disk : Disk) (history : List DeviceCallEvent) (hs : List PairHeader) (
           }
 
       -- behind the last pair there is none
-      pub last_is : (bytes : List ℕ) (root index : ℕ) → HasFound bytes → IsWalked v bytes ps root index → suc index ≡ length hs → HasSuperblockChainOfLength disk ps root
+      pub last_is : (bytes : List ℕ) (root index : ℕ) → HasFound bytes → IsWalked v bytes ps root index → suc index ≡ length hs → HasChain disk ps root
       last_is bytes root index s w last = head_is bytes root index s w (go (slice_get ps index) refl)
         where
           none_behind : (qs : List Pair) → length qs ≤ suc index → drop (suc index) qs ≡ []
@@ -563,5 +563,5 @@ module _ (disk : Disk) (history : List DeviceCallEvent) (hs : List PairHeader) (
           beyond (x ∷ qs) (suc n) l e = beyond qs n (omega arith) e
 
           go : (o : Option Pair) → slice_get ps index ≡ o → pair_count_before_root ps ≡ root
-          go (Some p) e = w.ends p e (ap (λ (qs : List Pair). has_superblock_in_first_nonempty_pair qs && Thread.may_superblock_chain_continue_after_pair p) (none_behind ps (let l = length-map hs (pair_of disk) in omega arith)))
+          go (Some p) e = w.ends p e (ap (λ (qs : List Pair). has_superblock qs && Thread.may_continue p) (none_behind ps (let l = length-map hs (pair_of disk) in omega arith)))
           go None e = absurd (beyond ps index (let l = length-map hs (pair_of disk) in omega arith) e)

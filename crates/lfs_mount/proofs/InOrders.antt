@@ -1,19 +1,19 @@
 -- What is read of a disk's pairs doesn't depend on the order of its names.
 use Rattle.std.proofs.Common.{ℕ, List, [], ◌∷◌}
-use Rattle.lfs_model.specs.Disk.{disk_in_order, Disk}
-use Rattle.lfs_model.specs.BlockSets.{BlockStateList}
-use Rattle.lfs_model.specs.History.{DeviceCallEvent}
-use Rattle.lfs_model.specs.Slots.{Gstate}
-use Rattle.lfs_model.specs.View.{IsSuperblockStruct}
+use Rattle.lfs_model.specs.format.Disk.{ordered_disk, Disk}
+use Rattle.lfs_model.specs.layers.BlockSets.{BlockStates}
+use Rattle.lfs_model.specs.session.History.{CallEvent}
+use Rattle.lfs_model.specs.format.Slots.{Gstate}
+use Rattle.lfs_model.specs.tree.View.{IsSuperblock}
 use Rattle.lfs_model.specs.declared.order.NameOrder.{NameOrder}
 use Rattle.lfs_model.specs.declared.violations.Violation.{Violation}
 use Rattle.lfs_model.specs.declared.violations.Violation.TheVariants as violation
-use Rattle.lfs_thread.specs.Kept.{ArePairHeadersOnDisk, PairHeader, IsPairHeaderOnDisk, IsKeptThreadOnDisk, pairs_of_headers}
-use Rattle.lfs_mount.specs.SuperblockChain.{AreHeadersOfDiskThread, BreaksFirstSuperblock, HasSuperblockChainOfLength}
-use Rattle.lfs_mount.specs.Members.{IsThreadReadFromDisk}
+use Rattle.lfs_thread.specs.Kept.{AreHeaders, PairHeader, IsHeader, IsKeptOnDisk, pairs_of_headers}
+use Rattle.lfs_mount.specs.SuperblockChain.{AreThreadHeaders, BreaksFirstSuperblock, HasChain}
+use Rattle.lfs_mount.specs.Members.{IsThreadRead}
 
 module _ (order : NameOrder) (disk : Disk) where
-  header_in : (history : List DeviceCallEvent) (h : PairHeader) → IsPairHeaderOnDisk disk history h → IsPairHeaderOnDisk (disk_in_order order disk) history h
+  header_in : (history : List CallEvent) (h : PairHeader) → IsHeader disk history h → IsHeader (ordered_disk order disk) history h
   header_in history h is = record {
     address = record { apart = is.address.apart; first = is.address.first; second = is.address.second };
     held = is.held;
@@ -29,28 +29,28 @@ module _ (order : NameOrder) (disk : Disk) where
     complete = is.complete;
   }
 
-  headers_in : (history : List DeviceCallEvent) (hs : List PairHeader) → ArePairHeadersOnDisk disk history hs → ArePairHeadersOnDisk (disk_in_order order disk) history hs
+  headers_in : (history : List CallEvent) (hs : List PairHeader) → AreHeaders disk history hs → AreHeaders (ordered_disk order disk) history hs
   headers_in history [] are = tt
   headers_in history (h ∷ hs) are = (header_in history h are.0, headers_in history hs are.1)
 
-  pub has_headers_in : (history : List DeviceCallEvent) (hs : List PairHeader) → AreHeadersOfDiskThread disk history hs → AreHeadersOfDiskThread (disk_in_order order disk) history hs
+  pub has_headers_in : (history : List CallEvent) (hs : List PairHeader) → AreThreadHeaders disk history hs → AreThreadHeaders (ordered_disk order disk) history hs
   has_headers_in history hs has = record { each = headers_in history hs has.each; thread = has.thread }
 
-  pub kept_in : (history : List DeviceCallEvent) (hs : List PairHeader) (sets : BlockStateList) → IsKeptThreadOnDisk disk history hs sets → IsKeptThreadOnDisk (disk_in_order order disk) history hs sets
+  pub kept_in : (history : List CallEvent) (hs : List PairHeader) (sets : BlockStates) → IsKeptOnDisk disk history hs sets → IsKeptOnDisk (ordered_disk order disk) history hs sets
   kept_in history hs sets kept = record { each = headers_in history hs kept.each; links = kept.links; distinct = kept.distinct; size = kept.size; used = kept.used }
 
-  pub read_in : (history : List DeviceCallEvent) (hs : List PairHeader) (sets : BlockStateList) (g : Gstate) → IsThreadReadFromDisk disk history hs sets g → IsThreadReadFromDisk (disk_in_order order disk) history hs sets g
+  pub read_in : (history : List CallEvent) (hs : List PairHeader) (sets : BlockStates) (g : Gstate) → IsThreadRead disk history hs sets g → IsThreadRead (ordered_disk order disk) history hs sets g
   read_in history hs sets g r = record { kept = kept_in history hs sets r.kept; thread = r.thread; used = r.used; none_in_flight = r.none_in_flight; global = r.global }
 
-  pub first_breaks_in : (h : PairHeader) (broken : Violation) → BreaksFirstSuperblock disk h broken → BreaksFirstSuperblock (disk_in_order order disk) h broken
+  pub first_breaks_in : (h : PairHeader) (broken : Violation) → BreaksFirstSuperblock disk h broken → BreaksFirstSuperblock (ordered_disk order disk) h broken
   first_breaks_in h (violation.FirstEntry pair) b = b
   first_breaks_in h (violation.Superblock pair) b = b
   first_breaks_in h _ b = absurd b
 
-  struct_in : (bytes : List ℕ) → IsSuperblockStruct disk bytes → IsSuperblockStruct (disk_in_order order disk) bytes
+  struct_in : (bytes : List ℕ) → IsSuperblock disk bytes → IsSuperblock (ordered_disk order disk) bytes
   struct_in bytes s = record { len = s.len; version = s.version; block_size = s.block_size; block_count = s.block_count }
 
-  pub head_in : (hs : List PairHeader) (count : ℕ) → HasSuperblockChainOfLength disk (pairs_of_headers disk hs) count → HasSuperblockChainOfLength (disk_in_order order disk) (pairs_of_headers (disk_in_order order disk) hs) count
+  pub head_in : (hs : List PairHeader) (count : ℕ) → HasChain disk (pairs_of_headers disk hs) count → HasChain (ordered_disk order disk) (pairs_of_headers (ordered_disk order disk) hs) count
   head_in hs count h = record {
     chain = h.chain;
     p = h.p;

@@ -5,49 +5,49 @@ use Rattle.std.specs.List.{IsDistinct}
 use Rattle.std.proofs.lemmas.List.{drop-map}
 use Rattle.lfs_model.proofs.Listings.{distinct_right}
 use Rattle.std.proofs.lemmas.Option.{slice_get-get_or}
-use Rattle.lfs_model.specs.BlockSets.{AreExactlyTheInFlightBlocks, AreExactlyTheUsedBlocks, BlockState, BlockStateList}
-use Rattle.lfs_model.specs.BlockSets.BlockState.{Free, InFlight, Used}
-use Rattle.lfs_model.specs.Disk.{Disk, block_count}
-use Rattle.lfs_model.specs.Content.{content_of_pair_at}
-use Rattle.lfs_model.specs.History.{DeviceCallEvent}
-use Rattle.lfs_model.specs.Slots.{Gstate}
-use Rattle.lfs_model.specs.Thread.{IsThreadOfMetadataPairs, ThreadDirectory, Pair, blocks_of_pairs, directories_of_pairs, gstate_of_pairs, is_hard_tail, directories_with_pair_prepended, starts_with_superblock, pair_count_before_root, entries_not_moved}
-use Rattle.lfs_model.specs.Shown.{directories_in_thread}
-use Rattle.lfs_model.proofs.BlockSets.{Contains-occurrence_count_of_number, occurrence_count_of_number-Contains}
+use Rattle.lfs_model.specs.layers.BlockSets.{AreInFlight, AreUsed, BlockState, BlockStates}
+use Rattle.lfs_model.specs.layers.BlockSets.BlockState.{Free, InFlight, Used}
+use Rattle.lfs_model.specs.format.Disk.{Disk, block_count}
+use Rattle.lfs_model.specs.format.Content.{content_at}
+use Rattle.lfs_model.specs.session.History.{CallEvent}
+use Rattle.lfs_model.specs.format.Slots.{Gstate}
+use Rattle.lfs_model.specs.format.Thread.{IsThread, ThreadDirectory, Pair, blocks_of_pairs, pair_directories, pairs_gstate, is_hard_tail, directories_with_pair, starts_superblock, pair_count_before_root, unmoved_entries}
+use Rattle.lfs_model.specs.tree.Shown.{all_directories}
+use Rattle.lfs_model.proofs.BlockSets.{Contains-number_count, number_count-Contains}
 use Rattle.lfs_model.proofs.Superblocks.{pairs_behind}
-use Rattle.lfs_pair.specs.Pair.{pair_address_in_header}
-use Rattle.lfs_thread.specs.Kept.{ArePairHeadersOnDisk, PairHeader, pairs_of_headers}
-use Rattle.lfs_mount.specs.Described.{AreDescriptionsOfPairsOnDisk, IsDescriptionOfPairOnDisk}
-use Rattle.lfs_mount.specs.SuperblockChain.{HasSuperblockChainOfLength}
-use Rattle.lfs_mount.specs.Marking.{HasExactlyTheseUsedBlocks}
-use Rattle.lfs_mount.specs.Members.{AreDirectoryHeadersOfThread, IsThreadReadFromDisk, IsThreadMatchingMapAndDirectoryHeaders, directory_addresses_in_headers, header_has_hard_tail, pair_description_of_header, pair_descriptions_of_headers}
+use Rattle.lfs_pair.specs.Pair.{header_address}
+use Rattle.lfs_thread.specs.Kept.{AreHeaders, PairHeader, pairs_of_headers}
+use Rattle.lfs_mount.specs.Described.{AreDescriptions, IsDescription}
+use Rattle.lfs_mount.specs.SuperblockChain.{HasChain}
+use Rattle.lfs_mount.specs.Marking.{HasUsedBlocks}
+use Rattle.lfs_mount.specs.Members.{AreThreadDirectories, IsThreadRead, IsHeaderThread, header_addresses, has_tail_header, header_description, descriptions_of_headers}
 use Rattle.lfs_mount.proofs.Accepts.{starts_so}
 use Rattle.lfs_mount.proofs.Begins.{begins_distinct}
 use Rattle.lfs_mount.proofs.Headers.{pair_of, seen_from}
 use Rattle.lfs_mount.proofs.Owned.{counted_place, placed_count}
-use Rattle.lfs_model.specs.Steps.{addresses_of_first_pairs_of_directories}
+use Rattle.lfs_model.specs.layers.Steps.{first_pair_addresses}
 
 -- ---- members
 
-member_is : (disk : Disk) (history : List DeviceCallEvent) (g : Gstate) (first : Bool) (h : PairHeader) → ArePairHeadersOnDisk disk history (h ∷ []) → (first ≡ true → starts_with_superblock (pair_of disk h).content.slots ≡ true)
-    → IsDescriptionOfPairOnDisk disk g first (pair_of disk h) (pair_description_of_header g first h)
+member_is : (disk : Disk) (history : List CallEvent) (g : Gstate) (first : Bool) (h : PairHeader) → AreHeaders disk history (h ∷ []) → (first ≡ true → starts_superblock (pair_of disk h).content.slots ≡ true)
+    → IsDescription disk g first (pair_of disk h) (header_description g first h)
 member_is disk history g first h are starts =
     let s = seen_from disk history h are.0 in
     record { at = refl; content = s.content; within = s.active; active = s.holds; hard = s.hard; first = refl; starts = starts; moved = refl }
 
-members_are : (disk : Disk) (history : List DeviceCallEvent) (g : Gstate) (hs : List PairHeader) → ArePairHeadersOnDisk disk history hs → AreDescriptionsOfPairsOnDisk disk g false (pairs_of_headers disk hs) (pair_descriptions_of_headers g false hs)
+members_are : (disk : Disk) (history : List CallEvent) (g : Gstate) (hs : List PairHeader) → AreHeaders disk history hs → AreDescriptions disk g false (pairs_of_headers disk hs) (descriptions_of_headers g false hs)
 members_are disk history g [] are = tt
 members_are disk history g (h ∷ hs) are = (member_is disk history g false h (are.0, tt) (λ e. absurd (cc)), members_are disk history g hs are.1)
 
 abbrev Starts : List Pair → Type 0
 Starts [] = Unit {0}
-Starts (p ∷ ps) = starts_with_superblock p.content.slots ≡ true
+Starts (p ∷ ps) = starts_superblock p.content.slots ≡ true
 
-described : (disk : Disk) (history : List DeviceCallEvent) (g : Gstate) (hs : List PairHeader) → ArePairHeadersOnDisk disk history hs → Starts (pairs_of_headers disk hs) → AreDescriptionsOfPairsOnDisk disk g true (pairs_of_headers disk hs) (pair_descriptions_of_headers g true hs)
+described : (disk : Disk) (history : List CallEvent) (g : Gstate) (hs : List PairHeader) → AreHeaders disk history hs → Starts (pairs_of_headers disk hs) → AreDescriptions disk g true (pairs_of_headers disk hs) (descriptions_of_headers g true hs)
 described disk history g [] are starts = tt
 described disk history g (h ∷ hs) are starts = (member_is disk history g true h (are.0, tt) (λ e. starts), members_are disk history g hs are.1)
 
-headers_drop : (disk : Disk) (history : List DeviceCallEvent) (n : ℕ) (hs : List PairHeader) → ArePairHeadersOnDisk disk history hs → ArePairHeadersOnDisk disk history (drop n hs)
+headers_drop : (disk : Disk) (history : List CallEvent) (n : ℕ) (hs : List PairHeader) → AreHeaders disk history hs → AreHeaders disk history (drop n hs)
 headers_drop disk history zero hs are = are
 headers_drop disk history (suc n) [] are = tt
 headers_drop disk history (suc n) (h ∷ hs) are = headers_drop disk history n hs are.1
@@ -58,36 +58,36 @@ abbrev begins_of : Bool → List Pair → List (ℕ × ℕ)
 begins_of begins [] = []
 begins_of begins (p ∷ ps) = cond begins (p.at ∷ begins_of (not (is_hard_tail p.content.tail)) ps) (begins_of (not (is_hard_tail p.content.tail)) ps)
 
-begins_seen : (disk : Disk) (history : List DeviceCallEvent) (begins : Bool) (hs : List PairHeader) → ArePairHeadersOnDisk disk history hs → directory_addresses_in_headers begins hs ≡ begins_of begins (pairs_of_headers disk hs)
+begins_seen : (disk : Disk) (history : List CallEvent) (begins : Bool) (hs : List PairHeader) → AreHeaders disk history hs → header_addresses begins hs ≡ begins_of begins (pairs_of_headers disk hs)
 begins_seen disk history begins [] are = refl
 begins_seen disk history begins (h ∷ hs) are =
-    let next = begins_seen disk history (not (header_has_hard_tail h)) hs are.1 ∙ ap (λ (b : Bool). begins_of (not b) (pairs_of_headers disk hs)) (seen_from disk history h are.0).hard in
-    ap (λ (xs : List (ℕ × ℕ)). cond begins (pair_address_in_header h ∷ xs) xs) next
+    let next = begins_seen disk history (not (has_tail_header h)) hs are.1 ∙ ap (λ (b : Bool). begins_of (not b) (pairs_of_headers disk hs)) (seen_from disk history h are.0).hard in
+    ap (λ (xs : List (ℕ × ℕ)). cond begins (header_address h ∷ xs) xs) next
 
-begins_listed : (g : Gstate) (ps : List Pair) → addresses_of_first_pairs_of_directories (directories_of_pairs g ps) ≡ begins_of true ps
+begins_listed : (g : Gstate) (ps : List Pair) → first_pair_addresses (pair_directories g ps) ≡ begins_of true ps
 begins_listed g [] = refl
 begins_listed g (p ∷ []) = refl
-begins_listed g (p ∷ q ∷ qs) = go (is_hard_tail p.content.tail) (directories_of_pairs g (q ∷ qs)) (begins_listed g (q ∷ qs))
+begins_listed g (p ∷ q ∷ qs) = go (is_hard_tail p.content.tail) (pair_directories g (q ∷ qs)) (begins_listed g (q ∷ qs))
   where
     more : List (ℕ × ℕ)
     more = begins_of (not (is_hard_tail q.content.tail)) qs
 
-    go : (hard : Bool) (ds : List ThreadDirectory) → addresses_of_first_pairs_of_directories ds ≡ q.at ∷ more → addresses_of_first_pairs_of_directories (directories_with_pair_prepended p.at hard (entries_not_moved g p) ds) ≡ p.at ∷ begins_of (not hard) (q ∷ qs)
+    go : (hard : Bool) (ds : List ThreadDirectory) → first_pair_addresses ds ≡ q.at ∷ more → first_pair_addresses (directories_with_pair p.at hard (unmoved_entries g p) ds) ≡ p.at ∷ begins_of (not hard) (q ∷ qs)
     go hard [] e = absurd (cc)
     go true (d ∷ ds) e = ap (λ (xs : List (ℕ × ℕ)). p.at ∷ drop 1 xs) e
     go false (d ∷ ds) e = ap (λ (xs : List (ℕ × ℕ)). p.at ∷ xs) e
 
 -- ---- the map
 
-owns_from : (sets : BlockStateList) (bs : List ℕ) → IsDistinct nat_eq bs → AreExactlyTheUsedBlocks sets bs → AreExactlyTheInFlightBlocks sets [] → HasExactlyTheseUsedBlocks sets bs
+owns_from : (sets : BlockStates) (bs : List ℕ) → IsDistinct nat_eq bs → AreUsed sets bs → AreInFlight sets [] → HasUsedBlocks sets bs
 owns_from sets bs distinct used none = record {
   distinct = distinct;
-  used = λ i b e. (used b).1 (Contains-occurrence_count_of_number bs b (placed_count b bs i e));
+  used = λ i b e. (used b).1 (Contains-number_count bs b (placed_count b bs i e));
   free = λ b within apart. state b apart (get_or sets b Free) (slice_get-get_or sets b Free within);
 }
   where
     nowhere : (b : ℕ) → ((i : ℕ) → slice_get bs i ≡ Some b → ⊥) → Contains bs b → ⊥
-    nowhere b apart has = let i = counted_place b bs (occurrence_count_of_number-Contains bs b has) in apart i.0 i.1
+    nowhere b apart has = let i = counted_place b bs (number_count-Contains bs b has) in apart i.0 i.1
 
     state : (b : ℕ) → ((i : ℕ) → slice_get bs i ≡ Some b → ⊥) → (s : BlockState) → slice_get sets b ≡ Some s → slice_get sets b ≡ Some Free
     state b apart Free e = e
@@ -96,14 +96,14 @@ owns_from sets bs distinct used none = record {
 
 -- ---- the thread
 
-module _ (disk : Disk) (history : List DeviceCallEvent) (hs : List PairHeader) (sets : BlockStateList) (g : Gstate) (count : ℕ) (r : IsThreadReadFromDisk disk history hs sets g) (head : HasSuperblockChainOfLength disk (pairs_of_headers disk hs) count) where
+module _ (disk : Disk) (history : List CallEvent) (hs : List PairHeader) (sets : BlockStates) (g : Gstate) (count : ℕ) (r : IsThreadRead disk history hs sets g) (head : HasChain disk (pairs_of_headers disk hs) count) where
   abbrev dirs : List PairHeader
   dirs = drop count hs
 
   behind : head.p ∷ head.rest ≡ pairs_of_headers disk dirs
   behind = sym (ap (drop count) head.parts ∙ drop_at head.chain (head.p ∷ head.rest) count head.chain_is) ∙ drop-map (pair_of disk) count hs
 
-  are : ArePairHeadersOnDisk disk history dirs
+  are : AreHeaders disk history dirs
   are = headers_drop disk history count hs r.kept.each
 
   starts : Starts (pairs_of_headers disk dirs)
@@ -112,28 +112,28 @@ module _ (disk : Disk) (history : List DeviceCallEvent) (hs : List PairHeader) (
   chain_behind : pair_count_before_root (head.chain ++ head.p ∷ head.rest) ≡ length head.chain
   chain_behind = ap pair_count_before_root (sym head.parts) ∙ head.before ∙ sym head.chain_is
 
-  places : directory_addresses_in_headers true dirs ≡ addresses_of_first_pairs_of_directories (directories_in_thread (head.chain ++ head.p ∷ head.rest))
+  places : header_addresses true dirs ≡ first_pair_addresses (all_directories (head.chain ++ head.p ∷ head.rest))
   places =
       begins_seen disk history true dirs are ∙ ap (begins_of true) (sym behind)
-      ∙ sym (begins_listed (gstate_of_pairs (head.chain ++ head.p ∷ head.rest)) (head.p ∷ head.rest))
-      ∙ ap (λ (qs : List Pair). addresses_of_first_pairs_of_directories (directories_of_pairs (gstate_of_pairs (head.chain ++ head.p ∷ head.rest)) qs)) (sym (pairs_behind head.chain (head.p ∷ head.rest) chain_behind))
+      ∙ sym (begins_listed (pairs_gstate (head.chain ++ head.p ∷ head.rest)) (head.p ∷ head.rest))
+      ∙ ap (λ (qs : List Pair). first_pair_addresses (pair_directories (pairs_gstate (head.chain ++ head.p ∷ head.rest)) qs)) (sym (pairs_behind head.chain (head.p ∷ head.rest) chain_behind))
 
-  global : g ≡ gstate_of_pairs (head.chain ++ head.p ∷ head.rest)
-  global = r.global ∙ ap gstate_of_pairs head.parts
+  global : g ≡ pairs_gstate (head.chain ++ head.p ∷ head.rest)
+  global = r.global ∙ ap pairs_gstate head.parts
 
-  pub known_thread : IsThreadMatchingMapAndDirectoryHeaders disk sets g dirs head.chain head.p head.rest
+  pub known_thread : IsHeaderThread disk sets g dirs head.chain head.p head.rest
   known_thread = record {
-    thread = subst (IsThreadOfMetadataPairs (content_of_pair_at disk) (block_count disk)) head.parts r.thread;
+    thread = subst (IsThread (content_at disk) (block_count disk)) head.parts r.thread;
     chain_is = chain_behind;
     sets_len = r.kept.size;
-    owns = subst (λ qs. HasExactlyTheseUsedBlocks sets (blocks_of_pairs qs)) head.parts (owns_from sets (blocks_of_pairs (pairs_of_headers disk hs)) r.kept.distinct r.used r.none_in_flight);
-    described = subst (λ qs. AreDescriptionsOfPairsOnDisk disk (gstate_of_pairs (head.chain ++ head.p ∷ head.rest)) true qs (pair_descriptions_of_headers g true dirs)) (sym behind)
-        (subst (λ s. AreDescriptionsOfPairsOnDisk disk s true (pairs_of_headers disk dirs) (pair_descriptions_of_headers g true dirs)) global (described disk history g dirs are starts));
+    owns = subst (λ qs. HasUsedBlocks sets (blocks_of_pairs qs)) head.parts (owns_from sets (blocks_of_pairs (pairs_of_headers disk hs)) r.kept.distinct r.used r.none_in_flight);
+    described = subst (λ qs. AreDescriptions disk (pairs_gstate (head.chain ++ head.p ∷ head.rest)) true qs (descriptions_of_headers g true dirs)) (sym behind)
+        (subst (λ s. AreDescriptions disk s true (pairs_of_headers disk dirs) (descriptions_of_headers g true dirs)) global (described disk history g dirs are starts));
     places = places;
     sync_is = ap (λ (s : Gstate). s.sync) (sym global);
   }
 
-  pub directories_are : AreDirectoryHeadersOfThread disk sets g dirs
+  pub directories_are : AreThreadDirectories disk sets g dirs
   directories_are = record {
     apart = begins_distinct disk dirs (subst (λ qs. IsDistinct nat_eq (blocks_of_pairs qs)) behind (distinct_right head.chain (head.p ∷ head.rest) (subst (λ qs. IsDistinct nat_eq (blocks_of_pairs qs)) head.parts r.kept.distinct)));
     known = (head.chain, head.p, head.rest, known_thread);

@@ -6,36 +6,36 @@ use Rattle.std.proofs.lemmas.List.Concat.{flat_map-append}
 use Rattle.std.proofs.lemmas.List.Elements.{filter_map-append, All-append, All-cons, All-from_recursion, recursion_from_All}
 use Rattle.lfs_model.proofs.Counts.{each_left, each_right}
 use Rattle.std.proofs.lemmas.Option.{slice_get_within, get_or_from_slice_get}
-use Rattle.lfs_model.specs.BlockSets.{BlockStateList}
-use Rattle.lfs_model.specs.Content.{RawSlot}
-use Rattle.lfs_model.specs.Disk.{Disk}
-use Rattle.lfs_model.specs.SkipLists.{IsSkipList}
+use Rattle.lfs_model.specs.layers.BlockSets.{BlockStates}
+use Rattle.lfs_model.specs.format.Content.{RawSlot}
+use Rattle.lfs_model.specs.format.Disk.{Disk}
+use Rattle.lfs_model.specs.format.SkipLists.{IsSkipList}
 use Rattle.lfs_tag.specs.declared.content.Slot.{Slot}
 use Rattle.lfs_tag.specs.ContentView.{slot_view}
-use Rattle.lfs_mount.specs.Entries.{directory_entry_of_raw_slot}
-use Rattle.lfs_mount.specs.Marking.{MarksFreeBlocksUsed, MarksFreeBlocksOfList, MarksFreeBlocksOfLists, skip_list_of_entry, file_lists_of_raw_slots, skip_list_blocks_from_last_to_first}
-use Rattle.lfs_mount.specs.ListsView.{file_lists_view}
+use Rattle.lfs_mount.specs.DirectoryEntries.{raw_slot_entry}
+use Rattle.lfs_mount.specs.Marking.{MarksBlocksUsed, MarksListUsed, MarksListsUsed, list_of_entry, raw_slot_lists, blocks_last_first}
+use Rattle.lfs_mount.specs.ListsView.{lists_view}
 
 -- ---- marks over joined lists
 
-marks_append : (xs ys : List ℕ) (old mid new : BlockStateList) → MarksFreeBlocksUsed old xs mid → MarksFreeBlocksUsed mid ys new → MarksFreeBlocksUsed old (xs ++ ys) new
-marks_append [] ys old mid new e n = subst (λ (s : BlockStateList). MarksFreeBlocksUsed s ys new) (sym e) n
+marks_append : (xs ys : List ℕ) (old mid new : BlockStates) → MarksBlocksUsed old xs mid → MarksBlocksUsed mid ys new → MarksBlocksUsed old (xs ++ ys) new
+marks_append [] ys old mid new e n = subst (λ (s : BlockStates). MarksBlocksUsed s ys new) (sym e) n
 marks_append (x ∷ xs) ys old mid new (free, m) n = (free, marks_append xs ys _ mid new m n)
 
-pub marks_split : (xs ys : List ℕ) (old new : BlockStateList) → MarksFreeBlocksUsed old (xs ++ ys) new → (mid : BlockStateList) × MarksFreeBlocksUsed old xs mid × MarksFreeBlocksUsed mid ys new
+pub marks_split : (xs ys : List ℕ) (old new : BlockStates) → MarksBlocksUsed old (xs ++ ys) new → (mid : BlockStates) × MarksBlocksUsed old xs mid × MarksBlocksUsed mid ys new
 marks_split [] ys old new n = (old, refl, n)
 marks_split (x ∷ xs) ys old new (free, n) = let r = marks_split xs ys _ new n in (r.0, (free, r.1), r.2)
 
 -- lists marked behind others
-pub lists_joined : (disk : Disk) (xs ys : List (ℕ × ℕ)) (old mid new : BlockStateList) → MarksFreeBlocksOfLists disk old xs mid → MarksFreeBlocksOfLists disk mid ys new → MarksFreeBlocksOfLists disk old (xs ++ ys) new
+pub lists_joined : (disk : Disk) (xs ys : List (ℕ × ℕ)) (old mid new : BlockStates) → MarksListsUsed disk old xs mid → MarksListsUsed disk mid ys new → MarksListsUsed disk old (xs ++ ys) new
 lists_joined disk xs ys old mid new h k = record {
   lists = All-append (λ (x : ℕ × ℕ). IsSkipList disk.blocks disk.block_size x.0 x.1) xs ys h.lists k.lists;
-  marked = subst (λ bs. MarksFreeBlocksUsed old bs new) (sym (flat_map-append (skip_list_blocks_from_last_to_first disk) xs ys)) (marks_append (flat_map (skip_list_blocks_from_last_to_first disk) xs) (flat_map (skip_list_blocks_from_last_to_first disk) ys) old mid new h.marked k.marked);
+  marked = subst (λ bs. MarksBlocksUsed old bs new) (sym (flat_map-append (blocks_last_first disk) xs ys)) (marks_append (flat_map (blocks_last_first disk) xs) (flat_map (blocks_last_first disk) ys) old mid new h.marked k.marked);
 }
 
-pub lists_parted : (disk : Disk) (xs ys : List (ℕ × ℕ)) (old new : BlockStateList) → MarksFreeBlocksOfLists disk old (xs ++ ys) new → (mid : BlockStateList) × MarksFreeBlocksOfLists disk old xs mid × MarksFreeBlocksOfLists disk mid ys new
+pub lists_parted : (disk : Disk) (xs ys : List (ℕ × ℕ)) (old new : BlockStates) → MarksListsUsed disk old (xs ++ ys) new → (mid : BlockStates) × MarksListsUsed disk old xs mid × MarksListsUsed disk mid ys new
 lists_parted disk xs ys old new h =
-    let s = marks_split (flat_map (skip_list_blocks_from_last_to_first disk) xs) (flat_map (skip_list_blocks_from_last_to_first disk) ys) old new (subst (λ bs. MarksFreeBlocksUsed old bs new) (flat_map-append (skip_list_blocks_from_last_to_first disk) xs ys) h.marked) in
+    let s = marks_split (flat_map (blocks_last_first disk) xs) (flat_map (blocks_last_first disk) ys) old new (subst (λ bs. MarksBlocksUsed old bs new) (flat_map-append (blocks_last_first disk) xs ys) h.marked) in
     let P : ℕ × ℕ → Type 0 = λ x. IsSkipList disk.blocks disk.block_size x.0 x.1 in
     let all = recursion_from_All P (xs ++ ys) h.lists in
     (s.0, record { lists = All-from_recursion P xs (each_left P xs ys all); marked = s.1 }, record { lists = All-from_recursion P ys (each_right P xs ys all); marked = s.2 })
@@ -43,28 +43,28 @@ lists_parted disk xs ys old new h =
 -- ---- the lists of slots
 
 abbrev pub list_view : Slot → Option (ℕ × ℕ)
-list_view s = option_and_then skip_list_of_entry (directory_entry_of_raw_slot (slot_view s))
+list_view s = option_and_then list_of_entry (raw_slot_entry (slot_view s))
 
-lists-append : (xs ys : List Slot) → file_lists_view (xs ++ ys) ≡ file_lists_view xs ++ file_lists_view ys
-lists-append xs ys = ap file_lists_of_raw_slots (map-append slot_view xs ys) ∙ filter_map-append (λ (s : RawSlot). option_and_then skip_list_of_entry (directory_entry_of_raw_slot s)) (map slot_view xs) (map slot_view ys)
+lists-append : (xs ys : List Slot) → lists_view (xs ++ ys) ≡ lists_view xs ++ lists_view ys
+lists-append xs ys = ap raw_slot_lists (map-append slot_view xs ys) ∙ filter_map-append (λ (s : RawSlot). option_and_then list_of_entry (raw_slot_entry s)) (map slot_view xs) (map slot_view ys)
 
-pub lists_next : (slots : List Slot) (i : ℕ) (s : Slot) (o : Option (ℕ × ℕ)) → slice_get slots i ≡ Some s → list_view s ≡ o → file_lists_view (take (i + 1) slots) ≡ file_lists_view (take i slots) ++ cons_option o []
+pub lists_next : (slots : List Slot) (i : ℕ) (s : Slot) (o : Option (ℕ × ℕ)) → slice_get slots i ≡ Some s → list_view s ≡ o → lists_view (take (i + 1) slots) ≡ lists_view (take i slots) ++ cons_option o []
 lists_next slots i s o e f =
-    ap file_lists_view (take_more slots i s (slice_get_within slots i s e) ∙ ap (λ (t : Slot). take i slots ++ t ∷ []) (get_or_from_slice_get slots i s s e))
+    ap lists_view (take_more slots i s (slice_get_within slots i s e) ∙ ap (λ (t : Slot). take i slots ++ t ∷ []) (get_or_from_slice_get slots i s s e))
     ∙ lists-append (take i slots) (s ∷ [])
-    ∙ ap (λ (p : Option (ℕ × ℕ)). file_lists_view (take i slots) ++ cons_option p []) f
+    ∙ ap (λ (p : Option (ℕ × ℕ)). lists_view (take i slots) ++ cons_option p []) f
 
 -- a slot without a list
-pub lists_stay : (disk : Disk) (slots : List Slot) (i : ℕ) (s : Slot) (old new : BlockStateList) → slice_get slots i ≡ Some s → list_view s ≡ None → MarksFreeBlocksOfLists disk old (file_lists_view (take i slots)) new
-    → MarksFreeBlocksOfLists disk old (file_lists_view (take (i + 1) slots)) new
-lists_stay disk slots i s old new e f h = subst (λ ls. MarksFreeBlocksOfLists disk old ls new) (sym (lists_next slots i s None e f ∙ append-nil (file_lists_view (take i slots)))) h
+pub lists_stay : (disk : Disk) (slots : List Slot) (i : ℕ) (s : Slot) (old new : BlockStates) → slice_get slots i ≡ Some s → list_view s ≡ None → MarksListsUsed disk old (lists_view (take i slots)) new
+    → MarksListsUsed disk old (lists_view (take (i + 1) slots)) new
+lists_stay disk slots i s old new e f h = subst (λ ls. MarksListsUsed disk old ls new) (sym (lists_next slots i s None e f ∙ append-nil (lists_view (take i slots)))) h
 
 -- a slot with one
-pub lists_more : (disk : Disk) (slots : List Slot) (i : ℕ) (s : Slot) (l : ℕ × ℕ) (old mid new : BlockStateList) → slice_get slots i ≡ Some s → list_view s ≡ Some l → MarksFreeBlocksOfLists disk old (file_lists_view (take i slots)) mid
-    → MarksFreeBlocksOfList disk mid l new → MarksFreeBlocksOfLists disk old (file_lists_view (take (i + 1) slots)) new
-lists_more disk slots i s l old mid new e f h k = subst (λ ls. MarksFreeBlocksOfLists disk old ls new) (sym (lists_next slots i s (Some l) e f)) (record {
-  lists = All-append (λ (x : ℕ × ℕ). IsSkipList disk.blocks disk.block_size x.0 x.1) (file_lists_view (take i slots)) (l ∷ []) h.lists
+pub lists_more : (disk : Disk) (slots : List Slot) (i : ℕ) (s : Slot) (l : ℕ × ℕ) (old mid new : BlockStates) → slice_get slots i ≡ Some s → list_view s ≡ Some l → MarksListsUsed disk old (lists_view (take i slots)) mid
+    → MarksListUsed disk mid l new → MarksListsUsed disk old (lists_view (take (i + 1) slots)) new
+lists_more disk slots i s l old mid new e f h k = subst (λ ls. MarksListsUsed disk old ls new) (sym (lists_next slots i s (Some l) e f)) (record {
+  lists = All-append (λ (x : ℕ × ℕ). IsSkipList disk.blocks disk.block_size x.0 x.1) (lists_view (take i slots)) (l ∷ []) h.lists
       (All-cons (λ (x : ℕ × ℕ). IsSkipList disk.blocks disk.block_size x.0 x.1) l [] k.list (λ j d lt. absurd (omega arith)));
-  marked = subst (λ bs. MarksFreeBlocksUsed old bs new) (sym (flat_map-append (skip_list_blocks_from_last_to_first disk) (file_lists_view (take i slots)) (l ∷ []) ∙ ap (λ bs. flat_map (skip_list_blocks_from_last_to_first disk) (file_lists_view (take i slots)) ++ bs) (append-nil (skip_list_blocks_from_last_to_first disk l))))
-      (marks_append (flat_map (skip_list_blocks_from_last_to_first disk) (file_lists_view (take i slots))) (skip_list_blocks_from_last_to_first disk l) old mid new h.marked k.marked);
+  marked = subst (λ bs. MarksBlocksUsed old bs new) (sym (flat_map-append (blocks_last_first disk) (lists_view (take i slots)) (l ∷ []) ∙ ap (λ bs. flat_map (blocks_last_first disk) (lists_view (take i slots)) ++ bs) (append-nil (blocks_last_first disk l))))
+      (marks_append (flat_map (blocks_last_first disk) (lists_view (take i slots))) (blocks_last_first disk l) old mid new h.marked k.marked);
 })

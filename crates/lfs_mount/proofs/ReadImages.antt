@@ -2,29 +2,29 @@
 use Rattle.std.proofs.Common.{◌≡◌, ◌∙◌, List, ap, subst, sym}
 use Rattle.lfs_device.specs.declared.device.BlockDevice.{Ghosts}
 use Rattle.lfs_device.specs.declared.error.Error.TheVariants.{Corrupt}
-use Rattle.lfs_model.specs.BlockSets.{BlockStateList}
-use Rattle.lfs_model.specs.Disk.{Disk, disk_in_order}
-use Rattle.lfs_model.specs.History.{AreCallsSinceOnlyReads, fault_count_of_history}
+use Rattle.lfs_model.specs.layers.BlockSets.{BlockStates}
+use Rattle.lfs_model.specs.format.Disk.{Disk, ordered_disk}
+use Rattle.lfs_model.specs.session.History.{OnlyReadsSince, fault_count}
 use Rattle.lfs_model.specs.declared.order.NameOrder.TheVariants.{LongerFirst}
-use Rattle.lfs_thread.specs.Device.{GivesDeviceBackOnlyReadWithError}
+use Rattle.lfs_thread.specs.ThreadDevice.{GivesDeviceBackOnlyReadWithError}
 use Rattle.lfs_model.specs.declared.order.NameOrder.{NameOrder}
-use Rattle.lfs_thread.specs.Kept.{KeptThread, PairHeader, ThreadView, disk_of_device, kept_thread_in_order, kept_thread_of_device}
-use Rattle.lfs_mount.specs.ReadImage.{IsAcceptedInNameOrders}
+use Rattle.lfs_thread.specs.Kept.{KeptThread, PairHeader, ThreadView, disk_of_device, kept_in_order, kept_of_device}
+use Rattle.lfs_mount.specs.ReadImage.{IsAcceptedIn}
 use Rattle.lfs_mount.specs.declared.orders.OrderViolations.{OrderViolations}
 
 -- the device of a thread that was read, where the image isn't accepted in the order that is wanted
-pub refused_back : {D : Type 0} (g : Ghosts D) (old back : D) (t : ThreadView) (found : OrderViolations) → IsAcceptedInNameOrders (disk_of_device g old) (g.history old) t found
-    → disk_in_order t.kept.disk.order (disk_of_device g back) ≡ t.kept.disk → g.history back ≡ t.kept.history → GivesDeviceBackOnlyReadWithError g old back Corrupt
+pub refused_back : {D : Type 0} (g : Ghosts D) (old back : D) (t : ThreadView) (found : OrderViolations) → IsAcceptedIn (disk_of_device g old) (g.history old) t found
+    → ordered_disk t.kept.disk.order (disk_of_device g back) ≡ t.kept.disk → g.history back ≡ t.kept.history → GivesDeviceBackOnlyReadWithError g old back Corrupt
 refused_back g old back t found read disk history = record {
-  disk = ap (disk_in_order LongerFirst) (disk ∙ read.disk_is);
-  reads = subst (AreCallsSinceOnlyReads (g.blocks old) (g.history old)) (sym history) read.reads;
+  disk = ap (ordered_disk LongerFirst) (disk ∙ read.disk_is);
+  reads = subst (OnlyReadsSince (g.blocks old) (g.history old)) (sym history) read.reads;
   fault = λ is. absurd (cc);
-  no_fault = λ other. ap fault_count_of_history history ∙ read.no_fault;
+  no_fault = λ other. ap fault_count history ∙ read.no_fault;
 }
 
 -- the parts of a thread that was read, whose order is as after a reading
-pub plain_again : {D : Type 0} (g : Ghosts D) (old now : D) (order : NameOrder) (items : List PairHeader) (sets : BlockStateList) (t : KeptThread) → kept_thread_in_order g order now items sets ≡ t → t.disk ≡ disk_of_device g old → kept_thread_of_device g now items sets ≡ t
+pub plain_again : {D : Type 0} (g : Ghosts D) (old now : D) (order : NameOrder) (items : List PairHeader) (sets : BlockStates) (t : KeptThread) → kept_in_order g order now items sets ≡ t → t.disk ≡ disk_of_device g old → kept_of_device g now items sets ≡ t
 plain_again g old now order items sets t same read =
-    ap (λ (k : KeptThread). record k { disk = disk_in_order LongerFirst k.disk }) same
-    ∙ ap (λ (d : Disk). record t { disk = disk_in_order LongerFirst d }) read
+    ap (λ (k : KeptThread). record k { disk = ordered_disk LongerFirst k.disk }) same
+    ∙ ap (λ (d : Disk). record t { disk = ordered_disk LongerFirst d }) read
     ∙ ap (λ (d : Disk). record t { disk = d }) (sym read)

@@ -5,39 +5,39 @@ use Rattle.std.specs.List.{filter_map, cons_option}
 use Rattle.std.proofs.lemmas.Option.{same_Some}
 use Rattle.std.proofs.lemmas.List.Elements.{All-head, All-tail}
 use Rattle.lfs_model.specs.declared.order.NameOrder.{NameOrder}
-use Rattle.lfs_model.specs.Disk.{Disk, block_bytes_on_disk}
-use Rattle.lfs_model.specs.Log.{log_entries_of_block}
-use Rattle.lfs_model.specs.Names.{Name}
-use Rattle.lfs_model.specs.BlockSets.{BlockStateList}
-use Rattle.lfs_model.specs.Content.{RawSlot, RawPairContent, slots_if_names_and_structs_present, pair_content_if_slots_complete, content_after_log_entries, empty_raw_pair_content}
-use Rattle.lfs_model.specs.Slots.{Slot, Gstate, is_superblock, same_pair}
-use Rattle.lfs_model.specs.Thread.{Pair, starts_with_superblock, slots_not_moved, entries_not_moved, is_hard_tail, id_of_moved_slot_in_pair}
-use Rattle.lfs_model.specs.View.{IsFileOrDirectoryEntry}
+use Rattle.lfs_model.specs.format.Disk.{Disk, disk_block}
+use Rattle.lfs_model.specs.format.Log.{block_entries}
+use Rattle.lfs_model.specs.format.Names.{Name}
+use Rattle.lfs_model.specs.layers.BlockSets.{BlockStates}
+use Rattle.lfs_model.specs.format.Content.{RawSlot, RawContent, complete_slots, complete_content, content_after, empty_raw_content}
+use Rattle.lfs_model.specs.format.Slots.{Slot, Gstate, is_superblock, same_pair}
+use Rattle.lfs_model.specs.format.Thread.{Pair, starts_superblock, slots_not_moved, unmoved_entries, is_hard_tail, moved_id}
+use Rattle.lfs_model.specs.tree.View.{IsTreeEntry}
 use Rattle.lfs_model.proofs.Completed.{AreComplete, complete_parts, complete_remove, completed_parts}
 use Rattle.lfs_model.proofs.Counts.{Each}
 use Rattle.lfs_model.proofs.Superblocks.{entry_is_other}
-use Rattle.lfs_mount.specs.Reaching.{DirectoryVertexWithSoundnessAndBranches, DirectoryGraph}
-use Rattle.lfs_mount.specs.Entries.{EntryNameAndReference, name_and_reference_of_slot, directory_entry_of_raw_slot, directory_scan_with_entries, directory_scan_with_entry, empty_directory_scan}
-use Rattle.lfs_mount.specs.Scanned.{directory_scan_after_slots}
-use Rattle.lfs_mount.specs.Marking.{MarksFreeBlocksOfLists, skip_list_of_entry, file_lists_of_raw_slots}
-use Rattle.lfs_mount.specs.Taken.{AddsPairToDirectoryScan, raw_slots_not_moved, slots_after_superblock, slots_of_pair_without_superblock_and_moved}
-use Rattle.lfs_mount.specs.Described.{IsDescriptionOfPairOnDisk, AreDescriptionsOfPairsOnDisk}
-use Rattle.lfs_mount.specs.Passed.{directory_scan_kept_only_after_hard_tail, graph_with_ended_directory, ScansPairsIntoDirectoryGraph}
+use Rattle.lfs_mount.specs.Reaching.{Vertex, DirectoryGraph}
+use Rattle.lfs_mount.specs.DirectoryEntries.{NamedReference, named_reference, raw_slot_entry, scan_with_entries, scan_with_entry, empty_scan}
+use Rattle.lfs_mount.specs.Scanned.{scan_after_slots}
+use Rattle.lfs_mount.specs.Marking.{MarksListsUsed, list_of_entry, raw_slot_lists}
+use Rattle.lfs_mount.specs.Taken.{AddsPair, unmoved_raw_slots, after_superblock, listed_slots}
+use Rattle.lfs_mount.specs.Described.{IsDescription, AreDescriptions}
+use Rattle.lfs_mount.specs.Passed.{scan_kept, graph_with_directory, ScansPairs}
 use Rattle.lfs_mount.specs.declared.pass.PairBeforeSlotsAreRead.{PairBeforeSlotsAreRead}
 use Rattle.std.proofs.Math.Seq.{drop-nil}
 use Rattle.std.specs.List.{flat_map}
-use Rattle.lfs_model.specs.Disk.{block_count}
-use Rattle.lfs_model.specs.Content.{content_of_pair_at}
-use Rattle.lfs_model.specs.Slots.{Tail}
-use Rattle.lfs_model.specs.Thread.{anchor_pair_address, pair_address_named_by_tail, AreLinkedByTails, IsThreadOfMetadataPairs, gstate_of_pairs, pair_count_before_root, pairs_from_root_directory_on, directories_of_pairs}
-use Rattle.lfs_model.specs.Shown.{directories_in_thread}
+use Rattle.lfs_model.specs.format.Disk.{block_count}
+use Rattle.lfs_model.specs.format.Content.{content_at}
+use Rattle.lfs_model.specs.format.Slots.{Tail}
+use Rattle.lfs_model.specs.format.Thread.{anchor_address, tail_address_of, AreLinked, IsThread, pairs_gstate, pair_count_before_root, pairs_from_root, pair_directories}
+use Rattle.lfs_model.specs.tree.Shown.{all_directories}
 use Rattle.lfs_model.proofs.Listings.{Ends}
-use Rattle.lfs_mount.specs.Places.{IsGraphOfDirectories}
-use Rattle.lfs_mount.specs.Directories.{IsGraphOfThreadDirectories}
+use Rattle.lfs_mount.specs.DirectoryPlaces.{IsDirectoryGraph}
+use Rattle.lfs_mount.specs.Directories.{IsThreadGraph}
 use Rattle.lfs_mount.proofs.Runs.{shown_in, vertices, entries_of, Named, thread_drawn}
 use Rattle.lfs_mount.proofs.MarkedLists.{lists_joined}
 use Rattle.lfs_mount.proofs.Scans.{entry_some, scan_some}
-use Rattle.lfs_model.specs.Steps.{addresses_of_first_pairs_of_directories}
+use Rattle.lfs_model.specs.layers.Steps.{first_pair_addresses}
 
 -- ---- complete slots, some of them taken away
 
@@ -53,18 +53,18 @@ behind true (s ∷ slots) = slots
 -- the slot that goes is an entry
 abbrev pub IsMovedEntry : Option ℕ → List Slot → Type 0
 IsMovedEntry None slots = Unit {0}
-IsMovedEntry (Some id) slots = (t : Slot) × ((slice_get slots id ≡ Some t) × IsFileOrDirectoryEntry t)
+IsMovedEntry (Some id) slots = (t : Slot) × ((slice_get slots id ≡ Some t) × IsTreeEntry t)
 
-some_entry : (o : Option EntryNameAndReference) → is_some o ≡ true → (e : EntryNameAndReference) × (o ≡ Some e)
+some_entry : (o : Option NamedReference) → is_some o ≡ true → (e : NamedReference) × (o ≡ Some e)
 some_entry None e = absurd (cc)
 some_entry (Some x) e = (x, refl)
 
-entry_at : (raws : List RawSlot) (slots : List Slot) (id : ℕ) → slots_if_names_and_structs_present raws ≡ Some slots → is_some (option_and_then {U = EntryNameAndReference} directory_entry_of_raw_slot (slice_get raws id)) ≡ true
-    → (t : Slot) × ((slice_get slots id ≡ Some t) × IsFileOrDirectoryEntry t)
+entry_at : (raws : List RawSlot) (slots : List Slot) (id : ℕ) → complete_slots raws ≡ Some slots → is_some (option_and_then {U = NamedReference} raw_slot_entry (slice_get raws id)) ≡ true
+    → (t : Slot) × ((slice_get slots id ≡ Some t) × IsTreeEntry t)
 entry_at [] slots id c e = absurd (cc)
 entry_at (r ∷ raws) slots zero c e =
     let p = complete_parts r raws slots c in
-    let x = some_entry (directory_entry_of_raw_slot r) e in
+    let x = some_entry (raw_slot_entry r) e in
     let h = entry_some r x.0 x.1 in
     (h.slot, (ap (λ ss. slice_get ss 0) p.all_are ∙ (sym p.is_first ∙ h.is), h.entry))
 entry_at (r ∷ raws) slots (suc id) c e =
@@ -73,48 +73,48 @@ entry_at (r ∷ raws) slots (suc id) c e =
     (x.0, (ap (λ ss. slice_get ss (suc id)) p.all_are ∙ x.1.0, x.1.1))
 
 pub record IsWithout (moved : Option ℕ) (slots : List Slot) (raws : List RawSlot) : Type 0 where
-  pub are : slots_if_names_and_structs_present raws ≡ Some (without moved slots)
+  pub are : complete_slots raws ≡ Some (without moved slots)
   pub entry : IsMovedEntry moved slots
 
-pub without_moved : (moved : Option ℕ) (raws kept : List RawSlot) (slots : List Slot) → slots_if_names_and_structs_present raws ≡ Some slots → raw_slots_not_moved moved raws ≡ Some kept → IsWithout moved slots kept
-without_moved None raws kept slots c e = record { are = ap slots_if_names_and_structs_present (sym (same_Some raws kept e)) ∙ c; entry = tt }
-without_moved (Some id) raws kept slots c e = go (is_some (option_and_then {U = EntryNameAndReference} directory_entry_of_raw_slot (slice_get raws id))) refl e
+pub without_moved : (moved : Option ℕ) (raws kept : List RawSlot) (slots : List Slot) → complete_slots raws ≡ Some slots → unmoved_raw_slots moved raws ≡ Some kept → IsWithout moved slots kept
+without_moved None raws kept slots c e = record { are = ap complete_slots (sym (same_Some raws kept e)) ∙ c; entry = tt }
+without_moved (Some id) raws kept slots c e = go (is_some (option_and_then {U = NamedReference} raw_slot_entry (slice_get raws id))) refl e
   where
-    go : (b : Bool) → is_some (option_and_then {U = EntryNameAndReference} directory_entry_of_raw_slot (slice_get raws id)) ≡ b → cond b (Some (remove raws id)) None ≡ Some kept → IsWithout (Some id) slots kept
-    go true f g = record { are = ap slots_if_names_and_structs_present (sym (same_Some (remove raws id) kept g)) ∙ complete_remove raws slots id c; entry = entry_at raws slots id c f }
+    go : (b : Bool) → is_some (option_and_then {U = NamedReference} raw_slot_entry (slice_get raws id)) ≡ b → cond b (Some (remove raws id)) None ≡ Some kept → IsWithout (Some id) slots kept
+    go true f g = record { are = ap complete_slots (sym (same_Some (remove raws id) kept g)) ∙ complete_remove raws slots id c; entry = entry_at raws slots id c f }
     go false f g = absurd (cc)
 
-pub without_superblock : (first : Bool) (raws kept : List RawSlot) (slots : List Slot) → slots_if_names_and_structs_present raws ≡ Some slots → slots_after_superblock first raws ≡ Some kept → slots_if_names_and_structs_present kept ≡ Some (behind first slots)
-without_superblock false raws kept slots c e = ap slots_if_names_and_structs_present (sym (same_Some raws kept e)) ∙ c
+pub without_superblock : (first : Bool) (raws kept : List RawSlot) (slots : List Slot) → complete_slots raws ≡ Some slots → after_superblock first raws ≡ Some kept → complete_slots kept ≡ Some (behind first slots)
+without_superblock false raws kept slots c e = ap complete_slots (sym (same_Some raws kept e)) ∙ c
 without_superblock true [] kept slots c e = absurd (cc)
 without_superblock true (r ∷ raws) kept slots c e =
     let p = complete_parts r raws slots c in
-    ap slots_if_names_and_structs_present (sym (same_Some raws kept e)) ∙ p.are_others ∙ ap (λ ss. Some (behind true ss)) (sym p.all_are)
+    ap complete_slots (sym (same_Some raws kept e)) ∙ p.are_others ∙ ap (λ ss. Some (behind true ss)) (sym p.all_are)
 
 -- ---- what is visible
 
-all_visible : (slots : List Slot) → All IsFileOrDirectoryEntry slots → filter (λ s. not (is_superblock s)) slots ≡ slots
+all_visible : (slots : List Slot) → All IsTreeEntry slots → filter (λ s. not (is_superblock s)) slots ≡ slots
 all_visible [] h = refl
 all_visible (s ∷ slots) h =
-    ap (λ b. cond (not b) (s ∷ filter (λ x. not (is_superblock x)) slots) (filter (λ x. not (is_superblock x)) slots)) (entry_is_other s (All-head IsFileOrDirectoryEntry s slots h))
-    ∙ ap (λ ss. s ∷ ss) (all_visible slots (All-tail IsFileOrDirectoryEntry s slots h))
+    ap (λ b. cond (not b) (s ∷ filter (λ x. not (is_superblock x)) slots) (filter (λ x. not (is_superblock x)) slots)) (entry_is_other s (All-head IsTreeEntry s slots h))
+    ∙ ap (λ ss. s ∷ ss) (all_visible slots (All-tail IsTreeEntry s slots h))
 
-starts_still : (slots : List Slot) (id : ℕ) (t : Slot) → starts_with_superblock slots ≡ true → slice_get slots id ≡ Some t → IsFileOrDirectoryEntry t → starts_with_superblock (remove slots id) ≡ true
+starts_still : (slots : List Slot) (id : ℕ) (t : Slot) → starts_superblock slots ≡ true → slice_get slots id ≡ Some t → IsTreeEntry t → starts_superblock (remove slots id) ≡ true
 starts_still [] id t s e h = absurd (cc)
 starts_still (x ∷ slots) zero t s e h = absurd (let other = entry_is_other t h in let same = ap is_superblock (same_Some x t e) in let clash : true ≡ false = sym s ∙ same ∙ other in cc)
 starts_still (x ∷ slots) (suc id) t s e h = s
 
-pub starts_without : (moved : Option ℕ) (slots : List Slot) → IsMovedEntry moved slots → starts_with_superblock slots ≡ true → starts_with_superblock (without moved slots) ≡ true
+pub starts_without : (moved : Option ℕ) (slots : List Slot) → IsMovedEntry moved slots → starts_superblock slots ≡ true → starts_superblock (without moved slots) ≡ true
 starts_without None slots h s = s
 starts_without (Some id) slots (t, (e, h)) s = starts_still slots id t s e h
 
-pub visible_behind : (first : Bool) (slots : List Slot) → (first ≡ true → starts_with_superblock slots ≡ true) → All IsFileOrDirectoryEntry (behind first slots) → filter (λ s. not (is_superblock s)) slots ≡ behind first slots
+pub visible_behind : (first : Bool) (slots : List Slot) → (first ≡ true → starts_superblock slots ≡ true) → All IsTreeEntry (behind first slots) → filter (λ s. not (is_superblock s)) slots ≡ behind first slots
 visible_behind false slots s h = all_visible slots h
 visible_behind true [] s h = refl
 visible_behind true (x ∷ slots) s h =
     ap (λ b. cond (not b) (x ∷ filter (λ y. not (is_superblock y)) slots) (filter (λ y. not (is_superblock y)) slots)) (s refl) ∙ all_visible slots h
 
-pub unmoved-without : (g : Gstate) (p : Pair) → slots_not_moved g p ≡ without (id_of_moved_slot_in_pair g p) p.content.slots
+pub unmoved-without : (g : Gstate) (p : Pair) → slots_not_moved g p ≡ without (moved_id g p) p.content.slots
 unmoved-without g p = go (g.kind == 0x4ff && same_pair g.pair p.at)
   where
     go : (b : Bool) → cond b (remove p.content.slots g.id) p.content.slots ≡ without (cond b (Some g.id) None) p.content.slots
@@ -123,70 +123,70 @@ unmoved-without g p = go (g.kind == 0x4ff && same_pair g.pair p.at)
 
 -- ---- the lists in slots
 
-pub some_parts : {X : Type 0} (f : EntryNameAndReference → Option X) (y : X) (o : Option EntryNameAndReference) → option_and_then f o ≡ Some y → (x : EntryNameAndReference) × ((o ≡ Some x) × (f x ≡ Some y))
+pub some_parts : {X : Type 0} (f : NamedReference → Option X) (y : X) (o : Option NamedReference) → option_and_then f o ≡ Some y → (x : NamedReference) × ((o ≡ Some x) × (f x ≡ Some y))
 some_parts f y None e = absurd (cc)
 some_parts f y (Some x) e = (x, (refl, e))
 
-one_list : (r : RawSlot) (raws : List RawSlot) (slots : List Slot) (p : AreComplete r raws slots) (Q : EntryNameAndReference → Type 0) → ((x : EntryNameAndReference) → Q x → file_lists_of_raw_slots raws ≡ filter_map (λ s. skip_list_of_entry (name_and_reference_of_slot s)) p.others)
-    → (x : EntryNameAndReference) × ((directory_entry_of_raw_slot r ≡ Some x) × Q x) → file_lists_of_raw_slots (r ∷ raws) ≡ filter_map (λ s. skip_list_of_entry (name_and_reference_of_slot s)) slots
+one_list : (r : RawSlot) (raws : List RawSlot) (slots : List Slot) (p : AreComplete r raws slots) (Q : NamedReference → Type 0) → ((x : NamedReference) → Q x → raw_slot_lists raws ≡ filter_map (λ s. list_of_entry (named_reference s)) p.others)
+    → (x : NamedReference) × ((raw_slot_entry r ≡ Some x) × Q x) → raw_slot_lists (r ∷ raws) ≡ filter_map (λ s. list_of_entry (named_reference s)) slots
 one_list r raws slots p Q others (x, (f, q)) =
     let h = entry_some r x f in
-    ap₂ (λ o ls. cons_option (option_and_then skip_list_of_entry o) ls) f (others x q)
-    ∙ ap (λ (y : EntryNameAndReference). cons_option (skip_list_of_entry y) (filter_map (λ s. skip_list_of_entry (name_and_reference_of_slot s)) p.others)) (sym h.same ∙ ap name_and_reference_of_slot (same_Some h.slot p.first (sym h.is ∙ p.is_first)))
-    ∙ ap (filter_map (λ s. skip_list_of_entry (name_and_reference_of_slot s))) (sym p.all_are)
+    ap₂ (λ o ls. cons_option (option_and_then list_of_entry o) ls) f (others x q)
+    ∙ ap (λ (y : NamedReference). cons_option (list_of_entry y) (filter_map (λ s. list_of_entry (named_reference s)) p.others)) (sym h.same ∙ ap named_reference (same_Some h.slot p.first (sym h.is ∙ p.is_first)))
+    ∙ ap (filter_map (λ s. list_of_entry (named_reference s))) (sym p.all_are)
 
-pub same_lists : (by : NameOrder) (firsts : List (ℕ × ℕ)) (known new : Name × DirectoryVertexWithSoundnessAndBranches) (raws : List RawSlot) (slots : List Slot) → directory_scan_after_slots by firsts known raws ≡ Some new → slots_if_names_and_structs_present raws ≡ Some slots
-    → file_lists_of_raw_slots raws ≡ filter_map (λ s. skip_list_of_entry (name_and_reference_of_slot s)) slots
-same_lists by firsts known new [] slots e c = ap (filter_map (λ s. skip_list_of_entry (name_and_reference_of_slot s))) (same_Some [] slots c)
+pub same_lists : (by : NameOrder) (firsts : List (ℕ × ℕ)) (known new : Name × Vertex) (raws : List RawSlot) (slots : List Slot) → scan_after_slots by firsts known raws ≡ Some new → complete_slots raws ≡ Some slots
+    → raw_slot_lists raws ≡ filter_map (λ s. list_of_entry (named_reference s)) slots
+same_lists by firsts known new [] slots e c = ap (filter_map (λ s. list_of_entry (named_reference s))) (same_Some [] slots c)
 same_lists by firsts known new (r ∷ raws) slots e c =
     let p = complete_parts r raws slots c in
-    one_list r raws slots p (λ x. directory_scan_after_slots by firsts (directory_scan_with_entry by firsts known x) raws ≡ Some new) (λ x f. same_lists by firsts (directory_scan_with_entry by firsts known x) new raws p.others f p.are_others)
-    (some_parts (λ x. directory_scan_after_slots by firsts (directory_scan_with_entry by firsts known x) raws) new (directory_entry_of_raw_slot r) e)
+    one_list r raws slots p (λ x. scan_after_slots by firsts (scan_with_entry by firsts known x) raws ≡ Some new) (λ x f. same_lists by firsts (scan_with_entry by firsts known x) new raws p.others f p.are_others)
+    (some_parts (λ x. scan_after_slots by firsts (scan_with_entry by firsts known x) raws) new (raw_slot_entry r) e)
 
 -- ---- one pair
 
 abbrev pub lists_of : List Slot → List (ℕ × ℕ)
-lists_of slots = filter_map (λ s. skip_list_of_entry (name_and_reference_of_slot s)) slots
+lists_of slots = filter_map (λ s. list_of_entry (named_reference s)) slots
 
-pub record IsTaken (disk : Disk) (firsts : List (ℕ × ℕ)) (g : Gstate) (first : Bool) (p : Pair) (known : Name × DirectoryVertexWithSoundnessAndBranches) (sets : BlockStateList) (new : Name × DirectoryVertexWithSoundnessAndBranches) (marked : BlockStateList) : Type 0 where
-  pub kept : All IsFileOrDirectoryEntry (behind first (slots_not_moved g p))
-  pub entries : All IsFileOrDirectoryEntry (entries_not_moved g p)
-  pub known_is : new ≡ directory_scan_with_entries disk.order firsts known (map name_and_reference_of_slot (entries_not_moved g p))
-  pub lists : MarksFreeBlocksOfLists disk sets (lists_of (entries_not_moved g p)) marked
-  pub moved : IsMovedEntry (id_of_moved_slot_in_pair g p) p.content.slots
+pub record IsTaken (disk : Disk) (firsts : List (ℕ × ℕ)) (g : Gstate) (first : Bool) (p : Pair) (known : Name × Vertex) (sets : BlockStates) (new : Name × Vertex) (marked : BlockStates) : Type 0 where
+  pub kept : All IsTreeEntry (behind first (slots_not_moved g p))
+  pub entries : All IsTreeEntry (unmoved_entries g p)
+  pub known_is : new ≡ scan_with_entries disk.order firsts known (map named_reference (unmoved_entries g p))
+  pub lists : MarksListsUsed disk sets (lists_of (unmoved_entries g p)) marked
+  pub moved : IsMovedEntry (moved_id g p) p.content.slots
 
-pub kept_parts : (m : PairBeforeSlotsAreRead) (raws kept : List RawSlot) → slots_of_pair_without_superblock_and_moved m raws ≡ Some kept → (mid : List RawSlot) × ((raw_slots_not_moved m.moved raws ≡ Some mid) × (slots_after_superblock m.has_superblock mid ≡ Some kept))
-kept_parts m raws kept e = go (raw_slots_not_moved m.moved raws) refl e
+pub kept_parts : (m : PairBeforeSlotsAreRead) (raws kept : List RawSlot) → listed_slots m raws ≡ Some kept → (mid : List RawSlot) × ((unmoved_raw_slots m.moved raws ≡ Some mid) × (after_superblock m.has_superblock mid ≡ Some kept))
+kept_parts m raws kept e = go (unmoved_raw_slots m.moved raws) refl e
   where
-    go : (o : Option (List RawSlot)) → raw_slots_not_moved m.moved raws ≡ o → option_and_then (slots_after_superblock m.has_superblock) o ≡ Some kept
-        → (mid : List RawSlot) × ((raw_slots_not_moved m.moved raws ≡ Some mid) × (slots_after_superblock m.has_superblock mid ≡ Some kept))
+    go : (o : Option (List RawSlot)) → unmoved_raw_slots m.moved raws ≡ o → option_and_then (after_superblock m.has_superblock) o ≡ Some kept
+        → (mid : List RawSlot) × ((unmoved_raw_slots m.moved raws ≡ Some mid) × (after_superblock m.has_superblock mid ≡ Some kept))
     go None f h = absurd (cc)
     go (Some mid) f h = (mid, (f, h))
 
 -- what the pair's active block holds is the pair's content
-pub held_slots : (disk : Disk) (g : Gstate) (first : Bool) (p : Pair) (m : PairBeforeSlotsAreRead) (held : RawPairContent) → IsDescriptionOfPairOnDisk disk g first p m
-    → content_after_log_entries empty_raw_pair_content (log_entries_of_block (block_bytes_on_disk disk m.active)) ≡ Some held → slots_if_names_and_structs_present held.slots ≡ Some p.content.slots
+pub held_slots : (disk : Disk) (g : Gstate) (first : Bool) (p : Pair) (m : PairBeforeSlotsAreRead) (held : RawContent) → IsDescription disk g first p m
+    → content_after empty_raw_content (block_entries (disk_block disk m.active)) ≡ Some held → complete_slots held.slots ≡ Some p.content.slots
 held_slots disk g first p m held h e =
     (completed_parts held p.content
-    (ap (option_and_then pair_content_if_slots_complete) (sym (ap (option_and_then (λ block. content_after_log_entries empty_raw_pair_content (log_entries_of_block block))) h.active ∙ e)) ∙ h.content)).slots
+    (ap (option_and_then complete_content) (sym (ap (option_and_then (λ block. content_after empty_raw_content (block_entries block))) h.active ∙ e)) ∙ h.content)).slots
 
-pub taken_rules : (disk : Disk) (firsts : List (ℕ × ℕ)) (g : Gstate) (first : Bool) (p : Pair) (m : PairBeforeSlotsAreRead) (known : Name × DirectoryVertexWithSoundnessAndBranches) (sets : BlockStateList) (new : Name × DirectoryVertexWithSoundnessAndBranches) (marked : BlockStateList)
-    → IsDescriptionOfPairOnDisk disk g first p m → AddsPairToDirectoryScan disk firsts m known sets new marked → IsTaken disk firsts g first p known sets new marked
+pub taken_rules : (disk : Disk) (firsts : List (ℕ × ℕ)) (g : Gstate) (first : Bool) (p : Pair) (m : PairBeforeSlotsAreRead) (known : Name × Vertex) (sets : BlockStates) (new : Name × Vertex) (marked : BlockStates)
+    → IsDescription disk g first p m → AddsPair disk firsts m known sets new marked → IsTaken disk firsts g first p known sets new marked
 taken_rules disk firsts g first p m known sets new marked h t =
     let all = held_slots disk g first p m t.held h t.content in
     let parts = kept_parts m t.held.slots t.entries t.kept in
-    let w = without_moved (id_of_moved_slot_in_pair g p) t.held.slots parts.0 p.content.slots all (ap (λ o. raw_slots_not_moved o t.held.slots) (sym h.moved) ∙ parts.1.0) in
-    let are = without_superblock first parts.0 t.entries (without (id_of_moved_slot_in_pair g p) p.content.slots) w.are (ap (λ b. slots_after_superblock b parts.0) (sym h.first) ∙ parts.1.1) in
+    let w = without_moved (moved_id g p) t.held.slots parts.0 p.content.slots all (ap (λ o. unmoved_raw_slots o t.held.slots) (sym h.moved) ∙ parts.1.0) in
+    let are = without_superblock first parts.0 t.entries (without (moved_id g p) p.content.slots) w.are (ap (λ b. after_superblock b parts.0) (sym h.first) ∙ parts.1.1) in
     let s = scan_some disk.order firsts known t.entries new t.scan in
-    let same : s.slots ≡ behind first (without (id_of_moved_slot_in_pair g p) p.content.slots) = same_Some s.slots (behind first (without (id_of_moved_slot_in_pair g p) p.content.slots)) (sym s.are ∙ are) in
-    let seen : behind first (without (id_of_moved_slot_in_pair g p) p.content.slots) ≡ entries_not_moved g p =
-    sym (visible_behind first (without (id_of_moved_slot_in_pair g p) p.content.slots) (λ e. starts_without (id_of_moved_slot_in_pair g p) p.content.slots w.entry (h.starts e)) (subst (All IsFileOrDirectoryEntry) same s.entries))
+    let same : s.slots ≡ behind first (without (moved_id g p) p.content.slots) = same_Some s.slots (behind first (without (moved_id g p) p.content.slots)) (sym s.are ∙ are) in
+    let seen : behind first (without (moved_id g p) p.content.slots) ≡ unmoved_entries g p =
+    sym (visible_behind first (without (moved_id g p) p.content.slots) (λ e. starts_without (moved_id g p) p.content.slots w.entry (h.starts e)) (subst (All IsTreeEntry) same s.entries))
     ∙ ap (filter (λ x. not (is_superblock x))) (sym (unmoved-without g p)) in
     record {
-      kept = subst (λ ss. All IsFileOrDirectoryEntry (behind first ss)) (sym (unmoved-without g p)) (subst (All IsFileOrDirectoryEntry) same s.entries);
-      entries = subst (All IsFileOrDirectoryEntry) (same ∙ seen) s.entries;
-      known_is = s.same ∙ ap (λ ss. directory_scan_with_entries disk.order firsts known (map name_and_reference_of_slot ss)) (same ∙ seen);
-      lists = subst (λ ls. MarksFreeBlocksOfLists disk sets ls marked) (same_lists disk.order firsts known new t.entries s.slots t.scan s.are ∙ ap (filter_map (λ x. skip_list_of_entry (name_and_reference_of_slot x))) (same ∙ seen)) t.lists;
+      kept = subst (λ ss. All IsTreeEntry (behind first ss)) (sym (unmoved-without g p)) (subst (All IsTreeEntry) same s.entries);
+      entries = subst (All IsTreeEntry) (same ∙ seen) s.entries;
+      known_is = s.same ∙ ap (λ ss. scan_with_entries disk.order firsts known (map named_reference ss)) (same ∙ seen);
+      lists = subst (λ ls. MarksListsUsed disk sets ls marked) (same_lists disk.order firsts known new t.entries s.slots t.scan s.are ∙ ap (filter_map (λ x. list_of_entry (named_reference x))) (same ∙ seen)) t.lists;
       moved = w.entry;
     }
 
@@ -195,60 +195,60 @@ taken_rules disk firsts g first p m known sets new marked h t =
 -- the slots that are taken are entries; the first pair has the superblock
 abbrev pub HaveEntries : Gstate → Bool → List Pair → Type 0
 HaveEntries g first [] = Unit {0}
-HaveEntries g first (p ∷ ps) = All IsFileOrDirectoryEntry (behind first (slots_not_moved g p)) × HaveEntries g false ps
+HaveEntries g first (p ∷ ps) = All IsTreeEntry (behind first (slots_not_moved g p)) × HaveEntries g false ps
 
-pub record HavePassed (disk : Disk) (firsts : List (ℕ × ℕ)) (g : Gstate) (first : Bool) (ps : List Pair) (known : Name × DirectoryVertexWithSoundnessAndBranches) (sets : BlockStateList) (graph : DirectoryGraph) (end : BlockStateList) : Type 0 where
+pub record HavePassed (disk : Disk) (firsts : List (ℕ × ℕ)) (g : Gstate) (first : Bool) (ps : List Pair) (known : Name × Vertex) (sets : BlockStates) (graph : DirectoryGraph) (end : BlockStates) : Type 0 where
   pub kept : HaveEntries g first ps
-  pub entries : Each (λ p. All IsFileOrDirectoryEntry (entries_not_moved g p)) ps
+  pub entries : Each (λ p. All IsTreeEntry (unmoved_entries g p)) ps
   pub graph_is : graph ≡ vertices disk.order firsts known (map entries_of (shown_in g ps))
-  pub lists : MarksFreeBlocksOfLists disk sets (flat_map (λ p. lists_of (entries_not_moved g p)) ps) end
-  pub moved : Each (λ p. IsMovedEntry (id_of_moved_slot_in_pair g p) p.content.slots) ps
+  pub lists : MarksListsUsed disk sets (flat_map (λ p. lists_of (unmoved_entries g p)) ps) end
+  pub moved : Each (λ p. IsMovedEntry (moved_id g p) p.content.slots) ps
 
-ended-vertices : (by : NameOrder) (hard : Bool) (firsts : List (ℕ × ℕ)) (new : Name × DirectoryVertexWithSoundnessAndBranches) (rest : List (Bool × List EntryNameAndReference))
-    → graph_with_ended_directory hard new (vertices by firsts (directory_scan_kept_only_after_hard_tail hard new) rest) ≡ cond hard (vertices by firsts new rest) (new.1 ∷ vertices by firsts empty_directory_scan rest)
+ended-vertices : (by : NameOrder) (hard : Bool) (firsts : List (ℕ × ℕ)) (new : Name × Vertex) (rest : List (Bool × List NamedReference))
+    → graph_with_directory hard new (vertices by firsts (scan_kept hard new) rest) ≡ cond hard (vertices by firsts new rest) (new.1 ∷ vertices by firsts empty_scan rest)
 ended-vertices by true firsts new rest = refl
 ended-vertices by false firsts new rest = refl
 
-pub passed_rules : (disk : Disk) (firsts : List (ℕ × ℕ)) (g : Gstate) (first : Bool) (ps : List Pair) (ms : List PairBeforeSlotsAreRead) (known : Name × DirectoryVertexWithSoundnessAndBranches) (sets : BlockStateList) (graph : DirectoryGraph) (end : BlockStateList)
-    → AreDescriptionsOfPairsOnDisk disk g first ps ms → ScansPairsIntoDirectoryGraph disk firsts known sets ms graph end → HavePassed disk firsts g first ps known sets graph end
+pub passed_rules : (disk : Disk) (firsts : List (ℕ × ℕ)) (g : Gstate) (first : Bool) (ps : List Pair) (ms : List PairBeforeSlotsAreRead) (known : Name × Vertex) (sets : BlockStates) (graph : DirectoryGraph) (end : BlockStates)
+    → AreDescriptions disk g first ps ms → ScansPairs disk firsts known sets ms graph end → HavePassed disk firsts g first ps known sets graph end
 passed_rules disk firsts g first [] [] known sets graph end h (e, f) =
     record { kept = tt; entries = tt; graph_is = e; lists = record { lists = λ k d lt. absurd (omega arith); marked = f }; moved = tt }
 passed_rules disk firsts g first [] (m ∷ ms) known sets graph end h t = absurd h
 passed_rules disk firsts g first (p ∷ ps) [] known sets graph end h t = absurd h
 passed_rules disk firsts g first (p ∷ ps) (m ∷ ms) known sets graph end h (new, mid, rest, (takes, (e, more))) =
     let one = taken_rules disk firsts g first p m known sets new mid h.0 takes in
-    let others = passed_rules disk firsts g false ps ms (directory_scan_kept_only_after_hard_tail m.is_hard new) mid rest end h.1 more in
-    let tail : List (Bool × List EntryNameAndReference) = map entries_of (shown_in g ps) in
+    let others = passed_rules disk firsts g false ps ms (scan_kept m.is_hard new) mid rest end h.1 more in
+    let tail : List (Bool × List NamedReference) = map entries_of (shown_in g ps) in
     record {
       kept = (one.kept, others.kept);
       entries = (one.entries, others.entries);
-      graph_is = e ∙ ap (graph_with_ended_directory m.is_hard new) others.graph_is ∙ ended-vertices disk.order m.is_hard firsts new tail
-          ∙ ap₂ (λ (b : Bool) (n : Name × DirectoryVertexWithSoundnessAndBranches). cond b (vertices disk.order firsts n tail) (n.1 ∷ vertices disk.order firsts empty_directory_scan tail)) h.0.hard one.known_is;
-      lists = lists_joined disk (lists_of (entries_not_moved g p)) (flat_map (λ q. lists_of (entries_not_moved g q)) ps) sets mid end one.lists others.lists;
+      graph_is = e ∙ ap (graph_with_directory m.is_hard new) others.graph_is ∙ ended-vertices disk.order m.is_hard firsts new tail
+          ∙ ap₂ (λ (b : Bool) (n : Name × Vertex). cond b (vertices disk.order firsts n tail) (n.1 ∷ vertices disk.order firsts empty_scan tail)) h.0.hard one.known_is;
+      lists = lists_joined disk (lists_of (unmoved_entries g p)) (flat_map (λ q. lists_of (unmoved_entries g q)) ps) sets mid end one.lists others.lists;
       moved = (one.moved, others.moved);
     }
 
 -- ---- the graph
 
-named_all : (g : Gstate) (ps : List Pair) → Each (λ p. All IsFileOrDirectoryEntry (entries_not_moved g p)) ps → Each Named (shown_in g ps)
+named_all : (g : Gstate) (ps : List Pair) → Each (λ p. All IsTreeEntry (unmoved_entries g p)) ps → Each Named (shown_in g ps)
 named_all g [] h = tt
 named_all g (p ∷ ps) h = ((λ k d lt. (h.0 k d lt).name), named_all g ps h.1)
 
-pub passed_draws : (disk : Disk) (g : Gstate) (ps : List Pair) (ms : List PairBeforeSlotsAreRead) (sets : BlockStateList) (graph : DirectoryGraph) (end : BlockStateList) → Ends ps → AreDescriptionsOfPairsOnDisk disk g true ps ms
-    → ScansPairsIntoDirectoryGraph disk (addresses_of_first_pairs_of_directories (directories_of_pairs g ps)) empty_directory_scan sets ms graph end → IsGraphOfDirectories disk.order (directories_of_pairs g ps) graph
+pub passed_draws : (disk : Disk) (g : Gstate) (ps : List Pair) (ms : List PairBeforeSlotsAreRead) (sets : BlockStates) (graph : DirectoryGraph) (end : BlockStates) → Ends ps → AreDescriptions disk g true ps ms
+    → ScansPairs disk (first_pair_addresses (pair_directories g ps)) empty_scan sets ms graph end → IsDirectoryGraph disk.order (pair_directories g ps) graph
 passed_draws disk g ps ms sets graph end ends members passes =
-    let h = passed_rules disk (addresses_of_first_pairs_of_directories (directories_of_pairs g ps)) g true ps ms empty_directory_scan sets graph end members passes in
-    subst (IsGraphOfDirectories disk.order (directories_of_pairs g ps)) (sym h.graph_is) (thread_drawn disk.order g ps ends (named_all g ps h.entries))
+    let h = passed_rules disk (first_pair_addresses (pair_directories g ps)) g true ps ms empty_scan sets graph end members passes in
+    subst (IsDirectoryGraph disk.order (pair_directories g ps)) (sym h.graph_is) (thread_drawn disk.order g ps ends (named_all g ps h.entries))
 
 -- the last pair of a thread has no tail
-pub links_end : (at : Option (ℕ × ℕ)) (ps : List Pair) → AreLinkedByTails at ps → Ends ps
+pub links_end : (at : Option (ℕ × ℕ)) (ps : List Pair) → AreLinked at ps → Ends ps
 links_end at [] h = tt
 links_end at (p ∷ []) h = no_tail p.content.tail h.1
   where
-    no_tail : (t : Option Tail) → pair_address_named_by_tail t ≡ None → is_hard_tail t ≡ false
+    no_tail : (t : Option Tail) → tail_address_of t ≡ None → is_hard_tail t ≡ false
     no_tail None e = refl
     no_tail (Some t) e = absurd (cc)
-links_end at (p ∷ q ∷ ps) h = links_end (pair_address_named_by_tail p.content.tail) (q ∷ ps) h.1
+links_end at (p ∷ q ∷ ps) h = links_end (tail_address_of p.content.tail) (q ∷ ps) h.1
 
 ends_behind : (n : ℕ) (ps : List Pair) → Ends ps → Ends (drop n ps)
 ends_behind zero ps h = h
@@ -256,12 +256,12 @@ ends_behind (suc n) [] h = tt
 ends_behind (suc n) (p ∷ []) h = subst Ends (sym (drop-nil n)) tt
 ends_behind (suc n) (p ∷ q ∷ ps) h = ends_behind n (q ∷ ps) h
 
-pub thread_shows : (disk : Disk) (ps : List Pair) (ms : List PairBeforeSlotsAreRead) (sets : BlockStateList) (graph : DirectoryGraph) (end : BlockStateList) → IsThreadOfMetadataPairs (content_of_pair_at disk) (block_count disk) ps
-    → AreDescriptionsOfPairsOnDisk disk (gstate_of_pairs ps) true (pairs_from_root_directory_on ps) ms → ScansPairsIntoDirectoryGraph disk (addresses_of_first_pairs_of_directories (directories_in_thread ps)) empty_directory_scan sets ms graph end
-    → IsGraphOfThreadDirectories disk.order graph (addresses_of_first_pairs_of_directories (directories_in_thread ps)) (gstate_of_pairs ps).sync ps
+pub thread_shows : (disk : Disk) (ps : List Pair) (ms : List PairBeforeSlotsAreRead) (sets : BlockStates) (graph : DirectoryGraph) (end : BlockStates) → IsThread (content_at disk) (block_count disk) ps
+    → AreDescriptions disk (pairs_gstate ps) true (pairs_from_root ps) ms → ScansPairs disk (first_pair_addresses (all_directories ps)) empty_scan sets ms graph end
+    → IsThreadGraph disk.order graph (first_pair_addresses (all_directories ps)) (pairs_gstate ps).sync ps
 thread_shows disk ps ms sets graph end thread members passes = record {
   distinct = thread.distinct;
-  draws = passed_draws disk (gstate_of_pairs ps) (pairs_from_root_directory_on ps) ms sets graph end (ends_behind (pair_count_before_root ps) ps (links_end (Some anchor_pair_address) ps thread.links)) members passes;
+  draws = passed_draws disk (pairs_gstate ps) (pairs_from_root ps) ms sets graph end (ends_behind (pair_count_before_root ps) ps (links_end (Some anchor_address) ps thread.links)) members passes;
   places = refl;
   same = refl;
 }

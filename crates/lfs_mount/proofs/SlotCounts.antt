@@ -3,40 +3,40 @@ use Rattle.std.proofs.Common.{ℕ, ◌≡◌, ◌+◌, ◌-◌, ◌<◌, ◌≤�
 use Rattle.std.proofs.lemmas.List.{length-append, length-replicate, length-set}
 use Rattle.std.proofs.lemmas.List.Edits.{length-insert, length-remove}
 use Rattle.std.proofs.lemmas.Option.{option_and_then_some, same_Some}
-use Rattle.lfs_model.specs.Content.{RawSlot, RawPairContent, attributes_after_entry, content_after_log_entries, content_after_log_entry, empty_raw_pair_content, empty_slot, raw_slots_with_function_applied_at_id, slot_of_id, slots_padded_to_id, type_and_bytes_of_entry}
-use Rattle.lfs_model.specs.Log.{LogEntry, log_entries_of_block}
-use Rattle.lfs_model.specs.Tag.{id_of_tag}
+use Rattle.lfs_model.specs.format.Content.{RawSlot, RawContent, attributes_after, content_after, content_after_one, empty_raw_content, empty_slot, changed_at, slot_of_id, slots_padded_to, type_and_bytes}
+use Rattle.lfs_model.specs.format.Log.{LogEntry, block_entries}
+use Rattle.lfs_model.specs.format.Tag.{tag_id}
 use Rattle.lfs_tag.proofs.Effects.{Effect, attributes, creates, deletes, effect, names, rests, structures}
 use Rattle.lfs_tag.proofs.Ranks.{few_entries}
 
 -- a change of one slot
-length-changed : (f : RawSlot → RawSlot) (slots : List RawSlot) (id : ℕ) → length (raw_slots_with_function_applied_at_id f slots id) ≡ length slots
+length-changed : (f : RawSlot → RawSlot) (slots : List RawSlot) (id : ℕ) → length (changed_at f slots id) ≡ length slots
 length-changed f slots id = length-set slots id (f (slot_of_id slots id))
 
 one_more : (n : ℕ) (s t : List RawSlot) (e : LogEntry) → length s ≤ 1024 + n → Effect s t e → length t ≤ 1024 + n + 1
 one_more n s t e few (rests high same) = let l = ap length same in omega arith
 one_more n s t e few (names class keeps is) =
-    let l = ap length is ∙ length-changed (λ r. record r { name = type_and_bytes_of_entry e }) (slots_padded_to_id s (id_of_tag e.tag)) (id_of_tag e.tag) in
-    let padded = length-append s (replicate (id_of_tag e.tag + 1 - length s) empty_slot) in
-    let more = length-replicate (id_of_tag e.tag + 1 - length s) empty_slot in
-    let small : id_of_tag e.tag < 1024 = omega arith in
+    let l = ap length is ∙ length-changed (λ r. record r { name = type_and_bytes e }) (slots_padded_to s (tag_id e.tag)) (tag_id e.tag) in
+    let padded = length-append s (replicate (tag_id e.tag + 1 - length s) empty_slot) in
+    let more = length-replicate (tag_id e.tag + 1 - length s) empty_slot in
+    let small : tag_id e.tag < 1024 = omega arith in
     omega arith
-one_more n s t e few (creates class create le is) = let l = ap length is in let more = length-insert s (id_of_tag e.tag) empty_slot le in omega arith
-one_more n s t e few (deletes class delete lt is) = let l = ap length is in let fewer = length-remove s (id_of_tag e.tag) lt in omega arith
-one_more n s t e few (structures class keeps lt is) = let l = ap length is ∙ length-changed (λ r. record r { struct = type_and_bytes_of_entry e }) s (id_of_tag e.tag) in omega arith
-one_more n s t e few (attributes class lt is) = let l = ap length is ∙ length-changed (λ r. record r { attributes = attributes_after_entry e r.attributes }) s (id_of_tag e.tag) in omega arith
+one_more n s t e few (creates class create le is) = let l = ap length is in let more = length-insert s (tag_id e.tag) empty_slot le in omega arith
+one_more n s t e few (deletes class delete lt is) = let l = ap length is in let fewer = length-remove s (tag_id e.tag) lt in omega arith
+one_more n s t e few (structures class keeps lt is) = let l = ap length is ∙ length-changed (λ r. record r { struct = type_and_bytes e }) s (tag_id e.tag) in omega arith
+one_more n s t e few (attributes class lt is) = let l = ap length is ∙ length-changed (λ r. record r { attributes = attributes_after e r.attributes }) s (tag_id e.tag) in omega arith
 
-few_after : (n : ℕ) (c : RawPairContent) (es : List LogEntry) (d : RawPairContent) → length c.slots ≤ 1024 + n → content_after_log_entries c es ≡ Some d → length d.slots ≤ 1024 + n + length es
-few_after n c [] d few is = let same = ap (λ (x : RawPairContent). length x.slots) (same_Some c d is) in omega arith
+few_after : (n : ℕ) (c : RawContent) (es : List LogEntry) (d : RawContent) → length c.slots ≤ 1024 + n → content_after c es ≡ Some d → length d.slots ≤ 1024 + n + length es
+few_after n c [] d few is = let same = ap (λ (x : RawContent). length x.slots) (same_Some c d is) in omega arith
 few_after n c (e ∷ es) d few is =
-    option_and_then_some (λ u. content_after_log_entries u es) (content_after_log_entry c e) d is (λ u first rest.
+    option_and_then_some (λ u. content_after u es) (content_after_one c e) d is (λ u first rest.
     let more = one_more n c.slots u.slots e few (effect c u e first) in
     let all = few_after (n + 1) u es d (omega arith) rest in
     omega arith)
 
 -- a block that a device may have comes to few slots
-pub few_slots : (block : List ℕ) (held : RawPairContent) → length block ≤ 2 ^ 16 → content_after_log_entries empty_raw_pair_content (log_entries_of_block block) ≡ Some held → length held.slots < 2 ^ 15
+pub few_slots : (block : List ℕ) (held : RawContent) → length block ≤ 2 ^ 16 → content_after empty_raw_content (block_entries block) ≡ Some held → length held.slots < 2 ^ 15
 few_slots block held small is =
-    let all = few_after 0 empty_raw_pair_content (log_entries_of_block block) held (omega arith) is in
+    let all = few_after 0 empty_raw_content (block_entries block) held (omega arith) is in
     let entries = few_entries block small in
     omega arith

@@ -1,35 +1,35 @@
 -- An image that breaks a rule isn't accepted.
 use Rattle.std.proofs.Common.{◌≡◌, inl, true, List, Option, Some, None, is_some, refl}
 use Rattle.lfs_device.specs.declared.error.Error.TheVariants as error
-use Rattle.lfs_model.specs.Disk.{Disk, disk_in_order}
-use Rattle.lfs_model.specs.Thread.{Pair}
-use Rattle.lfs_model.specs.View.{IsAcceptedImage}
-use Rattle.lfs_model.specs.Violations.{Breaks}
+use Rattle.lfs_model.specs.format.Disk.{Disk, ordered_disk}
+use Rattle.lfs_model.specs.format.Thread.{Pair}
+use Rattle.lfs_model.specs.tree.View.{IsAccepted}
+use Rattle.lfs_model.specs.layers.Violations.{Breaks}
 use Rattle.lfs_model.specs.declared.violations.Violation.{Violation}
 use Rattle.lfs_model.specs.declared.order.NameOrder.{NameOrder}
 use Rattle.lfs_model.proofs.BrokenRules.{accepted_breaks_none, thread_breaks_in_order}
-use Rattle.lfs_thread.specs.MountErrors.{HasTrueThreadViolation, error_of_mount}
+use Rattle.lfs_thread.specs.MountErrors.{IsViolationTrue, error_of_mount}
 use Rattle.lfs_thread.specs.declared.mount_error.MountError.{MountError}
 use Rattle.lfs_thread.specs.declared.mount_error.MountError.TheVariants as mount
-use Rattle.lfs_mount.specs.TrueViolation.{HasTrueViolation}
+use Rattle.lfs_mount.specs.TrueViolation.{IsTrueViolation}
 
-pub true_violation : (disk : Disk) (e : MountError) → ((violation : Violation) → e ≡ mount.Corrupt violation → Breaks disk violation) → HasTrueViolation disk e
+pub true_violation : (disk : Disk) (e : MountError) → ((violation : Violation) → e ≡ mount.Corrupt violation → Breaks disk violation) → IsTrueViolation disk e
 true_violation disk (mount.Corrupt violation) broken = broken violation refl
 true_violation disk mount.Io broken = tt
 true_violation disk mount.NoMemory broken = tt
 
-pub none_accepted : (disk : Disk) (e : MountError) → HasTrueViolation disk e → error_of_mount e ≡ error.Corrupt → (ps : List Pair) → IsAcceptedImage disk ps → ⊥
+pub none_accepted : (disk : Disk) (e : MountError) → IsTrueViolation disk e → error_of_mount e ≡ error.Corrupt → (ps : List Pair) → IsAccepted disk ps → ⊥
 none_accepted disk (mount.Corrupt violation) broken is ps a = accepted_breaks_none disk violation broken ps a
 none_accepted disk mount.Io broken is ps a = absurd (cc)
 none_accepted disk mount.NoMemory broken is ps a = absurd (cc)
 
 -- a rule was found
-pub found_broken : (disk : Disk) (o : Option Violation) → is_some o ≡ true → ((violation : Violation) → o ≡ Some violation → Breaks disk violation) → (ps : List Pair) → IsAcceptedImage disk ps → ⊥
+pub found_broken : (disk : Disk) (o : Option Violation) → is_some o ≡ true → ((violation : Violation) → o ≡ Some violation → Breaks disk violation) → (ps : List Pair) → IsAccepted disk ps → ⊥
 found_broken disk None some broken ps a = absurd (cc)
 found_broken disk (Some violation) some broken ps a = accepted_breaks_none disk violation (broken violation refl) ps a
 
 -- the thread is the same in each order of names
-pub thread_violation : (order : NameOrder) (disk : Disk) (e : MountError) → HasTrueThreadViolation disk e → HasTrueViolation (disk_in_order order disk) e
+pub thread_violation : (order : NameOrder) (disk : Disk) (e : MountError) → IsViolationTrue disk e → IsTrueViolation (ordered_disk order disk) e
 thread_violation order disk (mount.Corrupt violation) broken = inl (thread_breaks_in_order order disk violation broken)
 thread_violation order disk mount.Io broken = tt
 thread_violation order disk mount.NoMemory broken = tt

@@ -1,9 +1,9 @@
 pub mod Orders
 pub mod Reaching
-pub mod Places
+pub mod DirectoryPlaces
 pub mod DirectoryView
 pub mod Directories
-pub mod Entries
+pub mod DirectoryEntries
 pub mod EntryView
 pub mod Scanned
 pub mod KnownView
@@ -15,11 +15,11 @@ pub mod Passed
 pub mod Described
 pub mod Checked
 pub mod TrueViolation
-pub mod Reads
+pub mod MountReads
 pub mod Members
 pub mod SuperblockChain
-pub mod Moves
+pub mod MoveChecks
 pub mod Accepted
 pub mod ReadImage
 pub mod Start
-pub mod Device
+pub mod MountFaults

@@ -2,55 +2,55 @@
 use Rattle.std.specs.Prelude.{Option, None, All, reverse, ℕ, ◌≡◌, ◌⊎◌, ◌<◌, List, [], ◌∷◌, Some, length, nat_eq, slice_get, slice_set}
 use Rattle.std.specs.List.{IsDistinct, filter_map, flat_map}
 use Rattle.std.specs.Option.{option_and_then}
-use Rattle.lfs_model.specs.Disk.{Disk}
-use Rattle.lfs_model.specs.Content.{RawSlot}
-use Rattle.lfs_model.specs.SkipLists.{IsSkipList, list_blocks_from_head, list_block_count_for_size}
-use Rattle.lfs_mount.specs.Entries.{EntryNameAndReference, InSlot, InList, Below, directory_entry_of_raw_slot}
-use Rattle.lfs_model.specs.BlockSets.{BlockStateList, IsBlockFree}
-use Rattle.lfs_model.specs.BlockSets.BlockState.{Used}
+use Rattle.lfs_model.specs.format.Disk.{Disk}
+use Rattle.lfs_model.specs.format.Content.{RawSlot}
+use Rattle.lfs_model.specs.format.SkipLists.{IsSkipList, blocks_to_head, block_count_for}
+use Rattle.lfs_mount.specs.DirectoryEntries.{NamedReference, InSlot, InList, Below, raw_slot_entry}
+use Rattle.lfs_model.specs.layers.BlockSets.{BlockStates, IsFree}
+use Rattle.lfs_model.specs.layers.BlockSets.BlockState.{Used}
 
 -- Each block was free, and is used afterwards. A block that comes twice isn't free the second time.
-abbrev pub MarksFreeBlocksUsed : BlockStateList → List ℕ → BlockStateList → Type 0
-MarksFreeBlocksUsed old [] new = old ≡ new
-MarksFreeBlocksUsed old (b ∷ bs) new = IsBlockFree old b × MarksFreeBlocksUsed (slice_set old b Used) bs new
+abbrev pub MarksBlocksUsed : BlockStates → List ℕ → BlockStates → Type 0
+MarksBlocksUsed old [] new = old ≡ new
+MarksBlocksUsed old (b ∷ bs) new = IsFree old b × MarksBlocksUsed (slice_set old b Used) bs new
 
 -- The first blocks were free. This one behind them wasn't, after they were marked.
-abbrev pub MeetsTakenBlock : BlockStateList → List ℕ → ℕ → Type 0
+abbrev pub MeetsTakenBlock : BlockStates → List ℕ → ℕ → Type 0
 MeetsTakenBlock old [] block = ⊥
-MeetsTakenBlock old (b ∷ bs) block = ((b ≡ block) × ¬ IsBlockFree old b) ⊎ (IsBlockFree old b × MeetsTakenBlock (slice_set old b Used) bs block)
+MeetsTakenBlock old (b ∷ bs) block = ((b ≡ block) × ¬ IsFree old b) ⊎ (IsFree old b × MeetsTakenBlock (slice_set old b Used) bs block)
 
 -- A walk marks one block. `before` and `after` are the first block so far that wasn't free, if any.
-pub record MarksBlockIfFree (old : BlockStateList) (before : Option ℕ) (b : ℕ) (new : BlockStateList) (after : Option ℕ) : Type 0 where
-  pub free : after ≡ None → (before ≡ None) × IsBlockFree old b × (new ≡ slice_set old b Used)
-  pub taken : (block : ℕ) → after ≡ Some block → (before ≡ Some block) ⊎ ((before ≡ None) × (b ≡ block) × ¬ IsBlockFree old b)
+pub record MarksIfFree (old : BlockStates) (before : Option ℕ) (b : ℕ) (new : BlockStates) (after : Option ℕ) : Type 0 where
+  pub free : after ≡ None → (before ≡ None) × IsFree old b × (new ≡ slice_set old b Used)
+  pub taken : (block : ℕ) → after ≡ Some block → (before ≡ Some block) ⊎ ((before ≡ None) × (b ≡ block) × ¬ IsFree old b)
 
 -- These blocks are used, each is in the list once, and all others are free.
-pub record HasExactlyTheseUsedBlocks (sets : BlockStateList) (bs : List ℕ) : Type 0 where
+pub record HasUsedBlocks (sets : BlockStates) (bs : List ℕ) : Type 0 where
   pub distinct : IsDistinct nat_eq bs
   pub used : (i b : ℕ) → slice_get bs i ≡ Some b → slice_get sets b ≡ Some Used
-  pub free : (b : ℕ) → b < length sets → ((i : ℕ) → slice_get bs i ≡ Some b → ⊥) → IsBlockFree sets b
+  pub free : (b : ℕ) → b < length sets → ((i : ℕ) → slice_get bs i ≡ Some b → ⊥) → IsFree sets b
 
 -- ---- the lists of a pair's slots
 
-abbrev pub skip_list_of_entry : EntryNameAndReference → Option (ℕ × ℕ)
-skip_list_of_entry (name, InList head size) = Some (head, size)
-skip_list_of_entry (name, InSlot) = None
-skip_list_of_entry (name, Below to) = None
+abbrev pub list_of_entry : NamedReference → Option (ℕ × ℕ)
+list_of_entry (name, InList head size) = Some (head, size)
+list_of_entry (name, InSlot) = None
+list_of_entry (name, Below to) = None
 
 -- the head and the size of each list, in the order of the slots
-abbrev pub file_lists_of_raw_slots : List RawSlot → List (ℕ × ℕ)
-file_lists_of_raw_slots slots = filter_map (λ s. option_and_then skip_list_of_entry (directory_entry_of_raw_slot s)) slots
+abbrev pub raw_slot_lists : List RawSlot → List (ℕ × ℕ)
+raw_slot_lists slots = filter_map (λ s. option_and_then list_of_entry (raw_slot_entry s)) slots
 
 -- a list's blocks from the last one back, in the order in which they are marked
-abbrev pub skip_list_blocks_from_last_to_first : Disk → ℕ × ℕ → List ℕ
-skip_list_blocks_from_last_to_first disk l = reverse (list_blocks_from_head disk.blocks (list_block_count_for_size disk.block_size l.1) l.0)
+abbrev pub blocks_last_first : Disk → ℕ × ℕ → List ℕ
+blocks_last_first disk l = reverse (blocks_to_head disk.blocks (block_count_for disk.block_size l.1) l.0)
 
 -- the list of that head and size is well formed, and its blocks were free
-pub record MarksFreeBlocksOfList (disk : Disk) (old : BlockStateList) (l : ℕ × ℕ) (new : BlockStateList) : Type 0 where
+pub record MarksListUsed (disk : Disk) (old : BlockStates) (l : ℕ × ℕ) (new : BlockStates) : Type 0 where
   pub list : IsSkipList disk.blocks disk.block_size l.0 l.1
-  pub marked : MarksFreeBlocksUsed old (skip_list_blocks_from_last_to_first disk l) new
+  pub marked : MarksBlocksUsed old (blocks_last_first disk l) new
 
 -- each list is well formed, and the blocks of all of them were free
-pub record MarksFreeBlocksOfLists (disk : Disk) (old : BlockStateList) (all : List (ℕ × ℕ)) (new : BlockStateList) : Type 0 where
+pub record MarksListsUsed (disk : Disk) (old : BlockStates) (all : List (ℕ × ℕ)) (new : BlockStates) : Type 0 where
   pub lists : All (λ l. IsSkipList disk.blocks disk.block_size l.0 l.1) all
-  pub marked : MarksFreeBlocksUsed old (flat_map (skip_list_blocks_from_last_to_first disk) all) new
+  pub marked : MarksBlocksUsed old (flat_map (blocks_last_first disk) all) new

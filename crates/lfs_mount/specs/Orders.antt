@@ -6,9 +6,9 @@ use Rattle.lfs_model.specs.declared.violations.Violation.{Violation}
 use Rattle.lfs_mount.specs.declared.orders.NameOrderSet.{NameOrderSet}
 use Rattle.lfs_mount.specs.declared.orders.OrderViolations.{OrderViolations}
 
-abbrev pub includes_name_order : NameOrder → NameOrderSet → Bool
-includes_name_order LongerFirst orders = orders.longer_first
-includes_name_order ShorterFirst orders = orders.shorter_first
+abbrev pub includes_order : NameOrder → NameOrderSet → Bool
+includes_order LongerFirst orders = orders.longer_first
+includes_order ShorterFirst orders = orders.shorter_first
 
 -- the rule that is broken in an order, if one is
 abbrev pub violation_in_order : NameOrder → OrderViolations → Option Violation

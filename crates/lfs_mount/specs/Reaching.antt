@@ -5,42 +5,42 @@ use Rattle.std.specs.Option.{option_map_or}
 
 -- What is known of a directory by itself: whether its names rise, whether each directory in it is one of the graph's, and the
 -- numbers of these. It is sound where both are so.
-pub record DirectoryVertexWithSoundnessAndBranches : Type 0 where
+pub record Vertex : Type 0 where
   pub rises : Bool
   pub leads : Bool
   pub branches : List ℕ
 
 -- the root is the first vertex
 abbrev pub DirectoryGraph : Type 0
-DirectoryGraph = List DirectoryVertexWithSoundnessAndBranches
+DirectoryGraph = List Vertex
 
-abbrev pub branches_of_vertex_at : DirectoryGraph → ℕ → List ℕ
-branches_of_vertex_at graph v = option_map_or (λ x. x.branches) (slice_get graph v) []
+abbrev pub branches_at : DirectoryGraph → ℕ → List ℕ
+branches_at graph v = option_map_or (λ x. x.branches) (slice_get graph v) []
 
-abbrev pub has_vertex_at_sorted_names_and_known_branches : DirectoryGraph → ℕ → Bool
-has_vertex_at_sorted_names_and_known_branches graph v = option_map_or (λ x. x.rises && x.leads) (slice_get graph v) false
+abbrev pub has_sound_vertex : DirectoryGraph → ℕ → Bool
+has_sound_vertex graph v = option_map_or (λ x. x.rises && x.leads) (slice_get graph v) false
 
-abbrev pub branches_of_optional_vertex : DirectoryGraph → Option ℕ → List ℕ
-branches_of_optional_vertex graph None = []
-branches_of_optional_vertex graph (Some v) = branches_of_vertex_at graph v
+abbrev pub branches_of_option : DirectoryGraph → Option ℕ → List ℕ
+branches_of_option graph None = []
+branches_of_option graph (Some v) = branches_at graph v
 
 -- the directories found so far, and those that the one at place k leads to
-abbrev pub found_directories_with_next_branches : DirectoryGraph → ℕ → List ℕ → List ℕ
-found_directories_with_next_branches graph k found = found ++ branches_of_optional_vertex graph (slice_get found k)
+abbrev pub found_with_branches : DirectoryGraph → ℕ → List ℕ → List ℕ
+found_with_branches graph k found = found ++ branches_of_option graph (slice_get found k)
 
 -- the directories found from the root, the first found first, after those at the first k places were looked into
-abbrev pub directories_found_after_steps : DirectoryGraph → ℕ → List ℕ
-directories_found_after_steps graph zero = 0 ∷ []
-directories_found_after_steps graph (suc k) = found_directories_with_next_branches graph k (directories_found_after_steps graph k)
+abbrev pub found_after_steps : DirectoryGraph → ℕ → List ℕ
+found_after_steps graph zero = 0 ∷ []
+found_after_steps graph (suc k) = found_with_branches graph k (found_after_steps graph k)
 
 -- The search has ended: each directory that was found was looked into and is sound. None was found twice.
-pub record EndsSearchWithoutUnsoundOrRepeatedVertex (graph : DirectoryGraph) (k : ℕ) : Type 0 where
-  pub all : length (directories_found_after_steps graph k) ≡ k
-  pub distinct : IsDistinct nat_eq (directories_found_after_steps graph k)
-  pub sound : All (λ v. has_vertex_at_sorted_names_and_known_branches graph v ≡ true) (directories_found_after_steps graph k)
+pub record EndsSearchSoundly (graph : DirectoryGraph) (k : ℕ) : Type 0 where
+  pub all : length (found_after_steps graph k) ≡ k
+  pub distinct : IsDistinct nat_eq (found_after_steps graph k)
+  pub sound : All (λ v. has_sound_vertex graph v ≡ true) (found_after_steps graph k)
 
 -- the marks are those of the directories that were found, each once
-pub record AreMarksOfFoundDirectories (marks : List Bool) (found : List ℕ) : Type 0 where
+pub record AreFoundMarks (marks : List Bool) (found : List ℕ) : Type 0 where
   pub distinct : IsDistinct nat_eq found
   pub all : (i v : ℕ) → slice_get found i ≡ Some v → slice_get marks v ≡ Some true
   pub only : (v : ℕ) → slice_get marks v ≡ Some true → (i : ℕ) × (slice_get found i ≡ Some v)
@@ -56,12 +56,12 @@ pub record IsRepeatedNumber (xs : List ℕ) (x : ℕ) : Type 0 where
 -- these directories are found, too, each for the first time
 pub record FindsNewDirectories (marks : List Bool) (found branches : List ℕ) (new_marks : List Bool) (new_found : List ℕ) : Type 0 where
   pub found_is : new_found ≡ found ++ branches
-  pub marked : AreMarksOfFoundDirectories new_marks new_found
+  pub marked : AreFoundMarks new_marks new_found
   pub len : length new_marks ≡ length marks
 
 -- The marks are those of the directories that are found in the end, where each one was looked into.
-pub record AreMarksOfReachedDirectories (graph : DirectoryGraph) (marks : List Bool) : Type 0 where
+pub record AreReachedMarks (graph : DirectoryGraph) (marks : List Bool) : Type 0 where
   pub steps : ℕ
-  pub finished : EndsSearchWithoutUnsoundOrRepeatedVertex graph steps
-  pub marked : AreMarksOfFoundDirectories marks (directories_found_after_steps graph steps)
+  pub finished : EndsSearchSoundly graph steps
+  pub marked : AreFoundMarks marks (found_after_steps graph steps)
   pub len : length marks ≡ length graph

@@ -1,30 +1,30 @@
 // A device's image, where it is accepted.
 
 ghost use Rattle.std.specs.Prelude.{ℕ, Err, List, ◌≡◌, ◌≤◌, ◌<◌, ◌+◌, ◌%◌, ◌++◌, ◌∷◌, drop, length, sum_by, true, IfErr, IfNone, IfOk, IfSome, None, OnOk};
-ghost use Rattle.lfs_blocks.specs.Next.{IsNextFreeBlockInCircle};
-ghost use Rattle.lfs_model.specs.Disk.{disk_in_order};
-ghost use Rattle.lfs_model.specs.BlockSets.{IsBlockFree};
-ghost use Rattle.lfs_model.specs.History.{read_count_of_history};
-ghost use Rattle.lfs_model.specs.Thread.{Pair as ThreadPair};
-ghost use Rattle.lfs_model.specs.View.{IsAcceptedImage};
-ghost use Rattle.lfs_model.specs.Violations.{Breaks, BreaksPairs};
+ghost use Rattle.lfs_blocks.specs.Next.{IsNextFree};
+ghost use Rattle.lfs_model.specs.format.Disk.{ordered_disk};
+ghost use Rattle.lfs_model.specs.layers.BlockSets.{IsFree};
+ghost use Rattle.lfs_model.specs.session.History.{read_count};
+ghost use Rattle.lfs_model.specs.format.Thread.{Pair as ThreadPair};
+ghost use Rattle.lfs_model.specs.tree.View.{IsAccepted};
+ghost use Rattle.lfs_model.specs.layers.Violations.{Breaks, BreaksPairs};
 ghost use Rattle.lfs_model.specs.declared.order.NameOrder.{NameOrder};
 ghost use Rattle.lfs_model.specs.declared.order.NameOrder.TheVariants.{LongerFirst, ShorterFirst};
 ghost use Rattle.lfs_model.specs.declared.violations.Violation.{Violation};
 ghost use Rattle.lfs_tag.specs.FieldsView.{move_view};
-ghost use Rattle.lfs_thread.specs.Device.{GivesDeviceBackOnlyReadWithError};
+ghost use Rattle.lfs_thread.specs.ThreadDevice.{GivesDeviceBackOnlyReadWithError};
 ghost use Rattle.lfs_thread.specs.Kept.{disk_of_device, pairs_of_headers};
 ghost use Rattle.lfs_thread.specs.MountErrors.{OnlyReadsUnlessFault, error_of_mount};
-ghost use Rattle.lfs_mount.specs.Accepted.{HasAcceptedImageIfNameOrderFits, IsImageAcceptedIfDirectoriesFitNameOrder, IsMountedThread};
-ghost use Rattle.lfs_mount.specs.TrueViolation.{HasTrueViolation};
-ghost use Rattle.lfs_mount.specs.Members.{AreDirectoryHeadersOfThread, IsThreadReadFromDisk, IsThreadMatchingMapAndDirectoryHeaders, pair_descriptions_of_headers};
+ghost use Rattle.lfs_mount.specs.Accepted.{HasAcceptedIf, IsAcceptedIf, IsMountedOn};
+ghost use Rattle.lfs_mount.specs.TrueViolation.{IsTrueViolation};
+ghost use Rattle.lfs_mount.specs.Members.{AreThreadDirectories, IsThreadRead, IsHeaderThread, descriptions_of_headers};
 ghost use Rattle.lfs_mount.specs.Orders.{violation_in_order};
-ghost use Rattle.lfs_mount.specs.ReadImage.{HasAtMostMountReads, IsAcceptedInNameOrders};
-ghost use Rattle.lfs_mount.specs.Reads.{check_read_count, pair_read_count};
+ghost use Rattle.lfs_mount.specs.ReadImage.{ReadsLikeMount, IsAcceptedIn};
+ghost use Rattle.lfs_mount.specs.MountReads.{check_reads, pair_reads};
 ghost use Rattle.lfs_mount.specs.Start.{allocation_seed, image_number, mixed_number};
 
-use crate::check::check_slots_and_mark_lists_of_thread;
-use crate::members::{first_pair_addresses_of_all_directories, make_directory_pairs_from_headers};
+use crate::check::check_and_mark;
+use crate::members::{first_addresses, directory_pairs_of};
 use crate::moves::check_move;
 use crate::orders::OrderViolations;
 use crate::superblock_chain::superblock_chain_length;
@@ -50,15 +50,15 @@ use std::alloc::Global;
 /// breaks. The rules of names are then those of the order of littlefs's own code. `Io` where a read
 /// failed, and `NoMemory` where memory isn't granted. The device comes back with an error.
 pub fn mount<D: BlockDevice>(alloc: Global, device: D) -> Result<Thread<D>, (D, MountError)>
-    ensures mounted { IfOk result (λ t. IsMountedThread (disk_in_order t.kept.disk.order (disk_of_device D.BlockDevice device)) (D.history device) t) }
-    ensures longer { IfOk result (λ t. t.kept.disk.order ≡ ShorterFirst → (ps : List ThreadPair) → ¬ IsAcceptedImage (disk_in_order LongerFirst (disk_of_device D.BlockDevice device)) ps) }
-    ensures broken { IfErr result (λ e. HasTrueViolation (disk_in_order LongerFirst (disk_of_device D.BlockDevice device)) e.1) }
-    ensures corrupt { IfErr result (λ e. error_of_mount e.1 ≡ Error.Corrupt → (order : NameOrder) (ps : List ThreadPair) → ¬ IsAcceptedImage (disk_in_order order (disk_of_device D.BlockDevice device)) ps) }
+    ensures mounted { IfOk result (λ t. IsMountedOn (ordered_disk t.kept.disk.order (disk_of_device D.BlockDevice device)) (D.history device) t) }
+    ensures longer { IfOk result (λ t. t.kept.disk.order ≡ ShorterFirst → (ps : List ThreadPair) → ¬ IsAccepted (ordered_disk LongerFirst (disk_of_device D.BlockDevice device)) ps) }
+    ensures broken { IfErr result (λ e. IsTrueViolation (ordered_disk LongerFirst (disk_of_device D.BlockDevice device)) e.1) }
+    ensures corrupt { IfErr result (λ e. error_of_mount e.1 ≡ Error.Corrupt → (order : NameOrder) (ps : List ThreadPair) → ¬ IsAccepted (ordered_disk order (disk_of_device D.BlockDevice device)) ps) }
     ensures back { IfErr result (λ e. GivesDeviceBackOnlyReadWithError D.BlockDevice device e.0 (error_of_mount e.1)) }
     // Those of a fetch and one more for each pair, two more, and one for each block of a file's list.
-    ensures few { IfOk result (HasAtMostMountReads (disk_of_device D.BlockDevice device) (D.history device)) }
+    ensures few { IfOk result (ReadsLikeMount (disk_of_device D.BlockDevice device) (D.history device)) }
 {
-    let (mut thread, found) = read_and_check_image(alloc, device)?;
+    let (mut thread, found) = read_and_check(alloc, device)?;
     match found.preferred() {
         Ok(order) => {
             thread.set_order(order);
@@ -78,13 +78,13 @@ pub fn mount_in_order<D: BlockDevice>(
     device: D,
     order: NameOrder,
 ) -> Result<Thread<D>, (D, MountError)>
-    ensures mounted { IfOk result (IsMountedThread (disk_in_order order (disk_of_device D.BlockDevice device)) (D.history device)) }
-    ensures broken { IfErr result (λ e. HasTrueViolation (disk_in_order order (disk_of_device D.BlockDevice device)) e.1) }
-    ensures corrupt { IfErr result (λ e. error_of_mount e.1 ≡ Error.Corrupt → (ps : List ThreadPair) → ¬ IsAcceptedImage (disk_in_order order (disk_of_device D.BlockDevice device)) ps) }
+    ensures mounted { IfOk result (IsMountedOn (ordered_disk order (disk_of_device D.BlockDevice device)) (D.history device)) }
+    ensures broken { IfErr result (λ e. IsTrueViolation (ordered_disk order (disk_of_device D.BlockDevice device)) e.1) }
+    ensures corrupt { IfErr result (λ e. error_of_mount e.1 ≡ Error.Corrupt → (ps : List ThreadPair) → ¬ IsAccepted (ordered_disk order (disk_of_device D.BlockDevice device)) ps) }
     ensures back { IfErr result (λ e. GivesDeviceBackOnlyReadWithError D.BlockDevice device e.0 (error_of_mount e.1)) }
-    ensures few { IfOk result (HasAtMostMountReads (disk_of_device D.BlockDevice device) (D.history device)) }
+    ensures few { IfOk result (ReadsLikeMount (disk_of_device D.BlockDevice device) (D.history device)) }
 {
-    let (mut thread, found) = read_and_check_image(alloc, device)?;
+    let (mut thread, found) = read_and_check(alloc, device)?;
     if let Some(violation) = found.get(order) {
         return Err((thread.into_device(), MountError::Corrupt(violation)));
     }
@@ -95,12 +95,12 @@ pub fn mount_in_order<D: BlockDevice>(
 // Reads the image of a device, and finds for each order of names a rule that it breaks, or none
 // where it is accepted. `Corrupt` comes where something else than its directories is wrong, and so
 // in each order.
-pub(crate) fn read_and_check_image<D: BlockDevice>(
+pub(crate) fn read_and_check<D: BlockDevice>(
     alloc: Global,
     device: D,
 ) -> Result<(Thread<D>, OrderViolations), (D, MountError)>
-    ensures read { IfOk result (λ r. IsAcceptedInNameOrders (disk_of_device D.BlockDevice device) (D.history device) r.0 r.1) }
-    ensures broken { IfErr result (λ e. (order : NameOrder) → HasTrueViolation (disk_in_order order (disk_of_device D.BlockDevice device)) e.1) }
+    ensures read { IfOk result (λ r. IsAcceptedIn (disk_of_device D.BlockDevice device) (D.history device) r.0 r.1) }
+    ensures broken { IfErr result (λ e. (order : NameOrder) → IsTrueViolation (ordered_disk order (disk_of_device D.BlockDevice device)) e.1) }
     ensures back { IfErr result (λ e. GivesDeviceBackOnlyReadWithError D.BlockDevice device e.0 (error_of_mount e.1)) }
 {
     let thread = Thread::read(alloc, device)?;
@@ -128,12 +128,12 @@ fn check_image<D: BlockDevice>(
     pairs: &[Pair],
     state: &MoveState,
 ) -> Result<OrderViolations, MountError>
-    requires { IsThreadReadFromDisk (disk_of_device D.BlockDevice device.old) (D.history device.old) pairs.now map.old (move_view state.now) }
-    ensures image { IfOk result (λ found. (order : NameOrder) → HasAcceptedImageIfNameOrderFits (disk_in_order order (disk_of_device D.BlockDevice device.old)) pairs.now (violation_in_order order found) map.old map.new) }
-    ensures broken { (v : Violation) → result ≡ Err (MountError.Corrupt v) → (order : NameOrder) → Breaks (disk_in_order order (disk_of_device D.BlockDevice device.old)) v }
+    requires { IsThreadRead (disk_of_device D.BlockDevice device.old) (D.history device.old) pairs.now map.old (move_view state.now) }
+    ensures image { IfOk result (λ found. (order : NameOrder) → HasAcceptedIf (ordered_disk order (disk_of_device D.BlockDevice device.old)) pairs.now (violation_in_order order found) map.old map.new) }
+    ensures broken { (v : Violation) → result ≡ Err (MountError.Corrupt v) → (order : NameOrder) → Breaks (ordered_disk order (disk_of_device D.BlockDevice device.old)) v }
     ensures device { OnlyReadsUnlessFault D.BlockDevice device.old device.new result }
     ensures few { IfOk result (λ found. (order : NameOrder) → violation_in_order order found ≡ None
-        → read_count_of_history (D.history device.new) ≤ read_count_of_history (D.history device.old) + check_read_count (disk_of_device D.BlockDevice device.old) (pairs_of_headers (disk_of_device D.BlockDevice device.old) pairs.now)) }
+        → read_count (D.history device.new) ≤ read_count (D.history device.old) + check_reads (disk_of_device D.BlockDevice device.old) (pairs_of_headers (disk_of_device D.BlockDevice device.old) pairs.now)) }
 {
     let count = superblock_chain_length(alloc, device, pairs)?;
     let directories = pairs_from_index(pairs, count);
@@ -165,12 +165,12 @@ fn mixed_number(number: u32) -> u32
 // Lets the map hand out blocks from another one on after each mount, so that wear spreads, and
 // answers that block.
 fn start_allocation_elsewhere(map: &mut BlockMap, pairs: &[Pair]) -> Option<u32>
-    ensures next { IfSome result (IsNextFreeBlockInCircle map.old (allocation_seed map.old pairs.now % length map.old)) }
-    ensures none { IfNone result ((block : ℕ) → ¬ (IsBlockFree map.old block)) }
+    ensures next { IfSome result (IsNextFree map.old (allocation_seed map.old pairs.now % length map.old)) }
+    ensures none { IfNone result ((block : ℕ) → ¬ (IsFree map.old block)) }
     ensures same { map.new ≡ map.old }
 {
     let seed = mixed_number(image_number(map, pairs));
-    map.set_search_start_to_first_free_from(seed)
+    map.start_search_at(seed)
 }
 
 // The pairs from an index on.
@@ -190,21 +190,21 @@ fn check_directories<D: BlockDevice>(
     pairs: &[Pair],
     state: &MoveState,
 ) -> Result<OrderViolations, MountError>
-    requires { AreDirectoryHeadersOfThread (disk_of_device D.BlockDevice device.old) map.old (move_view state.now) pairs.now }
+    requires { AreThreadDirectories (disk_of_device D.BlockDevice device.old) map.old (move_view state.now) pairs.now }
     ensures ok { IfOk result (λ found. (order : NameOrder) (chain : List ThreadPair) (p : ThreadPair) (rest : List ThreadPair)
-        → IsThreadMatchingMapAndDirectoryHeaders (disk_in_order order (disk_of_device D.BlockDevice device.old)) map.old (move_view state.now) pairs.now chain p rest
-        → IsImageAcceptedIfDirectoriesFitNameOrder (disk_in_order order (disk_of_device D.BlockDevice device.old)) (violation_in_order order found) map.old map.new chain p rest) }
+        → IsHeaderThread (ordered_disk order (disk_of_device D.BlockDevice device.old)) map.old (move_view state.now) pairs.now chain p rest
+        → IsAcceptedIf (ordered_disk order (disk_of_device D.BlockDevice device.old)) (violation_in_order order found) map.old map.new chain p rest) }
     ensures broken { (v : Violation) → result ≡ Err (MountError.Corrupt v) → (order : NameOrder) (chain : List ThreadPair) (p : ThreadPair) (rest : List ThreadPair)
-        → IsThreadMatchingMapAndDirectoryHeaders (disk_in_order order (disk_of_device D.BlockDevice device.old)) map.old (move_view state.now) pairs.now chain p rest
-        → BreaksPairs (disk_in_order order (disk_of_device D.BlockDevice device.old)) (chain ++ p ∷ rest) v }
+        → IsHeaderThread (ordered_disk order (disk_of_device D.BlockDevice device.old)) map.old (move_view state.now) pairs.now chain p rest
+        → BreaksPairs (ordered_disk order (disk_of_device D.BlockDevice device.old)) (chain ++ p ∷ rest) v }
     ensures device { OnlyReadsUnlessFault D.BlockDevice device.old device.new result }
-    ensures few { OnOk result (read_count_of_history (D.history device.new) ≤ read_count_of_history (D.history device.old) + sum_by (pair_read_count (disk_of_device D.BlockDevice device.old)) (pair_descriptions_of_headers (move_view state.now) true pairs.now)) }
+    ensures few { OnOk result (read_count (D.history device.new) ≤ read_count (D.history device.old) + sum_by (pair_reads (disk_of_device D.BlockDevice device.old)) (descriptions_of_headers (move_view state.now) true pairs.now)) }
 {
-    let Ok(members) = make_directory_pairs_from_headers(alloc, state, pairs) else {
+    let Ok(members) = directory_pairs_of(alloc, state, pairs) else {
         return Err(MountError::NoMemory);
     };
-    let Ok(places) = first_pair_addresses_of_all_directories(alloc, pairs) else {
+    let Ok(places) = first_addresses(alloc, pairs) else {
         return Err(MountError::NoMemory);
     };
-    check_slots_and_mark_lists_of_thread(alloc, device, map, &places, &members, state.sync)
+    check_and_mark(alloc, device, map, &places, &members, state.sync)
 }

@@ -1,21 +1,21 @@
 // The check of a thread's slots and directories.
 
 ghost use Rattle.std.specs.Prelude.{Err, List, ◌≡◌, ◌≤◌, ◌+◌, ◌++◌, ◌∷◌, IfOk, OnOk, sum_by};
-ghost use Rattle.lfs_model.specs.Disk.{disk_in_order};
-ghost use Rattle.lfs_model.specs.History.{read_count_of_history};
-ghost use Rattle.lfs_model.specs.Thread.{Pair};
-ghost use Rattle.lfs_model.specs.Violations.{BreaksPairs};
+ghost use Rattle.lfs_model.specs.format.Disk.{ordered_disk};
+ghost use Rattle.lfs_model.specs.session.History.{read_count};
+ghost use Rattle.lfs_model.specs.format.Thread.{Pair};
+ghost use Rattle.lfs_model.specs.layers.Violations.{BreaksPairs};
 ghost use Rattle.lfs_model.specs.declared.order.NameOrder.{NameOrder};
 ghost use Rattle.lfs_model.specs.declared.violations.Violation.{Violation};
-ghost use Rattle.lfs_mount.specs.Checked.{HasThreadMatchingMapAndPairDescriptions, IsThreadMatchingMapAndPairDescriptions};
-ghost use Rattle.lfs_mount.specs.Accepted.{IsImageAcceptedIfDirectoriesFitNameOrder};
+ghost use Rattle.lfs_mount.specs.Checked.{HasDescribed, IsDescribedThread};
+ghost use Rattle.lfs_mount.specs.Accepted.{IsAcceptedIf};
 ghost use Rattle.lfs_thread.specs.Kept.{disk_of_device};
 ghost use Rattle.lfs_thread.specs.MountErrors.{OnlyReadsUnlessFault};
 ghost use Rattle.lfs_mount.specs.Orders.{violation_in_order};
-ghost use Rattle.lfs_mount.specs.Reads.{pair_read_count};
+ghost use Rattle.lfs_mount.specs.MountReads.{pair_reads};
 
 use crate::orders::OrderViolations;
-use crate::pass::{PairBeforeSlotsAreRead, scan_pairs_and_mark_lists};
+use crate::pass::{PairBeforeSlotsAreRead, scan_pairs};
 use crate::reachability::find_directory_violations;
 use lfs_blocks::BlockMap;
 use lfs_device::BlockDevice;
@@ -37,7 +37,7 @@ use std::alloc::Global;
 // (`TwoOwners`; SPEC.md of littlefs, "Metadata types"; DESIGN.md, "CTZ skip-lists" and "The move
 // problem"). `NoMemory` where memory isn't granted, and `Io` where the device failed. After an error
 // nothing is known of the map.
-pub(crate) fn check_slots_and_mark_lists_of_thread<D: BlockDevice>(
+pub(crate) fn check_and_mark<D: BlockDevice>(
     alloc: Global,
     device: &mut D,
     map: &mut BlockMap,
@@ -45,18 +45,18 @@ pub(crate) fn check_slots_and_mark_lists_of_thread<D: BlockDevice>(
     members: &[PairBeforeSlotsAreRead],
     sync: bool,
 ) -> Result<OrderViolations, MountError>
-    requires { HasThreadMatchingMapAndPairDescriptions (disk_of_device D.BlockDevice device.old) map.old places.now members.now sync }
+    requires { HasDescribed (disk_of_device D.BlockDevice device.old) map.old places.now members.now sync }
     ensures ok { IfOk result (λ found. (order : NameOrder) (chain : List Pair) (p : Pair) (rest : List Pair)
-        → IsThreadMatchingMapAndPairDescriptions (disk_in_order order (disk_of_device D.BlockDevice device.old)) map.old places.now members.now sync chain p rest
-        → IsImageAcceptedIfDirectoriesFitNameOrder (disk_in_order order (disk_of_device D.BlockDevice device.old)) (violation_in_order order found) map.old map.new chain p rest) }
+        → IsDescribedThread (ordered_disk order (disk_of_device D.BlockDevice device.old)) map.old places.now members.now sync chain p rest
+        → IsAcceptedIf (ordered_disk order (disk_of_device D.BlockDevice device.old)) (violation_in_order order found) map.old map.new chain p rest) }
     ensures broken { (v : Violation) → result ≡ Err (MountError.Corrupt v) → (order : NameOrder) (chain : List Pair) (p : Pair) (rest : List Pair)
-        → IsThreadMatchingMapAndPairDescriptions (disk_in_order order (disk_of_device D.BlockDevice device.old)) map.old places.now members.now sync chain p rest
-        → BreaksPairs (disk_in_order order (disk_of_device D.BlockDevice device.old)) (chain ++ p ∷ rest) v }
+        → IsDescribedThread (ordered_disk order (disk_of_device D.BlockDevice device.old)) map.old places.now members.now sync chain p rest
+        → BreaksPairs (ordered_disk order (disk_of_device D.BlockDevice device.old)) (chain ++ p ∷ rest) v }
     ensures device { OnlyReadsUnlessFault D.BlockDevice device.old device.new result }
     // One read for each pair, and those of the files' lists.
-    ensures few { OnOk result (read_count_of_history (D.history device.new) ≤ read_count_of_history (D.history device.old) + sum_by (pair_read_count (disk_of_device D.BlockDevice device.old)) members.now) }
+    ensures few { OnOk result (read_count (D.history device.new) ≤ read_count (D.history device.old) + sum_by (pair_reads (disk_of_device D.BlockDevice device.old)) members.now) }
 {
-    let directories = scan_pairs_and_mark_lists(alloc, device, map, places, members)?;
+    let directories = scan_pairs(alloc, device, map, places, members)?;
     let found = find_directory_violations(alloc, &directories, places.addresses(), sync)?;
     Ok(found)
 }

@@ -3,12 +3,12 @@
 ghost use Rattle.std.specs.Prelude.{◌≡◌, ◌⊎◌, map, OnOk, IfErr, IsErrOf, Some, None};
 ghost use Rattle.lfs_model.specs.declared.order.NameOrder.{NameOrder};
 ghost use Rattle.lfs_tag.specs.ContentView.{slot_view};
-ghost use Rattle.lfs_mount.specs.Entries.{comes_after_name, empty_directory_scan, directory_scan_with_entry};
+ghost use Rattle.lfs_mount.specs.DirectoryEntries.{comes_after_name, empty_scan, scan_with_entry};
 ghost use Rattle.lfs_mount.specs.EntryView.{entry_view};
-ghost use Rattle.lfs_mount.specs.Orders.{includes_name_order};
-ghost use Rattle.lfs_mount.specs.Scanned.{directory_scan_after_slots};
+ghost use Rattle.lfs_mount.specs.Orders.{includes_order};
+ghost use Rattle.lfs_mount.specs.Scanned.{scan_after_slots};
 
-use crate::entry::{NamedStruct, file_or_directory_entry_in_slot};
+use crate::entry::{NamedStruct, tree_entry_in};
 use crate::orders::NameOrderSet;
 use crate::reachability::Directory;
 use lfs_device::Error;
@@ -26,8 +26,8 @@ fn comes_after_name(order: NameOrder, last: &[u8], name: &[u8]) -> bool
 }
 
 // Returns the orders in which a name comes after the last one.
-fn orders_in_which_name_follows(last: &[u8], name: &[u8]) -> NameOrderSet
-    ensures { (order : NameOrder) → includes_name_order order result ≡ comes_after_name order last.now name.now }
+fn orders_after(last: &[u8], name: &[u8]) -> NameOrderSet
+    ensures { (order : NameOrder) → includes_order order result ≡ comes_after_name order last.now name.now }
 {
     NameOrderSet {
         longer_first: comes_after_name(NameOrder::LongerFirst, last, name),
@@ -44,12 +44,12 @@ pub(crate) struct ScannedDirectory {
 }
 
 impl ScannedDirectory {
-    ghost use Rattle.lfs_mount.specs.KnownView.{directory_scan_view};
-    ghost use Rattle.lfs_mount.specs.DirectoryView.{directory_vertex_view};
+    ghost use Rattle.lfs_mount.specs.KnownView.{scan_view};
+    ghost use Rattle.lfs_mount.specs.DirectoryView.{vertex_view};
 
     // Makes what is known before the first entry of a directory, which is nothing.
     pub fn begin_directory_scan(alloc: Global) -> ScannedDirectory
-        ensures { (order : NameOrder) → directory_scan_view order result ≡ empty_directory_scan }
+        ensures { (order : NameOrder) → scan_view order result ≡ empty_scan }
     {
         ScannedDirectory {
             last: Vec::new(alloc),
@@ -77,10 +77,10 @@ impl ScannedDirectory {
         places: &PairAddressList,
         entry: &NamedStruct<'_>,
     ) -> Result<(), Error>
-        ensures ok { OnOk result ((order : NameOrder) → directory_scan_view order self.new ≡ directory_scan_with_entry order places.now (directory_scan_view order self.old) (entry_view entry.now)) }
+        ensures ok { OnOk result ((order : NameOrder) → scan_view order self.new ≡ scan_with_entry order places.now (scan_view order self.old) (entry_view entry.now)) }
         ensures error { IfErr result (λ e. e ≡ Error.NoMemory) }
     {
-        let rises = orders_in_which_name_follows(&self.last, entry.name);
+        let rises = orders_after(&self.last, entry.name);
         self.directory.rises_in = self.directory.rises_in.intersect(rises);
         self.set_last_name(entry.name)?;
         if let Struct::Branch(pair) = entry.target {
@@ -95,8 +95,8 @@ impl ScannedDirectory {
     // Returns the directory, whose last entry was read. Nothing is known of the next directory
     // then.
     pub fn take_scanned_directory(&mut self, alloc: Global) -> Directory
-        ensures directory { (order : NameOrder) → directory_vertex_view order result ≡ (directory_scan_view order self.old).1 }
-        ensures nothing { (order : NameOrder) → directory_scan_view order self.new ≡ empty_directory_scan }
+        ensures directory { (order : NameOrder) → vertex_view order result ≡ (scan_view order self.old).1 }
+        ensures nothing { (order : NameOrder) → scan_view order self.new ≡ empty_scan }
     {
         std::mem::replace(self, ScannedDirectory::begin_directory_scan(alloc)).directory
     }
@@ -107,12 +107,12 @@ impl ScannedDirectory {
         places: &PairAddressList,
         slots: &[Slot<'_>],
     ) -> Result<(), Error>
-        ensures ok { OnOk result ((order : NameOrder) → directory_scan_after_slots order places.now (directory_scan_view order self.old) (map slot_view slots.now) ≡ Some (directory_scan_view order self.new)) }
-        ensures corrupt { IsErrOf result Error.Corrupt → (order : NameOrder) → directory_scan_after_slots order places.now (directory_scan_view order self.old) (map slot_view slots.now) ≡ None }
+        ensures ok { OnOk result ((order : NameOrder) → scan_after_slots order places.now (scan_view order self.old) (map slot_view slots.now) ≡ Some (scan_view order self.new)) }
+        ensures corrupt { IsErrOf result Error.Corrupt → (order : NameOrder) → scan_after_slots order places.now (scan_view order self.old) (map slot_view slots.now) ≡ None }
         ensures errors { IfErr result (λ e. (e ≡ Error.Corrupt) ⊎ (e ≡ Error.NoMemory)) }
     {
         for slot in slots {
-            let Some(entry) = file_or_directory_entry_in_slot(slot) else {
+            let Some(entry) = tree_entry_in(slot) else {
                 return Err(Error::Corrupt);
             };
             self.add_directory_entry(places, &entry)?;

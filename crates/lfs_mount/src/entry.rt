@@ -2,9 +2,9 @@
 
 ghost use Rattle.std.specs.Prelude.{ℕ, ◌≡◌, ◌≤◌, is_some, length, map};
 ghost use Rattle.std.specs.Option.{option_map};
-ghost use Rattle.lfs_tag.specs.ContentView.{name_or_struct_view, slot_view};
+ghost use Rattle.lfs_tag.specs.ContentView.{data_view, slot_view};
 ghost use Rattle.lfs_tag.specs.StructView.{struct_view};
-ghost use Rattle.lfs_mount.specs.Entries.{HoldsNoEntryAt, directory_entry_of_raw_slot, entry_reference_of_raw_struct, entry_reference_of_struct};
+ghost use Rattle.lfs_mount.specs.DirectoryEntries.{HoldsNoneAt, raw_slot_entry, raw_reference, struct_reference};
 ghost use Rattle.lfs_mount.specs.EntryView.{entry_view};
 
 use lfs_tag::{NameOrStruct, Slot, SlotNameKind, Struct, is_name};
@@ -17,11 +17,11 @@ pub(crate) struct NamedStruct<'a> {
 }
 
 // Returns what a struct says, where it suits the type of the name.
-fn struct_suited_to_name_type<'a>(
+fn suited_struct<'a>(
     name: &NameOrStruct<'_>,
     structure: &NameOrStruct<'a>,
 ) -> Option<Struct<'a>>
-    ensures { option_map (λ s. entry_reference_of_struct (struct_view s)) result ≡ entry_reference_of_raw_struct name.now.kind (name_or_struct_view structure.now) }
+    ensures { option_map (λ s. struct_reference (struct_view s)) result ≡ raw_reference name.now.kind (data_view structure.now) }
 {
     let Some(target) = Struct::of(structure) else {
         return None;
@@ -37,8 +37,8 @@ fn struct_suited_to_name_type<'a>(
 // Reads the entry in a slot of a directory (SPEC.md of littlefs, "Metadata types"). Returns None
 // exactly where the slot has no name that a directory may have, or no struct that suits the type of
 // its name.
-pub(crate) fn file_or_directory_entry_in_slot<'a>(slot: &Slot<'a>) -> Option<NamedStruct<'a>>
-    ensures { option_map entry_view result ≡ directory_entry_of_raw_slot (slot_view slot.now) }
+pub(crate) fn tree_entry_in<'a>(slot: &Slot<'a>) -> Option<NamedStruct<'a>>
+    ensures { option_map entry_view result ≡ raw_slot_entry (slot_view slot.now) }
 {
     let (Some(name), Some(structure)) = (slot.name, slot.structure) else {
         return None;
@@ -46,7 +46,7 @@ pub(crate) fn file_or_directory_entry_in_slot<'a>(slot: &Slot<'a>) -> Option<Nam
     if !is_name(name.bytes) {
         return None;
     }
-    match struct_suited_to_name_type(&name, &structure) {
+    match suited_struct(&name, &structure) {
         Some(target) => Some(NamedStruct {
             name: name.bytes,
             target,
@@ -55,19 +55,19 @@ pub(crate) fn file_or_directory_entry_in_slot<'a>(slot: &Slot<'a>) -> Option<Nam
     }
 }
 
-pub(crate) fn is_file_or_directory_entry(slot: &Slot<'_>) -> bool
-    ensures { result ≡ is_some (directory_entry_of_raw_slot (slot_view slot.now)) }
+pub(crate) fn is_tree_entry(slot: &Slot<'_>) -> bool
+    ensures { result ≡ is_some (raw_slot_entry (slot_view slot.now)) }
 {
-    file_or_directory_entry_in_slot(slot).is_some()
+    tree_entry_in(slot).is_some()
 }
 
 // Returns the index of the first slot that holds no entry, where there is one, else the slots' count.
 pub(crate) fn first_non_entry(slots: &[Slot<'_>]) -> usize
-    ensures holds { (other : ℕ) → HoldsNoEntryAt (map slot_view slots.now) other → HoldsNoEntryAt (map slot_view slots.now) result }
+    ensures holds { (other : ℕ) → HoldsNoneAt (map slot_view slots.now) other → HoldsNoneAt (map slot_view slots.now) result }
     ensures within { result ≤ length slots.now }
 {
     for index in 0..slots.len() {
-        if !is_file_or_directory_entry(&slots[index]) {
+        if !is_tree_entry(&slots[index]) {
             return index;
         }
     }

@@ -3,21 +3,21 @@
 ghost use Rattle.std.specs.Prelude.{◌≡◌, ◌≤◌, ◌<◌, ◌+◌, ◌^◌, ◌↔◌, Err, IsTrue, OnOk, length, slice_set, sum_by};
 ghost use Rattle.std.specs.Bool.{OnFalse, OnTrue};
 ghost use Rattle.std.specs.Option.{option_and_then};
-ghost use Rattle.lfs_model.specs.BlockSets.{IsBlockFree};
-ghost use Rattle.lfs_model.specs.BlockSets.BlockState.{Used};
-ghost use Rattle.lfs_model.specs.History.{read_count_of_history};
+ghost use Rattle.lfs_model.specs.layers.BlockSets.{IsFree};
+ghost use Rattle.lfs_model.specs.layers.BlockSets.BlockState.{Used};
+ghost use Rattle.lfs_model.specs.session.History.{read_count};
 ghost use Rattle.lfs_model.specs.declared.violations.Violation.{Violation};
 ghost use Rattle.lfs_thread.specs.Kept.{disk_of_device};
 ghost use Rattle.lfs_thread.specs.MountErrors.{OnlyReadsUnlessFault};
 ghost use Rattle.lfs_thread.specs.declared.mount_error.MountError.TheVariants.{Corrupt};
 ghost use Rattle.lfs_mount.specs.Broken.{BreaksKeptList, BreaksList};
-ghost use Rattle.lfs_mount.specs.Entries.{directory_entry_of_raw_slot};
-ghost use Rattle.lfs_mount.specs.ListsView.{file_lists_view, raw_slots_view};
-ghost use Rattle.lfs_mount.specs.Marking.{MarksFreeBlocksOfList, MarksFreeBlocksOfLists, MarksBlockIfFree, skip_list_of_entry};
-ghost use Rattle.lfs_mount.specs.Reads.{list_read_count};
+ghost use Rattle.lfs_mount.specs.DirectoryEntries.{raw_slot_entry};
+ghost use Rattle.lfs_mount.specs.ListsView.{lists_view, raw_slots_view};
+ghost use Rattle.lfs_mount.specs.Marking.{MarksListUsed, MarksListsUsed, MarksIfFree, list_of_entry};
+ghost use Rattle.lfs_mount.specs.MountReads.{list_reads};
 ghost use Rattle.lfs_tag.specs.ContentView.{slot_view};
 
-use crate::entry::file_or_directory_entry_in_slot;
+use crate::entry::tree_entry_in;
 use crate::pass::PairBeforeSlotsAreRead;
 use lfs_blocks::BlockMap;
 use lfs_device::BlockDevice;
@@ -28,8 +28,8 @@ use lfs_thread::MountError;
 
 // Marks a free block as used, and returns whether it was free. A block that the map doesn't have
 // isn't free.
-fn mark_block_if_free(map: &mut BlockMap, block: u32) -> bool
-    ensures free { IsTrue result ↔ IsBlockFree map.old block }
+fn mark_if_free(map: &mut BlockMap, block: u32) -> bool
+    ensures free { IsTrue result ↔ IsFree map.old block }
     ensures marked { OnTrue result (map.new ≡ slice_set map.old block Used) }
     ensures same { OnFalse result (map.new ≡ map.old) }
 {
@@ -48,10 +48,10 @@ fn mark_slot_list<D: BlockDevice>(
     slot: u32,
     list: (u32, u32),
 ) -> Result<(), MountError>
-    ensures marked { OnOk result (MarksFreeBlocksOfList (disk_of_device D.BlockDevice device.old) map.old list map.new) }
+    ensures marked { OnOk result (MarksListUsed (disk_of_device D.BlockDevice device.old) map.old list map.new) }
     ensures broken { (v : Violation) → result ≡ Err (Corrupt v) → BreaksList (disk_of_device D.BlockDevice device.old) map.old list pair slot v }
     ensures reading { OnlyReadsUnlessFault D.BlockDevice device.old device.new result }
-    ensures few { OnOk result (read_count_of_history (D.history device.new) ≤ read_count_of_history (D.history device.old) + list_read_count (D.geometry device.old).block_size list) }
+    ensures few { OnOk result (read_count (D.history device.new) ≤ read_count (D.history device.old) + list_reads (D.geometry device.old).block_size list) }
 {
     let mut taken: Option<u32> = None;
     let walked = walk(
@@ -59,9 +59,9 @@ fn mark_slot_list<D: BlockDevice>(
         list.0,
         list.1,
         &mut |block: u32|
-            ensures { MarksBlockIfFree map.entry.now taken.entry block map.exit.now taken.exit }
+            ensures { MarksIfFree map.entry.now taken.entry block map.exit.now taken.exit }
         {
-            if !mark_block_if_free(map, block) && taken.is_none() {
+            if !mark_if_free(map, block) && taken.is_none() {
                 taken = Some(block);
             }
         },
@@ -76,10 +76,10 @@ fn mark_slot_list<D: BlockDevice>(
 }
 
 // Returns the head and the size of the list that a slot's entry has, if it has one.
-fn skip_list_of_slot(slot: &Slot<'_>) -> Option<(u32, u32)>
-    ensures { result ≡ option_and_then skip_list_of_entry (directory_entry_of_raw_slot (slot_view slot.now)) }
+fn list_of_slot(slot: &Slot<'_>) -> Option<(u32, u32)>
+    ensures { result ≡ option_and_then list_of_entry (raw_slot_entry (slot_view slot.now)) }
 {
-    let Some(entry) = file_or_directory_entry_in_slot(slot) else {
+    let Some(entry) = tree_entry_in(slot) else {
         return None;
     };
     match entry.target {
@@ -92,20 +92,20 @@ fn skip_list_of_slot(slot: &Slot<'_>) -> Option<(u32, u32)>
 //
 // Errors: `Corrupt` where one of the lists isn't well formed, or where a block was marked before.
 // Some blocks may be marked then. `Io` where a read failed.
-pub(crate) fn mark_lists_of_slots_used<D: BlockDevice>(
+pub(crate) fn mark_slot_lists<D: BlockDevice>(
     device: &mut D,
     map: &mut BlockMap,
     member: &PairBeforeSlotsAreRead,
     slots: &[Slot<'_>],
 ) -> Result<(), MountError>
     requires { length slots.now < 2 ^ 31 }
-    ensures marked { OnOk result (MarksFreeBlocksOfLists (disk_of_device D.BlockDevice device.old) map.old (file_lists_view slots.now) map.new) }
+    ensures marked { OnOk result (MarksListsUsed (disk_of_device D.BlockDevice device.old) map.old (lists_view slots.now) map.new) }
     ensures broken { (v : Violation) → result ≡ Err (Corrupt v) → BreaksKeptList (disk_of_device D.BlockDevice device.old) member.now map.old (raw_slots_view slots.now) v }
     ensures reading { OnlyReadsUnlessFault D.BlockDevice device.old device.new result }
-    ensures few { OnOk result (read_count_of_history (D.history device.new) ≤ read_count_of_history (D.history device.old) + sum_by (list_read_count (D.geometry device.old).block_size) (file_lists_view slots.now)) }
+    ensures few { OnOk result (read_count (D.history device.new) ≤ read_count (D.history device.old) + sum_by (list_reads (D.geometry device.old).block_size) (lists_view slots.now)) }
 {
     for index in 0..slots.len() {
-        if let Some(list) = skip_list_of_slot(&slots[index]) {
+        if let Some(list) = list_of_slot(&slots[index]) {
             let number = member.kept_slot_number(index);
             mark_slot_list(device, map, member.at, number, list)?;
         }

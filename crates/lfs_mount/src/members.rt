@@ -2,10 +2,10 @@
 
 ghost use Rattle.std.specs.Prelude.{◌≡◌, IfErr, IfOk, nat_eq, true};
 ghost use Rattle.std.specs.List.{IsDistinct};
-ghost use Rattle.lfs_model.specs.Slots.{pair_address_of_array};
+ghost use Rattle.lfs_model.specs.format.Slots.{array_address};
 ghost use Rattle.lfs_tag.specs.FieldsView.{move_view};
-ghost use Rattle.lfs_thread.specs.Places.{blocks_of_pair_addresses};
-ghost use Rattle.lfs_mount.specs.Members.{directory_addresses_in_headers, pair_description_of_header, pair_descriptions_of_headers, id_of_moved_slot_at_address};
+ghost use Rattle.lfs_thread.specs.PairPlaces.{blocks_of_addresses};
+ghost use Rattle.lfs_mount.specs.Members.{header_addresses, header_description, descriptions_of_headers, moved_id_at};
 
 use crate::pass::PairBeforeSlotsAreRead;
 use lfs_device::Error;
@@ -17,8 +17,8 @@ use std::alloc::Global;
 
 // Returns the id of the slot that a set move names in the pair at an address, if it names one
 // there.
-fn moved_slot_id_at(state: &MoveState, at: [u32; 2]) -> Option<u32>
-    ensures { result ≡ id_of_moved_slot_at_address (move_view state.now) (pair_address_of_array at) }
+fn moved_slot_at(state: &MoveState, at: [u32; 2]) -> Option<u32>
+    ensures { result ≡ moved_id_at (move_view state.now) (array_address at) }
 {
     if state.kind == DELETE && is_same_pair(state.pair, at) {
         Some(u32::from(state.id))
@@ -27,46 +27,46 @@ fn moved_slot_id_at(state: &MoveState, at: [u32; 2]) -> Option<u32>
     }
 }
 
-fn make_directory_pair_from_header(
+fn directory_pair_of(
     state: &MoveState,
     is_first: bool,
     pair: &Pair,
 ) -> PairBeforeSlotsAreRead
-    ensures { result ≡ pair_description_of_header (move_view state.now) is_first pair.now }
+    ensures { result ≡ header_description (move_view state.now) is_first pair.now }
 {
     PairBeforeSlotsAreRead {
         at: pair.blocks,
         active: pair.active,
         is_hard: has_hard_tail(pair.tail),
         has_superblock: is_first,
-        moved: moved_slot_id_at(state, pair.blocks),
+        moved: moved_slot_at(state, pair.blocks),
     }
 }
 
 // Returns what is known of these pairs, from the root's first one on.
-pub(crate) fn make_directory_pairs_from_headers(
+pub(crate) fn directory_pairs_of(
     alloc: Global,
     state: &MoveState,
     pairs: &[Pair],
 ) -> Result<Vec<PairBeforeSlotsAreRead>, Error>
-    ensures members { IfOk result (λ members. members.items ≡ pair_descriptions_of_headers (move_view state.now) true pairs.now) }
+    ensures members { IfOk result (λ members. members.items ≡ descriptions_of_headers (move_view state.now) true pairs.now) }
     ensures error { IfErr result (λ e. e ≡ Error.NoMemory) }
 {
     let mut members = Vec::new(alloc);
     for pair in pairs {
         let is_first = members.is_empty();
-        members.push(make_directory_pair_from_header(state, is_first, pair))?;
+        members.push(directory_pair_of(state, is_first, pair))?;
     }
     Ok(members)
 }
 
 // Returns the addresses of the directories of these pairs, from the root's first pair on.
-pub(crate) fn first_pair_addresses_of_all_directories(
+pub(crate) fn first_addresses(
     alloc: Global,
     pairs: &[Pair],
 ) -> Result<PairAddressList, Error>
-    requires { IsDistinct nat_eq (blocks_of_pair_addresses (directory_addresses_in_headers true pairs.now)) }
-    ensures places { IfOk result (λ places. places ≡ directory_addresses_in_headers true pairs.now) }
+    requires { IsDistinct nat_eq (blocks_of_addresses (header_addresses true pairs.now)) }
+    ensures places { IfOk result (λ places. places ≡ header_addresses true pairs.now) }
     ensures error { IfErr result (λ e. e ≡ Error.NoMemory) }
 {
     let mut places = PairAddressList::new(alloc);

@@ -3,7 +3,7 @@
 ghost use Rattle.std.specs.Prelude.{◌≡◌, ◌&&◌, IfErr, IfOk, None, Ok, Some, is_some, true};
 ghost use Rattle.lfs_model.specs.declared.order.NameOrder.{NameOrder};
 ghost use Rattle.lfs_model.specs.declared.order.NameOrder.TheVariants.{LongerFirst, ShorterFirst};
-ghost use Rattle.lfs_mount.specs.Orders.{includes_name_order, violation_in_order};
+ghost use Rattle.lfs_mount.specs.Orders.{includes_order, violation_in_order};
 
 use lfs_model::{NameOrder, Violation};
 
@@ -17,7 +17,7 @@ pub(crate) struct NameOrderSet {
 impl NameOrderSet {
     // Returns both orders.
     pub fn both() -> NameOrderSet
-        ensures { (order : NameOrder) → includes_name_order order result ≡ true }
+        ensures { (order : NameOrder) → includes_order order result ≡ true }
     {
         NameOrderSet {
             longer_first: true,
@@ -26,7 +26,7 @@ impl NameOrderSet {
     }
 
     pub fn contains(self, order: NameOrder) -> bool
-        ensures { result ≡ includes_name_order order self }
+        ensures { result ≡ includes_order order self }
     {
         match order {
             NameOrder::LongerFirst => self.longer_first,
@@ -36,7 +36,7 @@ impl NameOrderSet {
 
     // Returns the orders that are in both sets.
     pub fn intersect(self, other: NameOrderSet) -> NameOrderSet
-        ensures { (order : NameOrder) → includes_name_order order result ≡ (includes_name_order order self && includes_name_order order other) }
+        ensures { (order : NameOrder) → includes_order order result ≡ (includes_order order self && includes_order order other) }
     {
         NameOrderSet {
             longer_first: self.longer_first && other.longer_first,

@@ -1,30 +1,30 @@
 // The pass over the pairs of the directories, each of which is read once.
 
 ghost use Rattle.std.specs.Prelude.{◌≡◌, ◌≢◌, ◌≤◌, ◌<◌, ◌+◌, ◌++◌, ◌∷◌, ◌^◌, Bool, Err, List, All, IfErr, IfOk, None, OnOk, Some, length, map, sum_by};
-ghost use Rattle.lfs_model.specs.Disk.{disk_in_order};
-ghost use Rattle.lfs_model.specs.Blocks.{block_bytes_by_number};
-ghost use Rattle.lfs_model.specs.History.{read_count_of_history};
-ghost use Rattle.lfs_model.specs.Thread.{Pair};
-ghost use Rattle.lfs_model.specs.Violations.{BreaksPairs};
+ghost use Rattle.lfs_model.specs.format.Disk.{ordered_disk};
+ghost use Rattle.lfs_model.specs.format.Blocks.{block_bytes};
+ghost use Rattle.lfs_model.specs.session.History.{read_count};
+ghost use Rattle.lfs_model.specs.format.Thread.{Pair};
+ghost use Rattle.lfs_model.specs.layers.Violations.{BreaksPairs};
 ghost use Rattle.lfs_model.specs.declared.order.NameOrder.{NameOrder};
 ghost use Rattle.lfs_model.specs.declared.violations.Violation.{Violation};
 ghost use Rattle.lfs_model.specs.declared.violations.Violation.TheVariants.{NoSuperblock};
-ghost use Rattle.lfs_mount.specs.Broken.{BreaksDescribedPair, BreaksMovedSlot, BreaksSlotsInBlock, kept_slots_in_block};
-ghost use Rattle.lfs_mount.specs.Checked.{IsThreadMatchingMapAndPairDescriptions};
-ghost use Rattle.lfs_mount.specs.DirectoryView.{directory_graph_view};
-ghost use Rattle.lfs_mount.specs.Entries.{empty_directory_scan};
-ghost use Rattle.lfs_mount.specs.KnownView.{directory_scan_view};
-ghost use Rattle.lfs_mount.specs.Passed.{ScansPairsIntoDirectoryGraph};
-ghost use Rattle.lfs_mount.specs.Reads.{pair_read_count};
-ghost use Rattle.lfs_mount.specs.Taken.{AddsPairToDirectoryScan, raw_slots_not_moved, slots_after_superblock};
+ghost use Rattle.lfs_mount.specs.Broken.{BreaksDescribedPair, BreaksMovedSlot, BreaksBlockSlots, kept_block_slots};
+ghost use Rattle.lfs_mount.specs.Checked.{IsDescribedThread};
+ghost use Rattle.lfs_mount.specs.DirectoryView.{graph_view};
+ghost use Rattle.lfs_mount.specs.DirectoryEntries.{empty_scan};
+ghost use Rattle.lfs_mount.specs.KnownView.{scan_view};
+ghost use Rattle.lfs_mount.specs.Passed.{ScansPairs};
+ghost use Rattle.lfs_mount.specs.MountReads.{pair_reads};
+ghost use Rattle.lfs_mount.specs.Taken.{AddsPair, unmoved_raw_slots, after_superblock};
 ghost use Rattle.lfs_tag.specs.ContentView.{slot_view};
 ghost use Rattle.lfs_thread.specs.Kept.{disk_of_device};
 ghost use Rattle.lfs_thread.specs.MountErrors.{OnlyReadsUnlessFault};
 ghost use Rattle.lfs_thread.specs.declared.mount_error.MountError.TheVariants.{Corrupt, Io};
 
 use crate::directory_scan::ScannedDirectory;
-use crate::entry::{first_non_entry, is_file_or_directory_entry};
-use crate::lists::mark_lists_of_slots_used;
+use crate::entry::{first_non_entry, is_tree_entry};
+use crate::lists::mark_slot_lists;
 use crate::reachability::Directory;
 use lfs_blocks::BlockMap;
 use lfs_device::{BlockDevice, Error, read_block};
@@ -73,7 +73,7 @@ fn remove_moved_slot(
     slots: &mut Vec<Slot<'_>>,
     member: &PairBeforeSlotsAreRead,
 ) -> Result<(), MountError>
-    ensures ok { OnOk result (raw_slots_not_moved member.now.moved (map slot_view slots.old.items) ≡ Some (map slot_view slots.new.items)) }
+    ensures ok { OnOk result (unmoved_raw_slots member.now.moved (map slot_view slots.old.items) ≡ Some (map slot_view slots.new.items)) }
     ensures fewer { OnOk result (length slots.new.items ≤ length slots.old.items) }
     ensures broken { IfErr result (λ e. (v : Violation) × ((e ≡ Corrupt v) × BreaksMovedSlot member.now (map slot_view slots.old.items) v)) }
 {
@@ -84,7 +84,7 @@ fn remove_moved_slot(
     if index >= slots.len() || slots[index].is_superblock() {
         return Err(MountError::Corrupt(Violation::Move));
     }
-    if !is_file_or_directory_entry(&slots[index]) {
+    if !is_tree_entry(&slots[index]) {
         return Err(MountError::Corrupt(Violation::Entry {
             pair: member.at,
             slot: id,
@@ -96,9 +96,9 @@ fn remove_moved_slot(
 
 // Removes the superblock's slot. Corrupt exactly where there is no slot.
 fn remove_superblock_slot(slots: &mut Vec<Slot<'_>>, has_superblock: bool) -> Result<(), MountError>
-    ensures ok { OnOk result (slots_after_superblock has_superblock (map slot_view slots.old.items) ≡ Some (map slot_view slots.new.items)) }
+    ensures ok { OnOk result (after_superblock has_superblock (map slot_view slots.old.items) ≡ Some (map slot_view slots.new.items)) }
     ensures fewer { OnOk result (length slots.new.items ≤ length slots.old.items) }
-    ensures broken { IfErr result (λ e. (e ≡ Corrupt NoSuperblock) × (slots_after_superblock has_superblock (map slot_view slots.old.items) ≡ None)) }
+    ensures broken { IfErr result (λ e. (e ≡ Corrupt NoSuperblock) × (after_superblock has_superblock (map slot_view slots.old.items) ≡ None)) }
 {
     if !has_superblock {
         return Ok(());
@@ -119,9 +119,9 @@ fn read_kept_slots<'a>(
     log: &Log<'a>,
     member: &PairBeforeSlotsAreRead,
 ) -> Result<Vec<Slot<'a>>, MountError>
-    ensures kept { IfOk result (λ slots. kept_slots_in_block member.now log.now ≡ Some (map slot_view slots.items)) }
+    ensures kept { IfOk result (λ slots. kept_block_slots member.now log.now ≡ Some (map slot_view slots.items)) }
     ensures few { length log.now ≤ 2 ^ 16 → IfOk result (λ slots. length slots.items < 2 ^ 15) }
-    ensures broken { (v : Violation) → result ≡ Err (Corrupt v) → BreaksSlotsInBlock member.now log.now v }
+    ensures broken { (v : Violation) → result ≡ Err (Corrupt v) → BreaksBlockSlots member.now log.now v }
     ensures error { IfErr result (λ e. e ≢ Io) }
 {
     let mut slots = match Content::read(alloc, log) {
@@ -143,10 +143,10 @@ fn read_active_block<D: BlockDevice>(
     member: &PairBeforeSlotsAreRead,
 ) -> Result<Vec<u8>, MountError>
     requires { member.now.active < (D.geometry device.old).block_count }
-    ensures bytes { IfOk result (λ bytes. bytes.items ≡ block_bytes_by_number (D.blocks device.old) member.now.active) }
+    ensures bytes { IfOk result (λ bytes. bytes.items ≡ block_bytes (D.blocks device.old) member.now.active) }
     ensures sound { (v : Violation) → result ≢ Err (Corrupt v) }
     ensures reading { OnlyReadsUnlessFault D.BlockDevice device.old device.new result }
-    ensures once { OnOk result (read_count_of_history (D.history device.new) ≡ read_count_of_history (D.history device.old) + 1) }
+    ensures once { OnOk result (read_count (D.history device.new) ≡ read_count (D.history device.old) + 1) }
 {
     match read_block(alloc, device, member.active) {
         Ok(bytes) => Ok(bytes),
@@ -161,7 +161,7 @@ fn read_active_block<D: BlockDevice>(
 // Errors: `Corrupt` where the pair's log is malformed, a slot holds no entry, a list isn't well
 // formed, or a block was marked before. `Io` where a read failed, and `NoMemory` where memory isn't
 // granted.
-fn scan_pair_and_mark_lists<D: BlockDevice>(
+fn scan_pair<D: BlockDevice>(
     alloc: Global,
     device: &mut D,
     map: &mut BlockMap,
@@ -170,10 +170,10 @@ fn scan_pair_and_mark_lists<D: BlockDevice>(
     member: &PairBeforeSlotsAreRead,
 ) -> Result<(), MountError>
     requires { member.now.active < (D.geometry device.old).block_count }
-    ensures taken { OnOk result ((order : NameOrder) → AddsPairToDirectoryScan (disk_in_order order (disk_of_device D.BlockDevice device.old)) places.now member.now (directory_scan_view order known.old) map.old (directory_scan_view order known.new) map.new) }
-    ensures broken { (v : Violation) → result ≡ Err (Corrupt v) → (order : NameOrder) → BreaksDescribedPair (disk_in_order order (disk_of_device D.BlockDevice device.old)) member.now map.old v }
+    ensures taken { OnOk result ((order : NameOrder) → AddsPair (ordered_disk order (disk_of_device D.BlockDevice device.old)) places.now member.now (scan_view order known.old) map.old (scan_view order known.new) map.new) }
+    ensures broken { (v : Violation) → result ≡ Err (Corrupt v) → (order : NameOrder) → BreaksDescribedPair (ordered_disk order (disk_of_device D.BlockDevice device.old)) member.now map.old v }
     ensures reading { OnlyReadsUnlessFault D.BlockDevice device.old device.new result }
-    ensures few { OnOk result (read_count_of_history (D.history device.new) ≤ read_count_of_history (D.history device.old) + pair_read_count (disk_of_device D.BlockDevice device.old) member.now) }
+    ensures few { OnOk result (read_count (D.history device.new) ≤ read_count (D.history device.old) + pair_reads (disk_of_device D.BlockDevice device.old) member.now) }
 {
     let bytes = read_active_block(alloc, device, member)?;
     let slots = read_kept_slots(alloc, &Log::read(&bytes), member)?;
@@ -187,7 +187,7 @@ fn scan_pair_and_mark_lists<D: BlockDevice>(
             },
         ));
     }
-    mark_lists_of_slots_used(device, map, member, &slots)?;
+    mark_slot_lists(device, map, member, &slots)?;
     Ok(())
 }
 
@@ -196,7 +196,7 @@ fn scan_pair_and_mark_lists<D: BlockDevice>(
 //
 // Errors: `Corrupt` where a slot holds no entry, a file's list isn't well formed, or a block is owned
 // twice. `Io` where a read failed, and `NoMemory` where memory isn't granted.
-pub(crate) fn scan_pairs_and_mark_lists<D: BlockDevice>(
+pub(crate) fn scan_pairs<D: BlockDevice>(
     alloc: Global,
     device: &mut D,
     map: &mut BlockMap,
@@ -204,17 +204,17 @@ pub(crate) fn scan_pairs_and_mark_lists<D: BlockDevice>(
     members: &[PairBeforeSlotsAreRead],
 ) -> Result<Vec<Directory>, MountError>
     requires { All (λ m. m.active < (D.geometry device.old).block_count) members.now }
-    ensures taken { IfOk result (λ ds. (order : NameOrder) → ScansPairsIntoDirectoryGraph (disk_in_order order (disk_of_device D.BlockDevice device.old)) places.now empty_directory_scan map.old members.now (directory_graph_view order ds.items) map.new) }
+    ensures taken { IfOk result (λ ds. (order : NameOrder) → ScansPairs (ordered_disk order (disk_of_device D.BlockDevice device.old)) places.now empty_scan map.old members.now (graph_view order ds.items) map.new) }
     ensures broken { (v : Violation) → result ≡ Err (Corrupt v) → (order : NameOrder) (sync : Bool) (chain : List Pair) (p : Pair) (rest : List Pair)
-        → IsThreadMatchingMapAndPairDescriptions (disk_in_order order (disk_of_device D.BlockDevice device.old)) map.old places.now members.now sync chain p rest
-        → BreaksPairs (disk_in_order order (disk_of_device D.BlockDevice device.old)) (chain ++ p ∷ rest) v }
+        → IsDescribedThread (ordered_disk order (disk_of_device D.BlockDevice device.old)) map.old places.now members.now sync chain p rest
+        → BreaksPairs (ordered_disk order (disk_of_device D.BlockDevice device.old)) (chain ++ p ∷ rest) v }
     ensures reading { OnlyReadsUnlessFault D.BlockDevice device.old device.new result }
-    ensures few { OnOk result (read_count_of_history (D.history device.new) ≤ read_count_of_history (D.history device.old) + sum_by (pair_read_count (disk_of_device D.BlockDevice device.old)) members.now) }
+    ensures few { OnOk result (read_count (D.history device.new) ≤ read_count (D.history device.old) + sum_by (pair_reads (disk_of_device D.BlockDevice device.old)) members.now) }
 {
     let mut directories = Vec::new(alloc);
     let mut known = ScannedDirectory::begin_directory_scan(alloc);
     for member in members {
-        scan_pair_and_mark_lists(alloc, device, map, places, &mut known, member)?;
+        scan_pair(alloc, device, map, places, &mut known, member)?;
         if !member.is_hard {
             directories.push(known.take_scanned_directory(alloc))?;
         }

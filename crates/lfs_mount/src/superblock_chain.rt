@@ -2,17 +2,17 @@
 
 ghost use Rattle.std.specs.Prelude.{Err, ◌≡◌, ◌↔◌, ◌⊎◌, ◌<◌, ◌≤◌, ◌+◌, length, IsTrue, IfOk, IfErr, IfSome, IsErrOf, None, Some, map};
 ghost use Rattle.std.specs.Option.{option_map};
-ghost use Rattle.lfs_model.specs.Disk.{disk_in_order};
-ghost use Rattle.lfs_model.specs.Blocks.{block_bytes_by_number};
-ghost use Rattle.lfs_model.specs.History.{read_count_of_history};
-ghost use Rattle.lfs_model.specs.View.{BeginsWithLogEntry, superblock_name_log_entry};
-ghost use Rattle.lfs_model.specs.Violations.{BreaksPairs};
+ghost use Rattle.lfs_model.specs.format.Disk.{ordered_disk};
+ghost use Rattle.lfs_model.specs.format.Blocks.{block_bytes};
+ghost use Rattle.lfs_model.specs.session.History.{read_count};
+ghost use Rattle.lfs_model.specs.tree.View.{BeginsWith, superblock_entry};
+ghost use Rattle.lfs_model.specs.layers.Violations.{BreaksPairs};
 ghost use Rattle.lfs_model.specs.declared.order.NameOrder.{NameOrder};
 ghost use Rattle.lfs_model.specs.declared.violations.Violation.{Violation};
 ghost use Rattle.lfs_tag.specs.ContentView.{slot_view};
 ghost use Rattle.lfs_thread.specs.Kept.{disk_of_device, pairs_of_headers};
 ghost use Rattle.lfs_thread.specs.MountErrors.{OnlyReadsUnlessFault};
-ghost use Rattle.lfs_mount.specs.SuperblockChain.{AreHeadersOfDiskThread, BreaksFirstSuperblock, HasSuperblockChainOfLength, IsSuperblockStructInBlock, is_superblock_struct_of_geometry, number_of_first_pair_with_nonzero_slot_count, inline_struct_bytes, has_name_bytes, superblock_chain_may_continue_after, repeats_superblock_struct, first_slot_repeats_superblock, block_repeats_superblock, superblock_struct_in_first_slot, superblock_struct_in_block_log};
+ghost use Rattle.lfs_mount.specs.SuperblockChain.{AreThreadHeaders, BreaksFirstSuperblock, HasChain, IsBlockStruct, is_geometry_struct, first_filled, inline_bytes, has_name, may_continue_after, repeats_superblock_struct, first_repeats_superblock, repeats_superblock, first_slot_struct, struct_in_log};
 
 use lfs_device::{AcceptedVersions, BlockDevice, Error, Geometry, read_block};
 use lfs_model::Violation;
@@ -25,8 +25,8 @@ use std::alloc::Global;
 const MAGIC: &[u8] = b"littlefs";
 
 // Returns whether the log's first entry names the superblock.
-fn log_begins_with_superblock(log: &Log<'_>) -> bool
-    ensures { IsTrue result ↔ BeginsWithLogEntry (Some log.now) superblock_name_log_entry }
+fn log_begins_superblock(log: &Log<'_>) -> bool
+    ensures { IsTrue result ↔ BeginsWith (Some log.now) superblock_entry }
 {
     match log.entries().next() {
         Some(entry) => entry.tag == Tag::new(SUPERBLOCK_NAME, 0, 8) && entry.bytes == MAGIC,
@@ -35,8 +35,8 @@ fn log_begins_with_superblock(log: &Log<'_>) -> bool
 }
 
 // Returns whether a superblock's struct has an accepted version and the device's geometry.
-fn is_superblock_of_geometry(geometry: &Geometry, bytes: &[u8]) -> bool
-    ensures { result ≡ is_superblock_struct_of_geometry geometry.now.profile.versions geometry.now.block_size geometry.now.block_count bytes.now }
+fn fits_geometry(geometry: &Geometry, bytes: &[u8]) -> bool
+    ensures { result ≡ is_geometry_struct geometry.now.profile.versions geometry.now.block_size geometry.now.block_count bytes.now }
 {
     match <&[u8; 24]>::try_from(bytes) {
         Ok(bytes) => {
@@ -49,8 +49,8 @@ fn is_superblock_of_geometry(geometry: &Geometry, bytes: &[u8]) -> bool
     }
 }
 
-fn has_name_bytes(slot: &Slot<'_>, bytes: &[u8]) -> bool
-    ensures { result ≡ has_name_bytes bytes.now (slot_view slot.now).name }
+fn has_name(slot: &Slot<'_>, bytes: &[u8]) -> bool
+    ensures { result ≡ has_name bytes.now (slot_view slot.now).name }
 {
     match slot.name {
         Some(name) => name.bytes == bytes,
@@ -59,8 +59,8 @@ fn has_name_bytes(slot: &Slot<'_>, bytes: &[u8]) -> bool
 }
 
 // Returns the bytes of an inline struct.
-fn inline_bytes_in_slot<'a>(slot: &Slot<'a>) -> Option<&'a [u8]>
-    ensures { option_map (λ b. b.now) result ≡ inline_struct_bytes (slot_view slot.now).struct }
+fn inline_bytes_in<'a>(slot: &Slot<'a>) -> Option<&'a [u8]>
+    ensures { option_map (λ b. b.now) result ≡ inline_bytes (slot_view slot.now).struct }
 {
     match slot.structure {
         Some(part) if part.kind == INLINE_STRUCT => Some(part.bytes),
@@ -70,17 +70,17 @@ fn inline_bytes_in_slot<'a>(slot: &Slot<'a>) -> Option<&'a [u8]>
 
 // Returns the superblock's struct in the first slot. Returns None where that slot is no superblock
 // of this geometry.
-fn superblock_struct_in_slots<'a>(geometry: &Geometry, slots: &[Slot<'a>]) -> Option<&'a [u8]>
-    ensures { option_map (λ b. b.now) result ≡ superblock_struct_in_first_slot geometry.now.profile.versions geometry.now.block_size geometry.now.block_count (map slot_view slots.now) }
+fn struct_in_slots<'a>(geometry: &Geometry, slots: &[Slot<'a>]) -> Option<&'a [u8]>
+    ensures { option_map (λ b. b.now) result ≡ first_slot_struct geometry.now.profile.versions geometry.now.block_size geometry.now.block_count (map slot_view slots.now) }
 {
     let [first, ..] = slots else {
         return None;
     };
-    if !first.is_superblock() || !has_name_bytes(first, MAGIC) {
+    if !first.is_superblock() || !has_name(first, MAGIC) {
         return None;
     }
-    match inline_bytes_in_slot(first) {
-        Some(bytes) if is_superblock_of_geometry(geometry, bytes) => Some(bytes),
+    match inline_bytes_in(first) {
+        Some(bytes) if fits_geometry(geometry, bytes) => Some(bytes),
         _ => None,
     }
 }
@@ -100,14 +100,14 @@ fn repeats_superblock_struct(versions: AcceptedVersions, bytes: &[u8], own: &[u8
 
 // Returns whether the first slot is a superblock's. Corrupt exactly where it is one whose struct
 // differs from `bytes` in more than an accepted version.
-fn is_superblock_repeated_in_slots(
+fn repeats_in_slots(
     versions: AcceptedVersions,
     slots: &[Slot<'_>],
     bytes: &[u8],
 ) -> Result<bool, Error>
     requires { length bytes.now ≡ 24 }
-    ensures ok { IfOk result (λ repeats. first_slot_repeats_superblock versions bytes.now (map slot_view slots.now) ≡ Some repeats) }
-    ensures corrupt { IfErr result (λ e. (e ≡ Error.Corrupt) × (first_slot_repeats_superblock versions bytes.now (map slot_view slots.now) ≡ None)) }
+    ensures ok { IfOk result (λ repeats. first_repeats_superblock versions bytes.now (map slot_view slots.now) ≡ Some repeats) }
+    ensures corrupt { IfErr result (λ e. (e ≡ Error.Corrupt) × (first_repeats_superblock versions bytes.now (map slot_view slots.now) ≡ None)) }
 {
     let [first, ..] = slots else {
         return Ok(false);
@@ -115,24 +115,24 @@ fn is_superblock_repeated_in_slots(
     if !first.is_superblock() {
         return Ok(false);
     }
-    match inline_bytes_in_slot(first) {
+    match inline_bytes_in(first) {
         Some(own) if repeats_superblock_struct(versions, bytes, own) => Ok(true),
         _ => Err(Error::Corrupt),
     }
 }
 
 // Returns the superblock's struct in slot 0 of a log. Corrupt exactly where there is none.
-fn superblock_struct_from_log(
+fn struct_from_log(
     alloc: Global,
     geometry: &Geometry,
     log: &Log<'_>,
 ) -> Result<Vec<u8>, Error>
-    ensures ok { IfOk result (λ bytes. superblock_struct_in_block_log geometry.now.profile.versions geometry.now.block_size geometry.now.block_count log.now ≡ Some bytes.items) }
-    ensures corrupt { IsErrOf result Error.Corrupt → superblock_struct_in_block_log geometry.now.profile.versions geometry.now.block_size geometry.now.block_count log.now ≡ None }
+    ensures ok { IfOk result (λ bytes. struct_in_log geometry.now.profile.versions geometry.now.block_size geometry.now.block_count log.now ≡ Some bytes.items) }
+    ensures corrupt { IsErrOf result Error.Corrupt → struct_in_log geometry.now.profile.versions geometry.now.block_size geometry.now.block_count log.now ≡ None }
     ensures errors { IfErr result (λ e. (e ≡ Error.Corrupt) ⊎ (e ≡ Error.NoMemory)) }
 {
     let content = Content::read(alloc, log)?;
-    match superblock_struct_in_slots(geometry, &content.slots) {
+    match struct_in_slots(geometry, &content.slots) {
         Some(bytes) => Ok(Vec::from_slice(alloc, bytes)?),
         None => Err(Error::Corrupt),
     }
@@ -141,34 +141,34 @@ fn superblock_struct_from_log(
 // Returns whether the first slot that a block's log comes to is a superblock's. Corrupt exactly
 // where it is one whose struct differs from `bytes` in more than an accepted version, or where the
 // log is malformed.
-fn is_superblock_repeated_in_block(
+fn repeats_in_block(
     alloc: Global,
     versions: AcceptedVersions,
     block: &[u8],
     bytes: &[u8],
 ) -> Result<bool, Error>
     requires { length bytes.now ≡ 24 }
-    ensures ok { IfOk result (λ repeats. block_repeats_superblock versions bytes.now block.now ≡ Some repeats) }
-    ensures corrupt { IsErrOf result Error.Corrupt → block_repeats_superblock versions bytes.now block.now ≡ None }
+    ensures ok { IfOk result (λ repeats. repeats_superblock versions bytes.now block.now ≡ Some repeats) }
+    ensures corrupt { IsErrOf result Error.Corrupt → repeats_superblock versions bytes.now block.now ≡ None }
     ensures errors { IfErr result (λ e. (e ≡ Error.Corrupt) ⊎ (e ≡ Error.NoMemory)) }
 {
     let log = Log::read(block);
     let content = Content::read(alloc, &log)?;
-    is_superblock_repeated_in_slots(versions, &content.slots, bytes)
+    repeats_in_slots(versions, &content.slots, bytes)
 }
 
 // Reads the first pair that has a slot, and returns its superblock's struct. The log begins with the
 // superblock.
-fn read_first_superblock_struct<D: BlockDevice>(
+fn read_first_struct<D: BlockDevice>(
     alloc: Global,
     dev: &mut D,
     pair: &Pair,
 ) -> Result<Vec<u8>, MountError>
     requires { pair.now.active < (D.geometry dev.old).block_count }
-    ensures found { IfOk result (λ bytes. IsSuperblockStructInBlock (disk_of_device D.BlockDevice dev.old) pair.now.active bytes.items) }
+    ensures found { IfOk result (λ bytes. IsBlockStruct (disk_of_device D.BlockDevice dev.old) pair.now.active bytes.items) }
     ensures broken { (v : Violation) → result ≡ Err (MountError.Corrupt v) → BreaksFirstSuperblock (disk_of_device D.BlockDevice dev.old) pair.now v }
     ensures device { OnlyReadsUnlessFault D.BlockDevice dev.old dev.new result }
-    ensures reads { read_count_of_history (D.history dev.new) ≤ read_count_of_history (D.history dev.old) + 1 }
+    ensures reads { read_count (D.history dev.new) ≤ read_count (D.history dev.old) + 1 }
 {
     let geometry = dev.geometry();
     let no_struct = Violation::Superblock { pair: pair.blocks };
@@ -177,10 +177,10 @@ fn read_first_superblock_struct<D: BlockDevice>(
         Err(error) => return Err(MountError::of(error, no_struct)),
     };
     let log = Log::read(&block);
-    if !log_begins_with_superblock(&log) {
+    if !log_begins_superblock(&log) {
         return Err(MountError::Corrupt(Violation::FirstEntry { pair: pair.blocks }));
     }
-    match superblock_struct_from_log(alloc, &geometry, &log) {
+    match struct_from_log(alloc, &geometry, &log) {
         Ok(bytes) => Ok(bytes),
         Err(error) => Err(MountError::of(error, no_struct)),
     }
@@ -189,7 +189,7 @@ fn read_first_superblock_struct<D: BlockDevice>(
 // Reads a pair, and returns whether its first slot is a superblock's. Corrupt exactly where it is one
 // whose struct differs from `bytes` in more than an accepted version, or where the log has no
 // content.
-fn read_whether_pair_repeats_superblock<D: BlockDevice>(
+fn pair_repeats_superblock<D: BlockDevice>(
     alloc: Global,
     dev: &mut D,
     pair: &Pair,
@@ -197,10 +197,10 @@ fn read_whether_pair_repeats_superblock<D: BlockDevice>(
 ) -> Result<bool, MountError>
     requires block { pair.now.active < (D.geometry dev.old).block_count }
     requires bytes { length bytes.now ≡ 24 }
-    ensures ok { IfOk result (λ repeats. block_repeats_superblock (D.geometry dev.old).profile.versions bytes.now (block_bytes_by_number (D.blocks dev.old) pair.now.active) ≡ Some repeats) }
-    ensures broken { (v : Violation) → result ≡ Err (MountError.Corrupt v) → (v ≡ Violation.OtherSuperblock pair.now.blocks) × (block_repeats_superblock (D.geometry dev.old).profile.versions bytes.now (block_bytes_by_number (D.blocks dev.old) pair.now.active) ≡ None) }
+    ensures ok { IfOk result (λ repeats. repeats_superblock (D.geometry dev.old).profile.versions bytes.now (block_bytes (D.blocks dev.old) pair.now.active) ≡ Some repeats) }
+    ensures broken { (v : Violation) → result ≡ Err (MountError.Corrupt v) → (v ≡ Violation.OtherSuperblock pair.now.blocks) × (repeats_superblock (D.geometry dev.old).profile.versions bytes.now (block_bytes (D.blocks dev.old) pair.now.active) ≡ None) }
     ensures device { OnlyReadsUnlessFault D.BlockDevice dev.old dev.new result }
-    ensures reads { read_count_of_history (D.history dev.new) ≤ read_count_of_history (D.history dev.old) + 1 }
+    ensures reads { read_count (D.history dev.new) ≤ read_count (D.history dev.old) + 1 }
 {
     let versions = dev.geometry().profile.versions;
     let other = Violation::OtherSuperblock { pair: pair.blocks };
@@ -208,23 +208,23 @@ fn read_whether_pair_repeats_superblock<D: BlockDevice>(
         Ok(block) => block,
         Err(error) => return Err(MountError::of(error, other)),
     };
-    match is_superblock_repeated_in_block(alloc, versions, &block, bytes) {
+    match repeats_in_block(alloc, versions, &block, bytes) {
         Ok(repeats) => Ok(repeats),
         Err(error) => Err(MountError::of(error, other)),
     }
 }
 
 // Returns whether a pair has at most one slot, and a hard tail.
-fn can_superblock_chain_continue(pair: &Pair) -> bool
-    ensures { result ≡ superblock_chain_may_continue_after pair.now }
+fn can_chain_continue(pair: &Pair) -> bool
+    ensures { result ≡ may_continue_after pair.now }
 {
     (pair.slot_count == 0 || pair.slot_count == 1) && has_hard_tail(pair.tail)
 }
 
 // Returns the number of the first pair that has a slot. Returns None where there is none, or where
 // a pair before it has no hard tail.
-fn first_pair_with_slots(pairs: &[Pair]) -> Option<usize>
-    ensures first { result ≡ number_of_first_pair_with_nonzero_slot_count pairs.now }
+fn first_filled_number(pairs: &[Pair]) -> Option<usize>
+    ensures first { result ≡ first_filled pairs.now }
     ensures below { IfSome result (λ index. index < length pairs.now) }
 {
     for index in 0..pairs.len() {
@@ -258,25 +258,25 @@ pub(crate) fn superblock_chain_length<D: BlockDevice>(
     dev: &mut D,
     pairs: &[Pair],
 ) -> Result<usize, MountError>
-    requires { AreHeadersOfDiskThread (disk_of_device D.BlockDevice dev.old) (D.history dev.old) pairs.now }
-    ensures head { IfOk result (HasSuperblockChainOfLength (disk_of_device D.BlockDevice dev.old) (pairs_of_headers (disk_of_device D.BlockDevice dev.old) pairs.now)) }
-    ensures broken { (v : Violation) → result ≡ Err (MountError.Corrupt v) → (order : NameOrder) → BreaksPairs (disk_in_order order (disk_of_device D.BlockDevice dev.old)) (pairs_of_headers (disk_of_device D.BlockDevice dev.old) pairs.now) v }
+    requires { AreThreadHeaders (disk_of_device D.BlockDevice dev.old) (D.history dev.old) pairs.now }
+    ensures head { IfOk result (HasChain (disk_of_device D.BlockDevice dev.old) (pairs_of_headers (disk_of_device D.BlockDevice dev.old) pairs.now)) }
+    ensures broken { (v : Violation) → result ≡ Err (MountError.Corrupt v) → (order : NameOrder) → BreaksPairs (ordered_disk order (disk_of_device D.BlockDevice dev.old)) (pairs_of_headers (disk_of_device D.BlockDevice dev.old) pairs.now) v }
     ensures device { OnlyReadsUnlessFault D.BlockDevice dev.old dev.new result }
-    ensures reads { IfOk result (λ count. read_count_of_history (D.history dev.new) ≤ read_count_of_history (D.history dev.old) + count + 2) }
+    ensures reads { IfOk result (λ count. read_count (D.history dev.new) ≤ read_count (D.history dev.old) + count + 2) }
 {
-    let Some(first) = first_pair_with_slots(pairs) else {
+    let Some(first) = first_filled_number(pairs) else {
         return Err(MountError::Corrupt(Violation::NoSuperblock));
     };
-    let bytes = read_first_superblock_struct(alloc, dev, &pairs[first])?;
+    let bytes = read_first_struct(alloc, dev, &pairs[first])?;
     let mut root = first;
     for index in first + 1..pairs.len() {
-        if !can_superblock_chain_continue(&pairs[index - 1]) {
+        if !can_chain_continue(&pairs[index - 1]) {
             return Ok(root);
         }
         if pairs[index].slot_count == 0 {
             continue;
         }
-        if !read_whether_pair_repeats_superblock(alloc, dev, &pairs[index], &bytes)? {
+        if !pair_repeats_superblock(alloc, dev, &pairs[index], &bytes)? {
             return Ok(root);
         }
         root = index;

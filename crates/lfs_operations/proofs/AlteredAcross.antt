@@ -1,13 +1,13 @@
 -- What the steps of a rename across pairs leave with what it held.
 use Rattle.std.proofs.Common.{ℕ, ◌≡◌, ◌-◌, ◌<◌, ◌≤◌, ◌⊎◌, inl, inr, Bool, true, false, List, [], ◌∷◌, ◌++◌, length, None, refl, sym, ap, subst, ◌∙◌, arith, append_assoc}
 use Rattle.std.specs.Prelude.{Contains}
-use Rattle.lfs_operations.proofs.Common.{AllByRecursion, IsBlockFree, PairContentChange, Name, pair_with_slots, Slot, gstate_xor, Pair, blocks_of_pairs, blocks_of_pair_address, Path, IsAcceptedImage, all_slots_not_moved, used_blocks, ArePairsWithSameAddressesAndSlots, Each, occurrence_count_of_number, count_append, count_here, each_weaker, once_from_distinct, IsTrueOfSomeElement, Site, among_right, dirs_at, file_blocks_of_slots, two, KeptThread, thread_pair_at_index}
+use Rattle.lfs_operations.proofs.Common.{AllByRecursion, IsFree, PairChange, Name, pair_with_slots, Slot, gstate_xor, Pair, blocks_of_pairs, address_blocks, Path, IsAccepted, all_slots_not_moved, used_blocks, SameSlots, Each, number_count, count_append, count_here, each_weaker, once_from_distinct, HoldsOfSome, Site, among_right, dirs_at, file_blocks, two, KeptThread, thread_pair_at}
 use Rattle.lfs_model.proofs.BlockSets.{Contains-head, Contains-tail}
-use Rattle.lfs_operations.specs.Altering.{IsBlockOfAlteredPair}
-use Rattle.lfs_operations.specs.Changing.{IsPairNotKeptUnchanged}
-use Rattle.lfs_operations.specs.MoveEnds.{HasEndedMoveAt, pair_written_at_move_end, gstate_naming_moved_slot}
-use Rattle.lfs_operations.specs.MovingSteps.{CanEndMoveAfterFirstCommit, pair_written_by_second_move_commit, pair_number_after_insertion}
-use Rattle.lfs_operations.specs.Removing.{is_pair_dropped_with_slot}
+use Rattle.lfs_operations.specs.Altering.{IsAlteredBlock}
+use Rattle.lfs_operations.specs.Changing.{IsPairTouched}
+use Rattle.lfs_operations.specs.MoveEnds.{HasEndedAt, written_at_end, gstate_naming}
+use Rattle.lfs_operations.specs.MovingSteps.{CanEndSecond, second_commit_pair, number_after_insertion}
+use Rattle.lfs_operations.specs.Removing.{drops_with_its_slot}
 use Rattle.lfs_operations.proofs.AlteredBehind.{entered_alters, gone_alters}
 use Rattle.lfs_operations.proofs.MovAcross.{Arranged}
 use Rattle.lfs_operations.proofs.MovStep.{IsFirst, IsLeftOver, arr, last_taken, left_over}
@@ -31,10 +31,10 @@ within_two true chain front os mid q more back = record {
 }
 within_two false chain front os mid q more back = record { before = chain ++ front; behind = mid ++ (os ++ back); is = sym (append_assoc chain front (q ∷ (more ++ (mid ++ (os ++ back))))) }
 
-module _ (t : KeptThread) (sync : Bool) (old_pair : ℕ) (goes : Bool) (new_pair : ℕ) (changes : List PairContentChange) (wo : Site) (o : Pair) (lo : List Slot) (u : Slot) (ro : List Slot) (w : Site) (p : Pair) (l : List Slot) (v : Slot) (r : List Slot)
+module _ (t : KeptThread) (sync : Bool) (old_pair : ℕ) (goes : Bool) (new_pair : ℕ) (changes : List PairChange) (wo : Site) (o : Pair) (lo : List Slot) (u : Slot) (ro : List Slot) (w : Site) (p : Pair) (l : List Slot) (v : Slot) (r : List Slot)
     (old_path new_path : Path) (name : Name) (k : IsFirst t sync old_pair goes new_pair changes wo o lo u ro w p l None v r old_path new_path name)
-    (mid : KeptThread) (x : TurnedTo t w p (l ++ v ∷ r) (gstate_xor (gstate_naming_moved_slot sync o.at (length lo)) p.content.move) mid)
-    (last : KeptThread) (e : HasEndedMoveAt mid (pair_number_after_insertion old_pair new_pair (length mid.pairs - length t.pairs)) (length lo) goes last) where
+    (mid : KeptThread) (x : TurnedTo t w p (l ++ v ∷ r) (gstate_xor (gstate_naming sync o.at (length lo)) p.content.move) mid)
+    (last : KeptThread) (e : HasEndedAt mid (number_after_insertion old_pair new_pair (length mid.pairs - length t.pairs)) (length lo) goes last) where
   abbrev a : Arranged t.disk wo o w p x.q x.more
   a = arr t sync old_pair goes new_pair changes wo o lo u ro w p l None v r old_path new_path name k mid x
 
@@ -44,60 +44,60 @@ module _ (t : KeptThread) (sync : Bool) (old_pair : ℕ) (goes : Bool) (new_pair
   place : IsWithin (w.chain ++ two a.b a.front left.os a.mid (x.q ∷ x.more) a.back) x.q x.more
   place = within_two a.b w.chain a.front left.os a.mid x.q x.more a.back
 
-  fresh : (b : ℕ) → 1 ≤ occurrence_count_of_number b (blocks_of_pairs x.more) → occurrence_count_of_number b (blocks_of_pairs t.pairs) ≡ 0
+  fresh : (b : ℕ) → 1 ≤ number_count b (blocks_of_pairs x.more) → number_count b (blocks_of_pairs t.pairs) ≡ 0
   fresh b some =
       let n = not_used t.map (used_blocks t.disk t.pairs) k.ready.used b (x.fresh b some) in
-      let c = count_append b (blocks_of_pairs t.pairs) (file_blocks_of_slots t.disk (all_slots_not_moved t.pairs)) in
+      let c = count_append b (blocks_of_pairs t.pairs) (file_blocks t.disk (all_slots_not_moved t.pairs)) in
       omega (arith, n, c)
 
-  there : IsTrueOfSomeElement (λ y. y ≡ p) t.pairs
-  there = subst (IsTrueOfSomeElement (λ y. y ≡ p)) (sym k.turn.there) (among_right (λ y. y ≡ p) w.chain (dirs_at w (p ∷ [])) (among_right (λ y. y ≡ p) (w.before ++ w.left) (p ∷ (w.right ++ w.after)) (inl refl)))
+  there : HoldsOfSome (λ y. y ≡ p) t.pairs
+  there = subst (HoldsOfSome (λ y. y ≡ p)) (sym k.turn.there) (among_right (λ y. y ≡ p) w.chain (dirs_at w (p ∷ [])) (among_right (λ y. y ≡ p) (w.before ++ w.left) (p ∷ (w.right ++ w.after)) (inl refl)))
 
   -- it has one slot more, or is cut
-  pub moved_alters : IsPairNotKeptUnchanged t new_pair last
+  pub moved_alters : IsPairTouched t new_pair last
   moved_alters has = entered_alters t last t.disk p (pair_with_slots (l ++ v ∷ r) p) x.q x.more place.before place.behind l r v k.ready.accepted
       (last_taken t sync old_pair goes new_pair changes wo o lo u ro w p l None v r old_path new_path name k mid x last e).follows.accepted
-      (subst (λ z. ArePairsWithSameAddressesAndSlots z last.pairs) (ap (λ z. w.chain ++ z) (sym (a.cut left.os)) ∙ place.is) left.alike)
+      (subst (λ z. SameSlots z last.pairs) (ap (λ z. w.chain ++ z) (sym (a.cut left.os)) ∙ place.is) left.alike)
       x.turned.at x.turned.is k.setting.was x.turned.became fresh there
-      (subst (Contains last.pairs) (pair_is t new_pair changes w p (l ++ v ∷ r) (gstate_xor (gstate_naming_moved_slot sync o.at (length lo)) p.content.move) k.turn) has)
+      (subst (Contains last.pairs) (pair_is t new_pair changes w p (l ++ v ∷ r) (gstate_xor (gstate_naming sync o.at (length lo)) p.content.move) k.turn) has)
 
 -- ---- the pair in front of the old one
 
 -- the old one is gone
-pub ended_alters : (t mid m new : KeptThread) (old_pair old_id new_pair : ℕ) → 0 < old_pair → old_pair < length t.pairs → IsAcceptedImage t.disk t.pairs → CanEndMoveAfterFirstCommit t old_pair old_id true new_pair mid
-    → HasEndedMoveAt mid (pair_number_after_insertion old_pair new_pair (length mid.pairs - length t.pairs)) old_id true m → IsAcceptedImage new.disk new.pairs → ((b : ℕ) → occurrence_count_of_number b (used_blocks new.disk new.pairs) ≤ occurrence_count_of_number b (used_blocks m.disk m.pairs)) → IsPairNotKeptUnchanged t (old_pair - 1) new
+pub ended_alters : (t mid m new : KeptThread) (old_pair old_id new_pair : ℕ) → 0 < old_pair → old_pair < length t.pairs → IsAccepted t.disk t.pairs → CanEndSecond t old_pair old_id true new_pair mid
+    → HasEndedAt mid (number_after_insertion old_pair new_pair (length mid.pairs - length t.pairs)) old_id true m → IsAccepted new.disk new.pairs → ((b : ℕ) → number_count b (used_blocks new.disk new.pairs) ≤ number_count b (used_blocks m.disk m.pairs)) → IsPairTouched t (old_pair - 1) new
 ended_alters t mid m new old_pair old_id new_pair some low ok ends ended now fewer =
-    let b = (thread_pair_at_index t old_pair).at.0 in
+    let b = (thread_pair_at t old_pair).at.0 in
     let e = ended.blocks b in
     let f = once_from_distinct (used_blocks mid.disk mid.pairs) ends.can.accepted.owned_once b in
-    let g = ap (λ at. occurrence_count_of_number b (blocks_of_pair_address at)) ends.at in
-    let h = count_here b ((thread_pair_at_index t old_pair).at.1 ∷ []) in
+    let g = ap (λ at. number_count b (address_blocks at)) ends.at in
+    let h = count_here b ((thread_pair_at t old_pair).at.1 ∷ []) in
     let i = fewer b in
-    let j = count_append b (blocks_of_pairs new.pairs) (file_blocks_of_slots new.disk (all_slots_not_moved new.pairs)) in
+    let j = count_append b (blocks_of_pairs new.pairs) (file_blocks new.disk (all_slots_not_moved new.pairs)) in
     gone_alters t new old_pair some low ok now (omega (arith, e, f, g, h, i, j))
 
 -- ---- the blocks that the steps write
 
 abbrev pub IsKnown : KeptThread → KeptThread → List ℕ → ℕ → Type 0
-IsKnown t new bs b = Contains bs b ⊎ (IsBlockOfAlteredPair t new b ⊎ IsBlockFree t.map b)
+IsKnown t new bs b = Contains bs b ⊎ (IsAlteredBlock t new b ⊎ IsFree t.map b)
 
-pub front_altered : (t new : KeptThread) (old_pair first : ℕ) → old_pair < length t.pairs → (is_pair_dropped_with_slot t old_pair first ≡ true → IsPairNotKeptUnchanged t (old_pair - 1) new) → (bs : List ℕ) → ((b : ℕ) → Contains (blocks_of_pair_address (thread_pair_at_index t old_pair).at) b → Contains bs b)
-    → (b : ℕ) → Contains (blocks_of_pair_address (thread_pair_at_index t (pair_written_by_second_move_commit t old_pair first)).at) b → IsKnown t new bs b
-front_altered t new old_pair first low alters bs within b = go (is_pair_dropped_with_slot t old_pair first) refl
+pub front_altered : (t new : KeptThread) (old_pair first : ℕ) → old_pair < length t.pairs → (drops_with_its_slot t old_pair first ≡ true → IsPairTouched t (old_pair - 1) new) → (bs : List ℕ) → ((b : ℕ) → Contains (address_blocks (thread_pair_at t old_pair).at) b → Contains bs b)
+    → (b : ℕ) → Contains (address_blocks (thread_pair_at t (second_commit_pair t old_pair first)).at) b → IsKnown t new bs b
+front_altered t new old_pair first low alters bs within b = go (drops_with_its_slot t old_pair first) refl
   where
-    go : (g : Bool) → is_pair_dropped_with_slot t old_pair first ≡ g → Contains (blocks_of_pair_address (thread_pair_at_index t (pair_written_at_move_end old_pair g)).at) b → IsKnown t new bs b
+    go : (g : Bool) → drops_with_its_slot t old_pair first ≡ g → Contains (address_blocks (thread_pair_at t (written_at_end old_pair g)).at) b → IsKnown t new bs b
     go true whole own = inr (inl (record { index = old_pair - 1; below = omega (arith, low); own = own; alters = alters whole }))
     go false stays own = inl (within b own)
 
-pub each_known : (t new : KeptThread) (bs : List ℕ) (at : ℕ × ℕ) (rest : List ℕ) → ((b : ℕ) → Contains (blocks_of_pair_address at) b → IsKnown t new bs b) → Each (IsKnown t new bs) rest → Each (IsKnown t new bs) (at.0 ∷ at.1 ∷ rest)
+pub each_known : (t new : KeptThread) (bs : List ℕ) (at : ℕ × ℕ) (rest : List ℕ) → ((b : ℕ) → Contains (address_blocks at) b → IsKnown t new bs b) → Each (IsKnown t new bs) rest → Each (IsKnown t new bs) (at.0 ∷ at.1 ∷ rest)
 each_known t new bs at rest own behind = (own at.0 (Contains-head at.0 (at.1 ∷ [])), (own at.1 (Contains-tail at.0 at.1 (at.1 ∷ []) (Contains-head at.1 [])), behind))
 
-pub free_known : (t new : KeptThread) (bs fresh : List ℕ) → AllByRecursion (IsBlockFree t.map) fresh → Each (IsKnown t new bs) fresh
-free_known t new bs fresh free = each_weaker (IsBlockFree t.map) (IsKnown t new bs) (λ b f. inr (inr f)) fresh free
+pub free_known : (t new : KeptThread) (bs fresh : List ℕ) → AllByRecursion (IsFree t.map) fresh → Each (IsKnown t new bs) fresh
+free_known t new bs fresh free = each_weaker (IsFree t.map) (IsKnown t new bs) (λ b f. inr (inr f)) fresh free
 
-pub two_altered : (t new : KeptThread) (bs : List ℕ) (old_pair first new_pair : ℕ) → old_pair < length t.pairs → (is_pair_dropped_with_slot t old_pair first ≡ true → IsPairNotKeptUnchanged t (old_pair - 1) new) → ((b : ℕ) → Contains (blocks_of_pair_address (thread_pair_at_index t old_pair).at) b → Contains bs b)
-    → ((b : ℕ) → Contains (blocks_of_pair_address (thread_pair_at_index t new_pair).at) b → IsKnown t new bs b) → (fresh : List ℕ) → AllByRecursion (IsBlockFree t.map) fresh
-    → Each (IsKnown t new bs) ((thread_pair_at_index t new_pair).at.0 ∷ (thread_pair_at_index t new_pair).at.1 ∷ (thread_pair_at_index t (pair_written_by_second_move_commit t old_pair first)).at.0 ∷ (thread_pair_at_index t (pair_written_by_second_move_commit t old_pair first)).at.1 ∷ fresh)
+pub two_altered : (t new : KeptThread) (bs : List ℕ) (old_pair first new_pair : ℕ) → old_pair < length t.pairs → (drops_with_its_slot t old_pair first ≡ true → IsPairTouched t (old_pair - 1) new) → ((b : ℕ) → Contains (address_blocks (thread_pair_at t old_pair).at) b → Contains bs b)
+    → ((b : ℕ) → Contains (address_blocks (thread_pair_at t new_pair).at) b → IsKnown t new bs b) → (fresh : List ℕ) → AllByRecursion (IsFree t.map) fresh
+    → Each (IsKnown t new bs) ((thread_pair_at t new_pair).at.0 ∷ (thread_pair_at t new_pair).at.1 ∷ (thread_pair_at t (second_commit_pair t old_pair first)).at.0 ∷ (thread_pair_at t (second_commit_pair t old_pair first)).at.1 ∷ fresh)
 two_altered t new bs old_pair first new_pair low alters within entered fresh free =
-    each_known t new bs (thread_pair_at_index t new_pair).at ((thread_pair_at_index t (pair_written_by_second_move_commit t old_pair first)).at.0 ∷ (thread_pair_at_index t (pair_written_by_second_move_commit t old_pair first)).at.1 ∷ fresh) entered
-    (each_known t new bs (thread_pair_at_index t (pair_written_by_second_move_commit t old_pair first)).at fresh (front_altered t new old_pair first low alters bs within) (free_known t new bs fresh free))
+    each_known t new bs (thread_pair_at t new_pair).at ((thread_pair_at t (second_commit_pair t old_pair first)).at.0 ∷ (thread_pair_at t (second_commit_pair t old_pair first)).at.1 ∷ fresh) entered
+    (each_known t new bs (thread_pair_at t (second_commit_pair t old_pair first)).at fresh (front_altered t new old_pair first low alters bs within) (free_known t new bs fresh free))

@@ -1,9 +1,9 @@
 -- A pair whose tail named a pair that goes, or names one that comes, doesn't stay with what it held.
 use Rattle.std.proofs.Common.{ℕ, ◌≡◌, ◌+◌, ◌<◌, ◌≤◌, ◌⊎◌, inl, inr, true, false, nat_eq, List, [], ◌∷◌, ◌++◌, length, Option, Some, sym, ap, subst, ◌∙◌, arith}
 use Rattle.std.specs.Prelude.{Contains}
-use Rattle.lfs_operations.proofs.Common.{IsDistinct, same_Some, AreExactlyTheUsedBlocks, IsBlockFree, all_slots_not_moved, used_blocks, AreLinkedByTails, Pair, anchor_pair_address, blocks_of_pairs, is_hard_tail, pair_address_named_by_tail, occurrence_count_of_number, count_append, count_here, IsTrueOfSomeElement, file_blocks_of_slots, KeptThread, thread_pair_at_index}
-use Rattle.lfs_operations.specs.Changing.{IsPairNotKeptUnchanged}
-use Rattle.lfs_operations.specs.Ready.{IsImageReadyForChange}
+use Rattle.lfs_operations.proofs.Common.{IsDistinct, same_Some, AreUsed, IsFree, all_slots_not_moved, used_blocks, AreLinked, Pair, anchor_address, blocks_of_pairs, is_hard_tail, tail_address_of, number_count, count_append, count_here, HoldsOfSome, file_blocks, KeptThread, thread_pair_at}
+use Rattle.lfs_operations.specs.Changing.{IsPairTouched}
+use Rattle.lfs_operations.specs.Ready.{IsReadyImage}
 use Rattle.lfs_operations.proofs.Altered.{among_contains, links_behind, only_there}
 use Rattle.lfs_operations.proofs.DroppedTails.{front_is, gone_is, two_at}
 use Rattle.lfs_operations.proofs.Placing.{blocks_append}
@@ -12,32 +12,32 @@ use Rattle.lfs_operations.proofs.Owning.{not_used}
 -- ---- what a tail names
 
 -- it is a pair of the thread
-names_there : (at : Option (ℕ × ℕ)) (xs : List Pair) (p : Pair) (to : ℕ × ℕ) → AreLinkedByTails at xs → IsTrueOfSomeElement (λ y. y ≡ p) xs → pair_address_named_by_tail p.content.tail ≡ Some to → 1 ≤ occurrence_count_of_number to.0 (blocks_of_pairs xs)
+names_there : (at : Option (ℕ × ℕ)) (xs : List Pair) (p : Pair) (to : ℕ × ℕ) → AreLinked at xs → HoldsOfSome (λ y. y ≡ p) xs → tail_address_of p.content.tail ≡ Some to → 1 ≤ number_count to.0 (blocks_of_pairs xs)
 names_there at [] p to links h e = absurd h
 names_there at (x ∷ xs) p to links (inl same) e = go xs links.1
   where
-    named : pair_address_named_by_tail x.content.tail ≡ Some to
-    named = ap (λ (z : Pair). pair_address_named_by_tail z.content.tail) same ∙ e
+    named : tail_address_of x.content.tail ≡ Some to
+    named = ap (λ (z : Pair). tail_address_of z.content.tail) same ∙ e
 
-    go : (ys : List Pair) → AreLinkedByTails (pair_address_named_by_tail x.content.tail) ys → 1 ≤ occurrence_count_of_number to.0 (blocks_of_pairs (x ∷ ys))
+    go : (ys : List Pair) → AreLinked (tail_address_of x.content.tail) ys → 1 ≤ number_count to.0 (blocks_of_pairs (x ∷ ys))
     go [] none = absurd (let k = sym none ∙ named in cc)
     go (y ∷ ys) l =
         let k : y.at ≡ to = same_Some y.at to (sym l.0 ∙ named) in
-        let h = ap (λ (a : ℕ × ℕ). occurrence_count_of_number to.0 (a.0 ∷ a.1 ∷ blocks_of_pairs ys)) k in
+        let h = ap (λ (a : ℕ × ℕ). number_count to.0 (a.0 ∷ a.1 ∷ blocks_of_pairs ys)) k in
         let c = count_here to.0 (to.1 ∷ blocks_of_pairs ys) in
         let a = blocks_append (x ∷ []) (y ∷ ys) to.0 in
         omega arith
-names_there at (x ∷ xs) p to links (inr h) e = let k = names_there (pair_address_named_by_tail x.content.tail) xs p to links.1 h e in let a = blocks_append (x ∷ []) xs to.0 in omega arith
+names_there at (x ∷ xs) p to links (inr h) e = let k = names_there (tail_address_of x.content.tail) xs p to links.1 h e in let a = blocks_append (x ∷ []) xs to.0 in omega arith
 
 -- so it is no free block
-names_used : (t : KeptThread) (p : Pair) (to : ℕ × ℕ) → AreLinkedByTails (Some anchor_pair_address) t.pairs → AreExactlyTheUsedBlocks t.map (used_blocks t.disk t.pairs) → IsTrueOfSomeElement (λ y. y ≡ p) t.pairs → pair_address_named_by_tail p.content.tail ≡ Some to → IsBlockFree t.map to.0 → ⊥
+names_used : (t : KeptThread) (p : Pair) (to : ℕ × ℕ) → AreLinked (Some anchor_address) t.pairs → AreUsed t.map (used_blocks t.disk t.pairs) → HoldsOfSome (λ y. y ≡ p) t.pairs → tail_address_of p.content.tail ≡ Some to → IsFree t.map to.0 → ⊥
 names_used t p to links used has e free =
-    let k = names_there (Some anchor_pair_address) t.pairs p to links has e in
+    let k = names_there (Some anchor_address) t.pairs p to links has e in
     let n = not_used t.map (used_blocks t.disk t.pairs) used to.0 free in
-    let c = count_append to.0 (blocks_of_pairs t.pairs) (file_blocks_of_slots t.disk (all_slots_not_moved t.pairs)) in
+    let c = count_append to.0 (blocks_of_pairs t.pairs) (file_blocks t.disk (all_slots_not_moved t.pairs)) in
     absurd (omega arith)
 
-parted : (xs : List Pair) (q : Pair) → IsTrueOfSomeElement (λ y. y ≡ q) xs → (l : List Pair) × (r : List Pair) × (xs ≡ l ++ q ∷ r)
+parted : (xs : List Pair) (q : Pair) → HoldsOfSome (λ y. y ≡ q) xs → (l : List Pair) × (r : List Pair) × (xs ≡ l ++ q ∷ r)
 parted [] q h = absurd h
 parted (x ∷ xs) q (inl e) = ([], xs, ap (λ z. z ∷ xs) e)
 parted (x ∷ xs) q (inr h) = let k = parted xs q h in (x ∷ k.0, k.1, ap (λ z. x ∷ z) k.2)
@@ -45,8 +45,8 @@ parted (x ∷ xs) q (inr h) = let k = parted xs q h in (x ∷ k.0, k.1, ap (λ z
 -- ---- pairs with another tail
 
 -- the last pair of a directory, where the one that stands there now names one that was free, or goes on
-pub other_tail : (t : KeptThread) (z p : Pair) (fresh : ℕ × ℕ) → IsImageReadyForChange t → IsBlockFree t.map fresh.0 → IsTrueOfSomeElement (λ y. y ≡ p) t.pairs → is_hard_tail p.content.tail ≡ false
-    → (now : List Pair) → IsDistinct nat_eq (blocks_of_pairs now) → IsTrueOfSomeElement (λ y. y ≡ z) now → z.at ≡ p.at → (pair_address_named_by_tail z.content.tail ≡ Some fresh) ⊎ (is_hard_tail z.content.tail ≡ true) → Contains now p → ⊥
+pub other_tail : (t : KeptThread) (z p : Pair) (fresh : ℕ × ℕ) → IsReadyImage t → IsFree t.map fresh.0 → HoldsOfSome (λ y. y ≡ p) t.pairs → is_hard_tail p.content.tail ≡ false
+    → (now : List Pair) → IsDistinct nat_eq (blocks_of_pairs now) → HoldsOfSome (λ y. y ≡ z) now → z.at ≡ p.at → (tail_address_of z.content.tail ≡ Some fresh) ⊎ (is_hard_tail z.content.tail ≡ true) → Contains now p → ⊥
 other_tail t z p fresh ready free was soft now distinct there at tail has = go tail
   where
     k : (l : List Pair) × (r : List Pair) × (now ≡ l ++ z ∷ r)
@@ -55,17 +55,17 @@ other_tail t z p fresh ready free was soft now distinct there at tail has = go t
     same : z ≡ p
     same = only_there k.0 z k.1 p (subst (λ ps. IsDistinct nat_eq (blocks_of_pairs ps)) k.2 distinct) at (subst (λ ps. Contains ps p) k.2 has)
 
-    go : (pair_address_named_by_tail z.content.tail ≡ Some fresh) ⊎ (is_hard_tail z.content.tail ≡ true) → ⊥
-    go (inl names) = names_used t p fresh ready.accepted.thread.links ready.used was (ap (λ (y : Pair). pair_address_named_by_tail y.content.tail) (sym same) ∙ names) free
+    go : (tail_address_of z.content.tail ≡ Some fresh) ⊎ (is_hard_tail z.content.tail ≡ true) → ⊥
+    go (inl names) = names_used t p fresh ready.accepted.thread.links ready.used was (ap (λ (y : Pair). tail_address_of y.content.tail) (sym same) ∙ names) free
     go (inr hard) = absurd (let e = sym soft ∙ ap (λ (y : Pair). is_hard_tail y.content.tail) (sym same) ∙ hard in cc)
 
 -- a pair, where the thread hasn't the one that it named any more
-pub tail_goes : (t new : KeptThread) (index : ℕ) (to : ℕ × ℕ) → pair_address_named_by_tail (thread_pair_at_index t index).content.tail ≡ Some to → AreLinkedByTails (Some anchor_pair_address) new.pairs → occurrence_count_of_number to.0 (blocks_of_pairs new.pairs) ≡ 0 → IsPairNotKeptUnchanged t index new
-tail_goes t new index to names links none has = let k = names_there (Some anchor_pair_address) new.pairs (thread_pair_at_index t index) to links (among_contains (thread_pair_at_index t index) new.pairs has) names in absurd (omega arith)
+pub tail_goes : (t new : KeptThread) (index : ℕ) (to : ℕ × ℕ) → tail_address_of (thread_pair_at t index).content.tail ≡ Some to → AreLinked (Some anchor_address) new.pairs → number_count to.0 (blocks_of_pairs new.pairs) ≡ 0 → IsPairTouched t index new
+tail_goes t new index to names links none has = let k = names_there (Some anchor_address) new.pairs (thread_pair_at t index) to links (among_contains (thread_pair_at t index) new.pairs has) names in absurd (omega arith)
 
-pub names_next : (t : KeptThread) (front : ℕ) → front + 1 < length t.pairs → AreLinkedByTails (Some anchor_pair_address) t.pairs → pair_address_named_by_tail (thread_pair_at_index t front).content.tail ≡ Some (thread_pair_at_index t (front + 1)).at
+pub names_next : (t : KeptThread) (front : ℕ) → front + 1 < length t.pairs → AreLinked (Some anchor_address) t.pairs → tail_address_of (thread_pair_at t front).content.tail ≡ Some (thread_pair_at t (front + 1)).at
 names_next t front low links =
     let two = two_at t.pairs front low in
-    let k = (links_behind (Some anchor_pair_address) two.ahead (two.one ∷ two.other ∷ two.back) (subst (λ z. AreLinkedByTails (Some anchor_pair_address) z) two.is links)).1 in
-    ap (λ (z : Pair). pair_address_named_by_tail z.content.tail) (front_is t front two.ahead two.one two.other two.back two.is two.number) ∙ k.1.0
+    let k = (links_behind (Some anchor_address) two.ahead (two.one ∷ two.other ∷ two.back) (subst (λ z. AreLinked (Some anchor_address) z) two.is links)).1 in
+    ap (λ (z : Pair). tail_address_of z.content.tail) (front_is t front two.ahead two.one two.other two.back two.is two.number) ∙ k.1.0
     ∙ ap (λ (z : Pair). Some z.at) (sym (gone_is t front two.ahead two.one two.other two.back two.is two.number))

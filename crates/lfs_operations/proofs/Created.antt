@@ -2,15 +2,15 @@
 use Rattle.std.proofs.Common.{ℕ, ◌≡◌, ◌≤◌, List, [], ◌∷◌, ◌++◌, length, Some, refl, sym, ap, ap₂, subst, ◌∙◌, arith, length-append, insert}
 use Rattle.std.specs.Prelude.{Contains}
 use Rattle.std.specs.Option.{option_and_then}
-use Rattle.lfs_operations.proofs.Common.{ne_eqb, tree_after_creation, raw_pair_content_after_changes, RawPairContent, raw_content_of_pair_at, pair_content_if_slots_complete, file_name_type, CanSplitSlotsIntoTwoPairs, Disk, DeviceCallEvent, IsPlaceWhereNameBelongs, IsNameOrStructTheFormatAllows, Name, SurvivesPowerLossInCallsSince, Slot, PairContent, path_of_bytes_or_root, Pair, blocks_of_pairs, pair_address_named_by_tail, Session, Tree, FileNode, IsAcceptedImage, entries_by_directory_in_thread, tree_on_disk, IsImageAfterTreeChange, IsImageAfterCompletedOperation, no_move_from, recovered_from, commit_step, complete_insert, complete_length, completed_parts, completed_from, creates_with_struct, does_nothing, slot_with, insert_cut, nothing_there, place_at, insert_here, IsPlace, some_filled, site, place_of_belongs, Site, thread_at, logged_changed, type_of_tag-tag_of_type_id_and_length, length_of_tag-tag_of_type_id_and_length, pair_content_after_changes, PowerLossLeavesSuchBlocksAfterCleanErases, KeptThread, thread_pair_at_index, complete_content_after_changes}
-use Rattle.lfs_model.specs.EntryTypes.{inline_struct_type}
-use Rattle.lfs_model.specs.Operations as ops
-use Rattle.lfs_model.specs.Operations.{FlagsOfOpen}
-use Rattle.lfs_model.specs.SlotEdits.{new_file_slot}
+use Rattle.lfs_operations.proofs.Common.{ne_eqb, tree_creating, changed_content_of, RawContent, raw_content, complete_content, file_name_type, CanSplit, Disk, CallEvent, BelongsAt, IsAllowed, Name, SurvivesLossSince, Slot, PairContent, path_or_root, Pair, blocks_of_pairs, tail_address_of, Session, Tree, FileNode, IsAccepted, all_entries, tree_on_disk, IsChangedImage, IsCompletion, no_move_from, recovered_from, commit_step, complete_insert, complete_length, completed_parts, completed_from, creates_with_struct, does_nothing, slot_with, insert_cut, nothing_there, place_at, insert_here, IsPlace, some_filled, site, place_of_belongs, Site, thread_at, logged_changed, tag_type-make_tag, tag_length-make_tag, changed_pair, LossLeavesCleanly, KeptThread, thread_pair_at, complete_after}
+use Rattle.lfs_model.specs.format.EntryTypes.{inline_type}
+use Rattle.lfs_model.specs.session.Operations as ops
+use Rattle.lfs_model.specs.session.Operations.{FlagsOfOpen}
+use Rattle.lfs_model.specs.session.SlotEdits.{file_slot}
 use Rattle.lfs_model.proofs.Moves.{file_comes}
 use Rattle.lfs_model.proofs.OneCommit.{create_completed}
-use Rattle.lfs_operations.specs.Changing.{IsPairNotKeptUnchanged, CanChangeOrSplitPair, IsLeftByStoppedChangeOrSplit, IsPairChangedOrSplit}
-use Rattle.lfs_operations.specs.Creating.{CanCreateFileInPair, IsFileCreated, file_creation_changes, tree_with_new_file}
+use Rattle.lfs_operations.specs.Changing.{IsPairTouched, CanTurn, LeftByTurn, IsTurned}
+use Rattle.lfs_operations.specs.Creating.{CanCreateIn, IsFileCreated, creation_changes, tree_with_file}
 use Rattle.lfs_operations.proofs.Altered.{commit_alters}
 use Rattle.lfs_operations.proofs.Held.{CompletesTo, below, fits_there, here, raw_there}
 use Rattle.lfs_operations.proofs.Splicing.{Commits, IsSplicing}
@@ -21,28 +21,28 @@ use Rattle.lfs_operations.proofs.PairAt.{HasPairAt, pair_at}
 
 -- ---- the parts of a file's slot
 
-file_name : (name : Name) → length name ≤ 255 → IsNameOrStructTheFormatAllows 0 (file_name_type, name)
+file_name : (name : Name) → length name ≤ 255 → IsAllowed 0 (file_name_type, name)
 file_name name short = record {
   of_class = refl;
   short = omega arith;
   in_table =
-      let kind = type_of_tag-tag_of_type_id_and_length file_name_type 0 (length name) (omega arith) (omega arith) (omega arith) in
-      let len = length_of_tag-tag_of_type_id_and_length file_name_type 0 (length name) (omega arith) in
+      let kind = tag_type-make_tag file_name_type 0 (length name) (omega arith) (omega arith) (omega arith) in
+      let len = tag_length-make_tag file_name_type 0 (length name) (omega arith) in
       rw len (rw kind (rw (ne_eqb (length name) 0x3ff (λ e. omega arith)) refl));
 }
 
-no_bytes : IsNameOrStructTheFormatAllows 2 (inline_struct_type, [])
+no_bytes : IsAllowed 2 (inline_type, [])
 no_bytes = record { of_class = refl; short = omega arith; in_table = refl }
 
-module _ (t : KeptThread) (index id : ℕ) (name : Name) (can : CanCreateFileInPair t index id name) where
-  abbrev b : IsPlaceWhereNameBelongs t.disk.order t.pairs can.first name index id
+module _ (t : KeptThread) (index id : ℕ) (name : Name) (can : CanCreateIn t index id name) where
+  abbrev b : BelongsAt t.disk.order t.pairs can.first name index id
   b = can.belongs
 
   abbrev p : Pair
   p = b.pair
 
   abbrev u : Slot
-  u = new_file_slot name
+  u = file_slot name
 
   abbrev w : Site
   w = site t.disk t.pairs can.path can.at can.ready.accepted can.leads can.first index p (b.later ++ b.rest) b.place can.begins
@@ -55,45 +55,45 @@ module _ (t : KeptThread) (index id : ℕ) (name : Name) (can : CanCreateFileInP
   within : id ≤ length p.content.slots
   within = let h = ap length b.held in let l = length-append b.left b.right in let n = b.number in omega arith
 
-  abbrev c : CompletesTo (raw_content_of_pair_at t.disk (thread_pair_at_index t index).at) p.content
+  abbrev c : CompletesTo (raw_content t.disk (thread_pair_at t index).at) p.content
   c = raw_there t can.ready can.first index p (b.later ++ b.rest) b.place
 
-  abbrev raw_now : RawPairContent
-  raw_now = record c.raw { slots = insert c.raw.slots id (slot_with (file_name_type, name) (inline_struct_type, [])) }
+  abbrev raw_now : RawContent
+  raw_now = record c.raw { slots = insert c.raw.slots id (slot_with (file_name_type, name) (inline_type, [])) }
 
-  changed : raw_pair_content_after_changes c.raw (file_creation_changes id name) ≡ Some raw_now
+  changed : changed_content_of c.raw (creation_changes id name) ≡ Some raw_now
   changed =
       let l = complete_length c.raw.slots p.content.slots (completed_parts c.raw p.content c.complete).slots in
       let few = (fits_there t can.ready can.first index p (b.later ++ b.rest) b.place).count in
       let m = within in
-      creates_with_struct c.raw id file_name_type name inline_struct_type [] [] raw_now (omega arith) (omega arith) (file_name name (name_length name can.is_name)) no_bytes (does_nothing raw_now)
+      creates_with_struct c.raw id file_name_type name inline_type [] [] raw_now (omega arith) (omega arith) (file_name name (name_length name can.is_name)) no_bytes (does_nothing raw_now)
 
-  made_raw : pair_content_after_changes t.disk (thread_pair_at_index t index).at (file_creation_changes id name) ≡ Some raw_now
-  made_raw = ap (λ o. option_and_then (λ (r : RawPairContent). raw_pair_content_after_changes r (file_creation_changes id name)) o) c.is ∙ changed
+  made_raw : changed_pair t.disk (thread_pair_at t index).at (creation_changes id name) ≡ Some raw_now
+  made_raw = ap (λ o. option_and_then (λ (r : RawContent). changed_content_of r (creation_changes id name)) o) c.is ∙ changed
 
   abbrev now : PairContent
-  now = record { slots = insert p.content.slots id (new_file_slot name); tail = p.content.tail; move = p.content.move }
+  now = record { slots = insert p.content.slots id (file_slot name); tail = p.content.tail; move = p.content.move }
 
-  now_complete : pair_content_if_slots_complete raw_now ≡ Some now
+  now_complete : complete_content raw_now ≡ Some now
   now_complete =
       let parts = completed_parts c.raw p.content c.complete in
-      completed_from raw_now (insert p.content.slots id (new_file_slot name)) (complete_insert c.raw.slots p.content.slots id (slot_with (file_name_type, name) (inline_struct_type, [])) (new_file_slot name) parts.slots refl)
-      ∙ ap₂ (λ t m. Some (record { slots = insert p.content.slots id (new_file_slot name); tail = t; move = m })) (sym parts.tail) (sym parts.move)
+      completed_from raw_now (insert p.content.slots id (file_slot name)) (complete_insert c.raw.slots p.content.slots id (slot_with (file_name_type, name) (inline_type, [])) (file_slot name) parts.slots refl)
+      ∙ ap₂ (λ t m. Some (record { slots = insert p.content.slots id (file_slot name); tail = t; move = m })) (sym parts.tail) (sym parts.move)
 
-  made : complete_content_after_changes t index (file_creation_changes id name) ≡ Some now
-  made = ap (λ o. option_and_then pair_content_if_slots_complete o) made_raw ∙ now_complete
+  made : complete_after t index (creation_changes id name) ≡ Some now
+  made = ap (λ o. option_and_then complete_content o) made_raw ∙ now_complete
 
-  cut : CanSplitSlotsIntoTwoPairs t.disk.block_size t.disk.page raw_now.slots
-  cut = insert_cut t.disk.block_size t.disk.page raw_now now p.content id (new_file_slot name) (logged_changed c.raw (file_creation_changes id name) raw_now (can.logged c.raw c.is) changed) now_complete refl
+  cut : CanSplit t.disk.block_size t.disk.page raw_now.slots
+  cut = insert_cut t.disk.block_size t.disk.page raw_now now p.content id (file_slot name) (logged_changed c.raw (creation_changes id name) raw_now (can.logged c.raw c.is) changed) now_complete refl
       (let f = can.fits.charge in omega arith) (fits_there t can.ready can.first index p (b.later ++ b.rest) b.place)
 
-  pub can_put : CanChangeOrSplitPair t index (file_creation_changes id name)
+  pub can_put : CanTurn t index (creation_changes id name)
   can_put = record {
     can = record {
       below = below t can.ready can.first index p (b.later ++ b.rest) b.place;
       content = now;
       made = made;
-      next = ap (λ (z : Pair). pair_address_named_by_tail z.content.tail) (sym (here t can.ready can.first index p (b.later ++ b.rest) b.place));
+      next = ap (λ (z : Pair). tail_address_of z.content.tail) (sym (here t can.ready can.first index p (b.later ++ b.rest) b.place));
     };
     raw = raw_now;
     made = made_raw;
@@ -105,7 +105,7 @@ module _ (t : KeptThread) (index id : ℕ) (name : Name) (can : CanCreateFileInP
   slots_now : insert p.content.slots id u ≡ b.left ++ (u ∷ [] ++ b.right)
   slots_now = ap₂ (λ (z : List Slot) (i : ℕ). insert z i u) b.held (sym b.number) ∙ insert_here b.left b.right u
 
-  splicing : IsSplicing t index (file_creation_changes id name) w p b.left [] (u ∷ []) b.right [] []
+  splicing : IsSplicing t index (creation_changes id name) w p b.left [] (u ∷ []) b.right [] []
   splicing = record {
     ready = can.ready;
     there = stand.there;
@@ -126,41 +126,41 @@ module _ (t : KeptThread) (index id : ℕ) (name : Name) (can : CanCreateFileInP
     blocks = λ disk geometry files come n. refl;
   }
 
-  place : IsPlace t.disk.order (entries_by_directory_in_thread t.pairs can.at) (place_at w b.left) name
+  place : IsPlace t.disk.order (all_entries t.pairs can.at) (place_at w b.left) name
   place = place_of_belongs t.disk t.pairs can.path can.at can.ready.accepted can.leads can.first index id name (no_move_from t.pairs can.ready.settled) b can.begins
 
-  place_there : IsPlace t.disk.order (entries_by_directory_in_thread (thread_at w (p ∷ [])) can.at) (place_at w b.left) name
-  place_there = subst (λ z. IsPlace t.disk.order (entries_by_directory_in_thread z can.at) (place_at w b.left) name) stand.there place
+  place_there : IsPlace t.disk.order (all_entries (thread_at w (p ∷ [])) can.at) (place_at w b.left) name
+  place_there = subst (λ z. IsPlace t.disk.order (all_entries z can.at) (place_at w b.left) name) stand.there place
 
   follows : (disk : Disk) (q : Pair) (more : List Pair) → Commits t w p b.left [] (u ∷ []) b.right [] disk q more
-      → IsImageAfterTreeChange t.disk (thread_at w (p ∷ [])) disk (thread_at w (q ∷ more)) (tree_after_creation (can.path ++ name ∷ []) (FileNode [] [])) (λ d. d)
+      → IsChangedImage t.disk (thread_at w (p ∷ [])) disk (thread_at w (q ∷ more)) (tree_creating (can.path ++ name ∷ []) (FileNode [] [])) (λ d. d)
   follows disk q more commit = file_comes t.disk disk w p [] q more (blocks_of_pairs more) [] b.left b.right u (commit_step t.disk disk w p q more [] b.left [] (u ∷ []) b.right commit.commit) can.path can.at
       stand.leads stand.begin place_there [] refl (λ e. (recovered_from t.disk (thread_at w (p ∷ [])) commit.commit.accepted commit.commit.settled).reached)
 
-  pub created : (new : KeptThread) → IsPairChangedOrSplit t index (file_creation_changes id name) new → IsFileCreated t new can.path name
-  created new is = go (put_step t index (file_creation_changes id name) w p b.left [] (u ∷ []) b.right [] [] splicing new is)
+  pub created : (new : KeptThread) → IsTurned t index (creation_changes id name) new → IsFileCreated t new can.path name
+  created new is = go (put_step t index (creation_changes id name) w p b.left [] (u ∷ []) b.right [] [] splicing new is)
     where
       go : HasStep t w p b.left [] (u ∷ []) b.right [] [] new → IsFileCreated t new can.path name
       go s =
-          let done = λ (z : Session) (given : List ℕ) (flags : FlagsOfOpen) (tree : z.tree ≡ tree_on_disk t.disk t.pairs) (is_path : path_of_bytes_or_root given ≡ can.path ++ name ∷ []).
+          let done = λ (z : Session) (given : List ℕ) (flags : FlagsOfOpen) (tree : z.tree ≡ tree_on_disk t.disk t.pairs) (is_path : path_or_root given ≡ can.path ++ name ∷ []).
           create_completed t.disk new.disk w p s.q s.more b.left b.right name s.commit.commit can.path can.at stand.leads stand.begin place_there z given flags (tree ∙ ap (tree_on_disk t.disk) stand.there) is_path
           (ap₂ (λ (f : Tree) x. f x) tree is_path ∙ (nothing_there t.disk t.pairs can.path can.at (place_at w b.left) name can.leads place).1) in
           record {
-            now = ready_again t new (tree_with_new_file t can.path name) (becomes t index (file_creation_changes id name) w p b.left [] (u ∷ []) b.right [] [] splicing (tree_after_creation (can.path ++ name ∷ []) (FileNode [] []))
+            now = ready_again t new (tree_with_file t can.path name) (becomes t index (creation_changes id name) w p b.left [] (u ∷ []) b.right [] [] splicing (tree_creating (can.path ++ name ∷ []) (FileNode [] []))
                 (λ disk q more commit. ((λ d. d), follows disk q more commit)) (λ e. some_filled b.left b.right u) new s);
-            completed = λ z given flags tree is_path. subst (λ x. IsImageAfterCompletedOperation t.disk x z (ops.Open given flags) new.disk new.pairs) (sym stand.there)
-                (subst (λ x. IsImageAfterCompletedOperation t.disk (thread_at w (p ∷ [])) z (ops.Open given flags) new.disk x) (sym s.pairs) (done z given flags tree is_path));
+            completed = λ z given flags tree is_path. subst (λ x. IsCompletion t.disk x z (ops.Open given flags) new.disk new.pairs) (sym stand.there)
+                (subst (λ x. IsCompletion t.disk (thread_at w (p ∷ [])) z (ops.Open given flags) new.disk x) (sym s.pairs) (done z given flags tree is_path));
           }
 
   -- the pair has one slot more, or is cut
-  pub alters : (new : KeptThread) → IsPairChangedOrSplit t index (file_creation_changes id name) new → IsPairNotKeptUnchanged t index new
-  alters new is has = go (put_step t index (file_creation_changes id name) w p b.left [] (u ∷ []) b.right [] [] splicing new is)
+  pub alters : (new : KeptThread) → IsTurned t index (creation_changes id name) new → IsPairTouched t index new
+  alters new is has = go (put_step t index (creation_changes id name) w p b.left [] (u ∷ []) b.right [] [] splicing new is)
     where
       go : HasStep t w p b.left [] (u ∷ []) b.right [] [] new → ⊥
       go s = commit_alters t.disk new.disk w p s.q [] b.left [] (u ∷ []) b.right (λ e. absurd (omega arith)) s.more
-          (subst (IsAcceptedImage new.disk) s.pairs (created new is).now.ready.accepted) s.commit.commit
+          (subst (IsAccepted new.disk) s.pairs (created new is).now.ready.accepted) s.commit.commit
           (subst (λ z. Contains z p) s.pairs (subst (Contains new.pairs) (pair_is t index w p splicing.there splicing.place) has))
 
-  pub create_survives : (new : List DeviceCallEvent) → PowerLossLeavesSuchBlocksAfterCleanErases t.history new (IsLeftByStoppedChangeOrSplit t index (file_creation_changes id name)) → SurvivesPowerLossInCallsSince t.disk t.history new (tree_on_disk t.disk t.pairs) (tree_with_new_file t can.path name)
-  create_survives new stops = survives t index (file_creation_changes id name) w p b.left [] (u ∷ []) b.right [] [] splicing (tree_after_creation (can.path ++ name ∷ []) (FileNode [] []))
+  pub create_survives : (new : List CallEvent) → LossLeavesCleanly t.history new (LeftByTurn t index (creation_changes id name)) → SurvivesLossSince t.disk t.history new (tree_on_disk t.disk t.pairs) (tree_with_file t can.path name)
+  create_survives new stops = survives t index (creation_changes id name) w p b.left [] (u ∷ []) b.right [] [] splicing (tree_creating (can.path ++ name ∷ []) (FileNode [] []))
       (λ disk q more commit. ((λ d. d), follows disk q more commit)) (λ e. some_filled b.left b.right u) new stops

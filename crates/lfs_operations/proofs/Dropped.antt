@@ -1,9 +1,9 @@
 -- A pair that went from the thread, in an accepted image: what the device holds then, and which blocks the image uses.
 use Rattle.std.proofs.Common.{ℕ, ◌≡◌, ◌≢◌, ◌⊎◌, inl, inr, ◌+◌, ◌-◌, ◌≤◌, Bool, true, false, cond, nat_eq, eqb-true, eq-eqb, List, [], ◌∷◌, ◌++◌, length, Option, Some, refl, sym, ap, ap₂, subst, subst₂, ◌∙◌, arith, append_assoc, length-append, length-set, set, slice_get}
 use Rattle.std.specs.Prelude.{Contains, ◌↔◌}
-use Rattle.lfs_operations.proofs.Common.{All-from_recursion, recursion_from_All, same_Some, AreExactlyTheUsedBlocks, BlockStateList, BlockState, IsBlockInFlight, IsBlockMarkedUsedInMap, Free, InFlight, Used, Blocks, content_of_pair_at, Disk, AreMoveStateFieldsWithinBitWidths, HasTreeBeforeOrAfterOperation, disk_with_blocks, IsWritableImage, Gstate, IsContentFittingPair, PairContent, Slot, Pair, blocks_of_pairs, gstate_of_pairs, blocks_of_pair_address, Tree, IsAcceptedImage, all_slots_not_moved, tree_on_disk, used_blocks, Contains-occurrence_count_of_number, occurrence_count_of_number-Contains, slice_get-set_other, slice_get-set_same, SameFiles, slots_files, Each, occurrence_count_of_number, count_append, count_here, each_append, each_left, each_right, once_from_distinct, HasSameFileBlocksOfStructOnDisks, HasNoMove, Site, thread_at, IsDevice, count_files, file_blocks_of_slots, slots_of_pairs_in_order, unmoved_in, KeptThread, IsPairWrittenOnDisk, SlotsBeginWithSuperblock, thread_pair_at_index, block_map_with_freed_pair}
-use Rattle.lfs_operations.specs.Dropping.{CanDropPairAt, HasSameBlocksInFlight, IsLeftByStoppedPairDrop, IsNextPairDropped, content_after_next_pair_drop, tail_over_dropped_pair}
-use Rattle.lfs_operations.specs.MoveEnds.{blocks_dropped_at_move_end, map_after_move_ends}
+use Rattle.lfs_operations.proofs.Common.{All-from_recursion, recursion_from_All, same_Some, AreUsed, BlockStates, BlockState, IsInFlight, IsUsedBlock, Free, InFlight, Used, Blocks, content_at, Disk, MoveStateFits, HasEither, with_blocks, IsWritable, Gstate, FitsInPair, PairContent, Slot, Pair, blocks_of_pairs, pairs_gstate, address_blocks, Tree, IsAccepted, all_slots_not_moved, tree_on_disk, used_blocks, Contains-number_count, number_count-Contains, slice_get-set_other, slice_get-set_same, SameFiles, slots_files, Each, number_count, count_append, count_here, each_append, each_left, each_right, once_from_distinct, SameFileBlocks, HasNoMove, Site, thread_at, IsDevice, count_files, file_blocks, all_slots, unmoved_in, KeptThread, IsPairWritten, BeginWithSuperblock, thread_pair_at, map_freeing}
+use Rattle.lfs_operations.specs.Dropping.{CanDropAt, SameInFlight, LeftByDrop, IsPairDropped, content_after_drop, tail_over_drop}
+use Rattle.lfs_operations.specs.MoveEnds.{dropped_at_end, map_move_ended}
 use Rattle.lfs_operations.proofs.DroppedTails.{front_is, gone_is, gstate_is, without_is}
 use Rattle.lfs_operations.proofs.Placing.{blocks_append, device, left_still}
 use Rattle.lfs_operations.proofs.Taking.{within}
@@ -21,64 +21,64 @@ device_without : (disk new : Disk) (ps ahead : List Pair) (q o : Pair) (back : L
 device_without disk new ps ahead q o back d = record {
   geometry = d.geometry;
   contents =
-      let F = λ (x : Pair). content_of_pair_at new x.at ≡ Some x.content in
-      let all = recursion_from_All (λ (x : Pair). content_of_pair_at new x.at ≡ Some x.content) (ahead ++ q ∷ o ∷ back) d.contents in
-      let behind = each_right (λ (x : Pair). content_of_pair_at new x.at ≡ Some x.content) ahead (q ∷ o ∷ back) all in
-      All-from_recursion (λ x. content_of_pair_at new x.at ≡ Some x.content) (ahead ++ q ∷ back)
-      (each_append (λ (x : Pair). content_of_pair_at new x.at ≡ Some x.content) ahead (q ∷ back) (each_left (λ (x : Pair). content_of_pair_at new x.at ≡ Some x.content) ahead (q ∷ o ∷ back) all) (behind.0, behind.1.1));
+      let F = λ (x : Pair). content_at new x.at ≡ Some x.content in
+      let all = recursion_from_All (λ (x : Pair). content_at new x.at ≡ Some x.content) (ahead ++ q ∷ o ∷ back) d.contents in
+      let behind = each_right (λ (x : Pair). content_at new x.at ≡ Some x.content) ahead (q ∷ o ∷ back) all in
+      All-from_recursion (λ x. content_at new x.at ≡ Some x.content) (ahead ++ q ∷ back)
+      (each_append (λ (x : Pair). content_at new x.at ≡ Some x.content) ahead (q ∷ back) (each_left (λ (x : Pair). content_at new x.at ≡ Some x.content) ahead (q ∷ o ∷ back) all) (behind.0, behind.1.1));
   first = d.first;
   files = d.files;
 }
 
-module _ (t : KeptThread) (n : ℕ) (ahead : List Pair) (p o : Pair) (back : List Pair) (is : t.pairs ≡ ahead ++ p ∷ o ∷ back) (number : length ahead ≡ n) (ok : IsAcceptedImage t.disk (ahead ++ p ∷ o ∷ back)) where
-  device_kept : (disk : Disk) (c : PairContent) → c.slots ≡ p.content.slots → IsPairWrittenOnDisk t n c disk → IsDevice t.disk disk (ahead ++ p ∷ o ∷ back) (ahead ++ record { at = p.at; content = c } ∷ o ∷ back)
+module _ (t : KeptThread) (n : ℕ) (ahead : List Pair) (p o : Pair) (back : List Pair) (is : t.pairs ≡ ahead ++ p ∷ o ∷ back) (number : length ahead ≡ n) (ok : IsAccepted t.disk (ahead ++ p ∷ o ∷ back)) where
+  device_kept : (disk : Disk) (c : PairContent) → c.slots ≡ p.content.slots → IsPairWritten t n c disk → IsDevice t.disk disk (ahead ++ p ∷ o ∷ back) (ahead ++ record { at = p.at; content = c } ∷ o ∷ back)
   device_kept disk c same w = device t.disk disk (site_between ahead (o ∷ back)) p (record { at = p.at; content = c }) [] [] ok ok.owned_once
-      (placed_one t n (site_between ahead (o ∷ back)) p is (let e = number in omega arith) disk c (λ h. subst SlotsBeginWithSuperblock (sym same) (h.kind, h.name)) w)
+      (placed_one t n (site_between ahead (o ∷ back)) p is (let e = number in omega arith) disk c (λ h. subst BeginWithSuperblock (sym same) (h.kind, h.name)) w)
 
-  device_dropped : (disk : Disk) (c : PairContent) → c.slots ≡ p.content.slots → IsPairWrittenOnDisk t n c disk → IsDevice t.disk disk (ahead ++ p ∷ o ∷ back) (ahead ++ record { at = p.at; content = c } ∷ back)
+  device_dropped : (disk : Disk) (c : PairContent) → c.slots ≡ p.content.slots → IsPairWritten t n c disk → IsDevice t.disk disk (ahead ++ p ∷ o ∷ back) (ahead ++ record { at = p.at; content = c } ∷ back)
   device_dropped disk c same w = device_without t.disk disk (ahead ++ p ∷ o ∷ back) ahead (record { at = p.at; content = c }) o back (device_kept disk c same w)
 
 -- ---- the blocks
 
-module _ (disk new : Disk) (ahead : List Pair) (p o q : Pair) (back : List Pair) (none : HasNoMove (gstate_of_pairs (ahead ++ p ∷ o ∷ back)))
+module _ (disk new : Disk) (ahead : List Pair) (p o q : Pair) (back : List Pair) (none : HasNoMove (pairs_gstate (ahead ++ p ∷ o ∷ back)))
     (d : IsDevice disk new (ahead ++ p ∷ o ∷ back) (ahead ++ q ∷ back)) (slots : q.content.slots ≡ p.content.slots) where
-  same : SameFiles disk new (slots_of_pairs_in_order ahead ++ (p.content.slots ++ (o.content.slots ++ slots_of_pairs_in_order back)))
-  same = subst (SameFiles disk new) (unmoved_in (gstate_of_pairs (ahead ++ p ∷ o ∷ back)) none (ahead ++ p ∷ o ∷ back) ∙ slots_append ahead (p ∷ o ∷ back))
-      (recursion_from_All (λ (s : Slot). HasSameFileBlocksOfStructOnDisks disk new s.struct) (all_slots_not_moved (ahead ++ p ∷ o ∷ back)) d.files)
+  same : SameFiles disk new (all_slots ahead ++ (p.content.slots ++ (o.content.slots ++ all_slots back)))
+  same = subst (SameFiles disk new) (unmoved_in (pairs_gstate (ahead ++ p ∷ o ∷ back)) none (ahead ++ p ∷ o ∷ back) ∙ slots_append ahead (p ∷ o ∷ back))
+      (recursion_from_All (λ (s : Slot). SameFileBlocks disk new s.struct) (all_slots_not_moved (ahead ++ p ∷ o ∷ back)) d.files)
 
-  kept : (ss : List Slot) → SameFiles disk new ss → (b : ℕ) → occurrence_count_of_number b (file_blocks_of_slots new ss) ≡ occurrence_count_of_number b (file_blocks_of_slots disk ss)
-  kept ss h b = ap (occurrence_count_of_number b) (slots_files disk new ss d.geometry h)
+  kept : (ss : List Slot) → SameFiles disk new ss → (b : ℕ) → number_count b (file_blocks new ss) ≡ number_count b (file_blocks disk ss)
+  kept ss h b = ap (number_count b) (slots_files disk new ss d.geometry h)
 
-  files_dropped : (b : ℕ) → occurrence_count_of_number b (file_blocks_of_slots new (slots_of_pairs_in_order (ahead ++ q ∷ back))) + occurrence_count_of_number b (file_blocks_of_slots disk o.content.slots)
-      ≡ occurrence_count_of_number b (file_blocks_of_slots disk (slots_of_pairs_in_order (ahead ++ p ∷ o ∷ back)))
+  files_dropped : (b : ℕ) → number_count b (file_blocks new (all_slots (ahead ++ q ∷ back))) + number_count b (file_blocks disk o.content.slots)
+      ≡ number_count b (file_blocks disk (all_slots (ahead ++ p ∷ o ∷ back)))
   files_dropped b =
-      let g = slots_of_pairs_in_order back in
-      let f = slots_of_pairs_in_order ahead in
-      let h1 = each_left (λ (s : Slot). HasSameFileBlocksOfStructOnDisks disk new s.struct) f (p.content.slots ++ (o.content.slots ++ g)) same in
-      let h2 = each_right (λ (s : Slot). HasSameFileBlocksOfStructOnDisks disk new s.struct) f (p.content.slots ++ (o.content.slots ++ g)) same in
-      let h3 = each_left (λ (s : Slot). HasSameFileBlocksOfStructOnDisks disk new s.struct) p.content.slots (o.content.slots ++ g) h2 in
-      let h4 = each_right (λ (s : Slot). HasSameFileBlocksOfStructOnDisks disk new s.struct) o.content.slots g (each_right (λ (s : Slot). HasSameFileBlocksOfStructOnDisks disk new s.struct) p.content.slots (o.content.slots ++ g) h2) in
+      let g = all_slots back in
+      let f = all_slots ahead in
+      let h1 = each_left (λ (s : Slot). SameFileBlocks disk new s.struct) f (p.content.slots ++ (o.content.slots ++ g)) same in
+      let h2 = each_right (λ (s : Slot). SameFileBlocks disk new s.struct) f (p.content.slots ++ (o.content.slots ++ g)) same in
+      let h3 = each_left (λ (s : Slot). SameFileBlocks disk new s.struct) p.content.slots (o.content.slots ++ g) h2 in
+      let h4 = each_right (λ (s : Slot). SameFileBlocks disk new s.struct) o.content.slots g (each_right (λ (s : Slot). SameFileBlocks disk new s.struct) p.content.slots (o.content.slots ++ g) h2) in
       let e1 = kept f h1 b in
       let e2 = kept p.content.slots h3 b in
       let e3 = kept g h4 b in
-      let b1 = ap (λ z. occurrence_count_of_number b (file_blocks_of_slots new z)) (slots_append ahead (q ∷ back)) in
-      let b2 = ap (λ z. occurrence_count_of_number b (file_blocks_of_slots disk z)) (slots_append ahead (p ∷ o ∷ back)) in
+      let b1 = ap (λ z. number_count b (file_blocks new z)) (slots_append ahead (q ∷ back)) in
+      let b2 = ap (λ z. number_count b (file_blocks disk z)) (slots_append ahead (p ∷ o ∷ back)) in
       let c1 = count_files b new f (q.content.slots ++ g) in
       let c2 = count_files b new q.content.slots g in
-      let c3 = ap (λ z. occurrence_count_of_number b (file_blocks_of_slots new z)) slots in
+      let c3 = ap (λ z. number_count b (file_blocks new z)) slots in
       let c4 = count_files b disk f (p.content.slots ++ (o.content.slots ++ g)) in
       let c5 = count_files b disk p.content.slots (o.content.slots ++ g) in
       let c6 = count_files b disk o.content.slots g in
       omega arith
 
-pub blocks_dropped : (ahead : List Pair) (p o q : Pair) (back : List Pair) → q.at ≡ p.at → (b : ℕ) → occurrence_count_of_number b (blocks_of_pairs (ahead ++ q ∷ back)) + occurrence_count_of_number b (blocks_of_pair_address o.at) ≡ occurrence_count_of_number b (blocks_of_pairs (ahead ++ p ∷ o ∷ back))
+pub blocks_dropped : (ahead : List Pair) (p o q : Pair) (back : List Pair) → q.at ≡ p.at → (b : ℕ) → number_count b (blocks_of_pairs (ahead ++ q ∷ back)) + number_count b (address_blocks o.at) ≡ number_count b (blocks_of_pairs (ahead ++ p ∷ o ∷ back))
 blocks_dropped ahead p o q back at b =
     let d1 = blocks_append ahead (q ∷ back) b in
     let d2 = blocks_append ahead (p ∷ o ∷ back) b in
     let d3 = blocks_append (q ∷ []) back b in
     let d4 = blocks_append (p ∷ []) (o ∷ back) b in
     let d5 = blocks_append (o ∷ []) back b in
-    let d6 = ap (λ (a : ℕ × ℕ). occurrence_count_of_number b (a.0 ∷ a.1 ∷ [])) at in
+    let d6 = ap (λ (a : ℕ × ℕ). number_count b (a.0 ∷ a.1 ∷ [])) at in
     omega arith
 
 -- ---- the map
@@ -87,86 +87,86 @@ not_both : {a b : BlockState} → (a ≡ b → ⊥) → {o : Option BlockState} 
 not_both {a} {b} n e f = n (same_Some a b (sym e ∙ f))
 
 -- The used blocks of a map that came from another one are these. The same blocks are in flight.
-pub record HasMapWithout (sets new : BlockStateList) (owned : List ℕ) : Type 0 where
-  pub used : AreExactlyTheUsedBlocks new owned
+pub record HasMapWithout (sets new : BlockStates) (owned : List ℕ) : Type 0 where
+  pub used : AreUsed new owned
   pub size : length new ≡ length sets
-  pub flying : HasSameBlocksInFlight sets new
+  pub flying : SameInFlight sets new
 
 -- The blocks of a pair are free; they were used, each once.
-module _ (sets : BlockStateList) (at : ℕ × ℕ) (us vs : List ℕ) (used : AreExactlyTheUsedBlocks sets us) (once : (b : ℕ) → occurrence_count_of_number b us ≤ 1) (less : (b : ℕ) → occurrence_count_of_number b vs + occurrence_count_of_number b (blocks_of_pair_address at) ≡ occurrence_count_of_number b us) where
-  first_there : 1 ≤ occurrence_count_of_number at.0 (blocks_of_pair_address at)
+module _ (sets : BlockStates) (at : ℕ × ℕ) (us vs : List ℕ) (used : AreUsed sets us) (once : (b : ℕ) → number_count b us ≤ 1) (less : (b : ℕ) → number_count b vs + number_count b (address_blocks at) ≡ number_count b us) where
+  first_there : 1 ≤ number_count at.0 (address_blocks at)
   first_there = let e = count_here at.0 (at.1 ∷ []) in omega arith
 
-  second_there : 1 ≤ occurrence_count_of_number at.1 (blocks_of_pair_address at)
+  second_there : 1 ≤ number_count at.1 (address_blocks at)
   second_there = let e = count_here at.1 [] in let k = count_append at.1 (at.0 ∷ []) (at.1 ∷ []) in omega arith
 
   apart : at.0 ≢ at.1
   apart e =
-      let k = ap (λ z. occurrence_count_of_number z (at.0 ∷ [])) e in
+      let k = ap (λ z. number_count z (at.0 ∷ [])) e in
       let a = count_append at.1 (at.0 ∷ []) (at.1 ∷ []) in
       let h = count_here at.0 [] in
       let g = count_here at.1 [] in
       let o = once at.1 in
       let l = less at.1 in
-      let m = ap (λ z. occurrence_count_of_number z (at.1 ∷ [])) e in
-      let n : occurrence_count_of_number at.1 (at.0 ∷ []) ≡ occurrence_count_of_number at.0 (at.0 ∷ []) = sym k in
+      let m = ap (λ z. number_count z (at.1 ∷ [])) e in
+      let n : number_count at.1 (at.0 ∷ []) ≡ number_count at.0 (at.0 ∷ []) = sym k in
       absurd (omega arith)
 
-  was_used : (b : ℕ) → 1 ≤ occurrence_count_of_number b (blocks_of_pair_address at) → slice_get sets b ≡ Some Used
-  was_used b some = (used b).1 (Contains-occurrence_count_of_number us b (let l = less b in omega arith))
+  was_used : (b : ℕ) → 1 ≤ number_count b (address_blocks at) → slice_get sets b ≡ Some Used
+  was_used b some = (used b).1 (Contains-number_count us b (let l = less b in omega arith))
 
-  first_free : slice_get (block_map_with_freed_pair sets at) at.0 ≡ Some Free
+  first_free : slice_get (map_freeing sets at) at.0 ≡ Some Free
   first_free = slice_get-set_other (set sets at.0 Free) at.1 at.0 Free apart ∙ slice_get-set_same sets at.0 Free (within sets at.0 Used (was_used at.0 first_there))
 
-  second_free : slice_get (block_map_with_freed_pair sets at) at.1 ≡ Some Free
+  second_free : slice_get (map_freeing sets at) at.1 ≡ Some Free
   second_free = slice_get-set_same (set sets at.0 Free) at.1 Free (let w = within sets at.1 Used (was_used at.1 second_there) in let e = length-set sets at.0 Free in omega arith)
 
-  elsewhere : (b : ℕ) → nat_eq b at.0 ≡ false → nat_eq b at.1 ≡ false → slice_get (block_map_with_freed_pair sets at) b ≡ slice_get sets b
+  elsewhere : (b : ℕ) → nat_eq b at.0 ≡ false → nat_eq b at.1 ≡ false → slice_get (map_freeing sets at) b ≡ slice_get sets b
   elsewhere b e f = slice_get-set_other (set sets at.0 Free) at.1 b Free (λ k. absurd (let z = sym (eq-eqb b at.1 k) ∙ f in cc))
       ∙ slice_get-set_other sets at.0 b Free (λ k. absurd (let z = sym (eq-eqb b at.0 k) ∙ e in cc))
 
-  used_fewer : AreExactlyTheUsedBlocks (block_map_with_freed_pair sets at) vs
+  used_fewer : AreUsed (map_freeing sets at) vs
   used_fewer b = go (nat_eq b at.0) (nat_eq b at.1) refl refl (less b)
     where
-      gone : slice_get (block_map_with_freed_pair sets at) b ≡ Some Free → occurrence_count_of_number b vs ≡ 0 → IsBlockMarkedUsedInMap (block_map_with_freed_pair sets at) b ↔ Contains vs b
-      gone free none = ((λ h. absurd (not_both {a = Free} {b = Used} (λ k. absurd (cc)) free h)), (λ h. absurd (let n = occurrence_count_of_number-Contains vs b h in omega arith)))
+      gone : slice_get (map_freeing sets at) b ≡ Some Free → number_count b vs ≡ 0 → IsUsedBlock (map_freeing sets at) b ↔ Contains vs b
+      gone free none = ((λ h. absurd (not_both {a = Free} {b = Used} (λ k. absurd (cc)) free h)), (λ h. absurd (let n = number_count-Contains vs b h in omega arith)))
 
-      go : (x y : Bool) → nat_eq b at.0 ≡ x → nat_eq b at.1 ≡ y → occurrence_count_of_number b vs + (cond x 1 0 + (cond y 1 0 + 0)) ≡ occurrence_count_of_number b us → IsBlockMarkedUsedInMap (block_map_with_freed_pair sets at) b ↔ Contains vs b
-      go true y e f l = gone (ap (slice_get (block_map_with_freed_pair sets at)) (eqb-true b at.0 e) ∙ first_free) (let o = once b in omega arith)
-      go false true e f l = gone (ap (slice_get (block_map_with_freed_pair sets at)) (eqb-true b at.1 f) ∙ second_free) (let o = once b in omega arith)
+      go : (x y : Bool) → nat_eq b at.0 ≡ x → nat_eq b at.1 ≡ y → number_count b vs + (cond x 1 0 + (cond y 1 0 + 0)) ≡ number_count b us → IsUsedBlock (map_freeing sets at) b ↔ Contains vs b
+      go true y e f l = gone (ap (slice_get (map_freeing sets at)) (eqb-true b at.0 e) ∙ first_free) (let o = once b in omega arith)
+      go false true e f l = gone (ap (slice_get (map_freeing sets at)) (eqb-true b at.1 f) ∙ second_free) (let o = once b in omega arith)
       go false false e f l =
           let same = elsewhere b e f in (
-            (λ h. Contains-occurrence_count_of_number vs b (let n = occurrence_count_of_number-Contains us b ((used b).0 (sym same ∙ h)) in omega arith)),
-            (λ h. same ∙ (used b).1 (Contains-occurrence_count_of_number us b (let n = occurrence_count_of_number-Contains vs b h in omega arith))),
+            (λ h. Contains-number_count vs b (let n = number_count-Contains us b ((used b).0 (sym same ∙ h)) in omega arith)),
+            (λ h. same ∙ (used b).1 (Contains-number_count us b (let n = number_count-Contains vs b h in omega arith))),
           )
 
-  flying_same : HasSameBlocksInFlight sets (block_map_with_freed_pair sets at)
+  flying_same : SameInFlight sets (map_freeing sets at)
   flying_same b = go (nat_eq b at.0) (nat_eq b at.1) refl refl
     where
-      neither : slice_get (block_map_with_freed_pair sets at) b ≡ Some Free → slice_get sets b ≡ Some Used → IsBlockInFlight (block_map_with_freed_pair sets at) b ↔ IsBlockInFlight sets b
+      neither : slice_get (map_freeing sets at) b ≡ Some Free → slice_get sets b ≡ Some Used → IsInFlight (map_freeing sets at) b ↔ IsInFlight sets b
       neither free was = ((λ h. absurd (not_both {a = Free} {b = InFlight} (λ k. absurd (cc)) free h)), (λ h. absurd (not_both {a = Used} {b = InFlight} (λ k. absurd (cc)) was h)))
 
-      go : (x y : Bool) → nat_eq b at.0 ≡ x → nat_eq b at.1 ≡ y → IsBlockInFlight (block_map_with_freed_pair sets at) b ↔ IsBlockInFlight sets b
-      go true y e f = let k = eqb-true b at.0 e in neither (ap (slice_get (block_map_with_freed_pair sets at)) k ∙ first_free) (ap (slice_get sets) k ∙ was_used at.0 first_there)
-      go false true e f = let k = eqb-true b at.1 f in neither (ap (slice_get (block_map_with_freed_pair sets at)) k ∙ second_free) (ap (slice_get sets) k ∙ was_used at.1 second_there)
+      go : (x y : Bool) → nat_eq b at.0 ≡ x → nat_eq b at.1 ≡ y → IsInFlight (map_freeing sets at) b ↔ IsInFlight sets b
+      go true y e f = let k = eqb-true b at.0 e in neither (ap (slice_get (map_freeing sets at)) k ∙ first_free) (ap (slice_get sets) k ∙ was_used at.0 first_there)
+      go false true e f = let k = eqb-true b at.1 f in neither (ap (slice_get (map_freeing sets at)) k ∙ second_free) (ap (slice_get sets) k ∙ was_used at.1 second_there)
       go false false e f = let same = elsewhere b e f in ((λ h. sym same ∙ h), (λ h. same ∙ h))
 
-  pub map_without : (new : BlockStateList) → new ≡ block_map_with_freed_pair sets at → HasMapWithout sets new vs
+  pub map_without : (new : BlockStates) → new ≡ map_freeing sets at → HasMapWithout sets new vs
   map_without new is = subst (λ z. HasMapWithout sets z vs) (sym is) (record { used = used_fewer; size = length-set (set sets at.0 Free) at.1 Free ∙ length-set sets at.0 Free; flying = flying_same })
 
 -- the map after the end of a move, which frees the pair or not
-pub map_ended : (t : KeptThread) (index : ℕ) (goes : Bool) (us vs : List ℕ) → AreExactlyTheUsedBlocks t.map us → ((b : ℕ) → occurrence_count_of_number b us ≤ 1)
-    → ((b : ℕ) → occurrence_count_of_number b vs + occurrence_count_of_number b (blocks_dropped_at_move_end t index goes) ≡ occurrence_count_of_number b us) → (new : BlockStateList) → new ≡ map_after_move_ends t index goes → HasMapWithout t.map new vs
-map_ended t index true us vs used once less new is = map_without t.map (thread_pair_at_index t index).at us vs used once less new is
+pub map_ended : (t : KeptThread) (index : ℕ) (goes : Bool) (us vs : List ℕ) → AreUsed t.map us → ((b : ℕ) → number_count b us ≤ 1)
+    → ((b : ℕ) → number_count b vs + number_count b (dropped_at_end t index goes) ≡ number_count b us) → (new : BlockStates) → new ≡ map_move_ended t index goes → HasMapWithout t.map new vs
+map_ended t index true us vs used once less new is = map_without t.map (thread_pair_at t index).at us vs used once less new is
 map_ended t index false us vs used once less new is = subst (λ z. HasMapWithout t.map z vs) (sym is) (record { used = used_same t.map us vs (λ b. let e = less b in omega arith) used; size = refl; flying = λ b. ((λ h. h), (λ h. h)) })
 
 -- ---- a pair that is dropped by a commit to the one in front of it
 
 -- The pair o of that number stands behind x, in an image that may be written. The global state is to become `state`.
 pub record IsToBeDropped (t : KeptThread) (index : ℕ) (state : Gstate) (w : Site) (x o : Pair) : Type 0 where
-  pub accepted : IsAcceptedImage t.disk t.pairs
-  pub writable : IsWritableImage t.disk t.pairs
-  pub storable : AreMoveStateFieldsWithinBitWidths state
+  pub accepted : IsAccepted t.disk t.pairs
+  pub writable : IsWritable t.disk t.pairs
+  pub storable : MoveStateFits state
   pub there : t.pairs ≡ thread_at w (x ∷ o ∷ [])
   pub number : length (w.chain ++ (w.before ++ w.left)) + 1 ≡ index
 
@@ -186,88 +186,88 @@ module _ {t : KeptThread} {index : ℕ} {state : Gstate} {w : Site} {x o : Pair}
   number : length ahead ≡ index - 1
   number = let e = k.number in omega arith
 
-  accepted_is : IsAcceptedImage t.disk (ahead ++ x ∷ o ∷ back)
-  accepted_is = subst (IsAcceptedImage t.disk) is k.accepted
+  accepted_is : IsAccepted t.disk (ahead ++ x ∷ o ∷ back)
+  accepted_is = subst (IsAccepted t.disk) is k.accepted
 
-  pub front_there : thread_pair_at_index t (index - 1) ≡ x
+  pub front_there : thread_pair_at t (index - 1) ≡ x
   front_there = front_is t (index - 1) ahead x o back is number
 
-  pub gone_there : thread_pair_at_index t (index - 1 + 1) ≡ o
+  pub gone_there : thread_pair_at t (index - 1 + 1) ≡ o
   gone_there = gone_is t (index - 1) ahead x o back is number
 
-  pub can_drop_pair : CanDropPairAt t index state
+  pub can_drop_pair : CanDropAt t index state
   can_drop_pair = record {
     above = let e = k.number in omega arith;
     below = let l = ap length is in let a = length-append ahead (x ∷ o ∷ back) in let n = k.number in omega arith;
     thread = k.accepted.thread;
-    fits = subst (λ (z : Pair). IsContentFittingPair t.disk.block_size t.disk.page z.content) (sym front_there)
-        (each_right (λ (z : Pair). IsContentFittingPair t.disk.block_size t.disk.page z.content) ahead (x ∷ o ∷ back)
-        (subst (Each (λ (z : Pair). IsContentFittingPair t.disk.block_size t.disk.page z.content)) is (recursion_from_All (λ (z : Pair). IsContentFittingPair t.disk.block_size t.disk.page z.content) t.pairs k.writable.pairs))).0;
+    fits = subst (λ (z : Pair). FitsInPair t.disk.block_size t.disk.page z.content) (sym front_there)
+        (each_right (λ (z : Pair). FitsInPair t.disk.block_size t.disk.page z.content) ahead (x ∷ o ∷ back)
+        (subst (Each (λ (z : Pair). FitsInPair t.disk.block_size t.disk.page z.content)) is (recursion_from_All (λ (z : Pair). FitsInPair t.disk.block_size t.disk.page z.content) t.pairs k.writable.pairs))).0;
     storable = k.storable;
   }
 
   -- what x holds then
   abbrev pub content_left : PairContent
-  content_left = content_after_next_pair_drop t (index - 1) state
+  content_left = content_after_drop t (index - 1) state
 
   abbrev pub pair_left : Pair
-  pair_left = record { at = x.at; content = content_after_next_pair_drop t (index - 1) state }
+  pair_left = record { at = x.at; content = content_after_drop t (index - 1) state }
 
-  pub slots_left : (content_after_next_pair_drop t (index - 1) state).slots ≡ x.content.slots
+  pub slots_left : (content_after_drop t (index - 1) state).slots ≡ x.content.slots
   slots_left = ap (λ (z : Pair). z.content.slots) front_there
 
-  pub tail_left : (content_after_next_pair_drop t (index - 1) state).tail ≡ tail_over_dropped_pair x.content.tail o.content.tail
-  tail_left = ap₂ (λ (y z : Pair). tail_over_dropped_pair y.content.tail z.content.tail) front_there gone_there
+  pub tail_left : (content_after_drop t (index - 1) state).tail ≡ tail_over_drop x.content.tail o.content.tail
+  tail_left = ap₂ (λ (y z : Pair). tail_over_drop y.content.tail z.content.tail) front_there gone_there
 
-  pub state_left : gstate_of_pairs (thread_at w (record { at = x.at; content = content_after_next_pair_drop t (index - 1) state } ∷ [])) ≡ state
-  state_left = ap gstate_of_pairs (grouped (pair_left ∷ [])) ∙ gstate_is t (index - 1) ahead x o back is number state pair_left refl
+  pub state_left : pairs_gstate (thread_at w (record { at = x.at; content = content_after_drop t (index - 1) state } ∷ [])) ≡ state
+  state_left = ap pairs_gstate (grouped (pair_left ∷ [])) ∙ gstate_is t (index - 1) ahead x o back is number state pair_left refl
 
-  device_grouped : (disk : Disk) → IsPairWrittenOnDisk t (index - 1) content_left disk → IsDevice t.disk disk (ahead ++ x ∷ o ∷ back) (ahead ++ pair_left ∷ back)
+  device_grouped : (disk : Disk) → IsPairWritten t (index - 1) content_left disk → IsDevice t.disk disk (ahead ++ x ∷ o ∷ back) (ahead ++ pair_left ∷ back)
   device_grouped disk written = device_dropped t (index - 1) ahead x o back is number accepted_is disk content_left slots_left written
 
-  pub device_left : (disk : Disk) → IsPairWrittenOnDisk t (index - 1) (content_after_next_pair_drop t (index - 1) state) disk
-      → IsDevice t.disk disk (thread_at w (x ∷ o ∷ [])) (thread_at w (record { at = x.at; content = content_after_next_pair_drop t (index - 1) state } ∷ []))
+  pub device_left : (disk : Disk) → IsPairWritten t (index - 1) (content_after_drop t (index - 1) state) disk
+      → IsDevice t.disk disk (thread_at w (x ∷ o ∷ [])) (thread_at w (record { at = x.at; content = content_after_drop t (index - 1) state } ∷ []))
   device_left disk written = subst₂ (IsDevice t.disk disk) (sym (grouped (x ∷ o ∷ []))) (sym (grouped (pair_left ∷ []))) (device_grouped disk written)
 
   -- a stop leaves the pairs as they were, or without that one
   pub left_dropped : {before after : Tree} → (tree_on_disk t.disk t.pairs ≡ before) ⊎ (tree_on_disk t.disk t.pairs ≡ after)
-      → ((disk : Disk) → IsPairWrittenOnDisk t (index - 1) (content_after_next_pair_drop t (index - 1) state) disk → HasTreeBeforeOrAfterOperation disk before after)
-      → (left : Blocks) → IsLeftByStoppedPairDrop t (index - 1) state left → HasTreeBeforeOrAfterOperation (disk_with_blocks left t.disk) before after
+      → ((disk : Disk) → IsPairWritten t (index - 1) (content_after_drop t (index - 1) state) disk → HasEither disk before after)
+      → (left : Blocks) → LeftByDrop t (index - 1) state left → HasEither (with_blocks left t.disk) before after
   left_dropped {before = before} {after = after} shows then left l = go l.is
     where
-      go : (l.content ≡ (thread_pair_at_index t (index - 1)).content) ⊎ (l.content ≡ content_after_next_pair_drop t (index - 1) state) → HasTreeBeforeOrAfterOperation (disk_with_blocks left t.disk) before after
-      go (inl e) = left_still t.disk left t.pairs k.accepted k.writable (subst (λ z. IsDevice t.disk (disk_with_blocks left t.disk) z z) (sym is)
-          (device_kept t (index - 1) ahead x o back is number accepted_is (disk_with_blocks left t.disk) x.content refl
-          (subst (λ y. IsPairWrittenOnDisk t (index - 1) y (disk_with_blocks left t.disk)) (e ∙ ap (λ (z : Pair). z.content) front_there) l.written))) shows
-      go (inr e) = then (disk_with_blocks left t.disk) (subst (λ y. IsPairWrittenOnDisk t (index - 1) y (disk_with_blocks left t.disk)) e l.written)
+      go : (l.content ≡ (thread_pair_at t (index - 1)).content) ⊎ (l.content ≡ content_after_drop t (index - 1) state) → HasEither (with_blocks left t.disk) before after
+      go (inl e) = left_still t.disk left t.pairs k.accepted k.writable (subst (λ z. IsDevice t.disk (with_blocks left t.disk) z z) (sym is)
+          (device_kept t (index - 1) ahead x o back is number accepted_is (with_blocks left t.disk) x.content refl
+          (subst (λ y. IsPairWritten t (index - 1) y (with_blocks left t.disk)) (e ∙ ap (λ (z : Pair). z.content) front_there) l.written))) shows
+      go (inr e) = then (with_blocks left t.disk) (subst (λ y. IsPairWritten t (index - 1) y (with_blocks left t.disk)) e l.written)
 
   -- ---- after it
 
-  module _ (new : KeptThread) (d : IsNextPairDropped t (index - 1) state new) where
-    pub pairs_left : new.pairs ≡ thread_at w (record { at = x.at; content = content_after_next_pair_drop t (index - 1) state } ∷ [])
+  module _ (new : KeptThread) (d : IsPairDropped t (index - 1) state new) where
+    pub pairs_left : new.pairs ≡ thread_at w (record { at = x.at; content = content_after_drop t (index - 1) state } ∷ [])
     pairs_left = d.pairs ∙ without_is t (index - 1) ahead x o back is number content_left ∙ sym (grouped (pair_left ∷ []))
 
-    pub map_left : new.map ≡ block_map_with_freed_pair t.map o.at
-    map_left = d.map ∙ ap (λ (z : Pair). block_map_with_freed_pair t.map z.at) gone_there
+    pub map_left : new.map ≡ map_freeing t.map o.at
+    map_left = d.map ∙ ap (λ (z : Pair). map_freeing t.map z.at) gone_there
 
     pairs_now : new.pairs ≡ ahead ++ pair_left ∷ back
     pairs_now = pairs_left ∙ grouped (pair_left ∷ [])
 
-    pub blocks_left : (b : ℕ) → occurrence_count_of_number b (blocks_of_pairs new.pairs) + occurrence_count_of_number b (blocks_of_pair_address o.at) ≡ occurrence_count_of_number b (blocks_of_pairs t.pairs)
+    pub blocks_left : (b : ℕ) → number_count b (blocks_of_pairs new.pairs) + number_count b (address_blocks o.at) ≡ number_count b (blocks_of_pairs t.pairs)
     blocks_left b =
-        ap (λ z. occurrence_count_of_number b (blocks_of_pairs z) + occurrence_count_of_number b (blocks_of_pair_address o.at)) pairs_now
-        ∙ blocks_dropped ahead x o pair_left back refl b ∙ ap (λ z. occurrence_count_of_number b (blocks_of_pairs z)) (sym is)
+        ap (λ z. number_count b (blocks_of_pairs z) + number_count b (address_blocks o.at)) pairs_now
+        ∙ blocks_dropped ahead x o pair_left back refl b ∙ ap (λ z. number_count b (blocks_of_pairs z)) (sym is)
 
-    module _ (none : HasNoMove (gstate_of_pairs t.pairs)) (still : HasNoMove state) where
-      pub files_left : (b : ℕ) → occurrence_count_of_number b (file_blocks_of_slots new.disk (slots_of_pairs_in_order new.pairs)) + occurrence_count_of_number b (file_blocks_of_slots t.disk o.content.slots)
-          ≡ occurrence_count_of_number b (file_blocks_of_slots t.disk (slots_of_pairs_in_order t.pairs))
+    module _ (none : HasNoMove (pairs_gstate t.pairs)) (still : HasNoMove state) where
+      pub files_left : (b : ℕ) → number_count b (file_blocks new.disk (all_slots new.pairs)) + number_count b (file_blocks t.disk o.content.slots)
+          ≡ number_count b (file_blocks t.disk (all_slots t.pairs))
       files_left b =
-          ap (λ z. occurrence_count_of_number b (file_blocks_of_slots new.disk (slots_of_pairs_in_order z)) + occurrence_count_of_number b (file_blocks_of_slots t.disk o.content.slots)) pairs_now
-          ∙ files_dropped t.disk new.disk ahead x o pair_left back (subst (λ z. HasNoMove (gstate_of_pairs z)) is none) (device_grouped new.disk d.written) slots_left b
-          ∙ ap (λ z. occurrence_count_of_number b (file_blocks_of_slots t.disk (slots_of_pairs_in_order z))) (sym is)
+          ap (λ z. number_count b (file_blocks new.disk (all_slots z)) + number_count b (file_blocks t.disk o.content.slots)) pairs_now
+          ∙ files_dropped t.disk new.disk ahead x o pair_left back (subst (λ z. HasNoMove (pairs_gstate z)) is none) (device_grouped new.disk d.written) slots_left b
+          ∙ ap (λ z. number_count b (file_blocks t.disk (all_slots z))) (sym is)
 
       -- what the image doesn't use any more: the pair's blocks, and those of its slots' lists
-      pub used_left : (b : ℕ) → (occurrence_count_of_number b (used_blocks new.disk new.pairs) + occurrence_count_of_number b (file_blocks_of_slots t.disk o.content.slots)) + occurrence_count_of_number b (blocks_of_pair_address o.at) ≡ occurrence_count_of_number b (used_blocks t.disk t.pairs)
+      pub used_left : (b : ℕ) → (number_count b (used_blocks new.disk new.pairs) + number_count b (file_blocks t.disk o.content.slots)) + number_count b (address_blocks o.at) ≡ number_count b (used_blocks t.disk t.pairs)
       used_left b =
           let f = files_left b in
           let e = blocks_left b in
@@ -275,5 +275,5 @@ module _ {t : KeptThread} {index : ℕ} {state : Gstate} {w : Site} {x o : Pair}
           let v = count_used b t.disk t.pairs none in
           omega arith
 
-      pub map_dropped : AreExactlyTheUsedBlocks t.map (used_blocks t.disk t.pairs) → (owned : List ℕ) → ((b : ℕ) → occurrence_count_of_number b owned ≡ occurrence_count_of_number b (used_blocks new.disk new.pairs) + occurrence_count_of_number b (file_blocks_of_slots t.disk o.content.slots)) → HasMapWithout t.map new.map owned
+      pub map_dropped : AreUsed t.map (used_blocks t.disk t.pairs) → (owned : List ℕ) → ((b : ℕ) → number_count b owned ≡ number_count b (used_blocks new.disk new.pairs) + number_count b (file_blocks t.disk o.content.slots)) → HasMapWithout t.map new.map owned
       map_dropped used owned are = map_without t.map o.at (used_blocks t.disk t.pairs) owned used (λ b. once_from_distinct (used_blocks t.disk t.pairs) k.accepted.owned_once b) (λ b. let e = are b in let f = used_left b in omega arith) new.map map_left

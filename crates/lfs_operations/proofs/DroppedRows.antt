@@ -1,26 +1,26 @@
 -- Rows of what a pair that goes leaves to the one in front of it, and of numbers once a pair is gone.
 use Rattle.std.proofs.Common.{◌≡◌, true, false, Some, None, refl}
-use Rattle.lfs_operations.specs.Dropping.{tail_over_dropped_pair}
-use Rattle.lfs_operations.specs.Unlinking.{pair_number_after_drop}
+use Rattle.lfs_operations.specs.Dropping.{tail_over_drop}
+use Rattle.lfs_operations.specs.Unlinking.{number_after_drop}
 
 -- inside a directory
-goes_on : tail_over_dropped_pair (Some (record { hard = true; to = (6, 7) })) (Some (record { hard = true; to = (8, 9) })) ≡ Some (record { hard = true; to = (8, 9) })
+goes_on : tail_over_drop (Some (record { hard = true; to = (6, 7) })) (Some (record { hard = true; to = (8, 9) })) ≡ Some (record { hard = true; to = (8, 9) })
 goes_on = refl
 
 -- at its end
-ends : tail_over_dropped_pair (Some (record { hard = true; to = (6, 7) })) (Some (record { hard = false; to = (8, 9) })) ≡ Some (record { hard = false; to = (8, 9) })
+ends : tail_over_drop (Some (record { hard = true; to = (6, 7) })) (Some (record { hard = false; to = (8, 9) })) ≡ Some (record { hard = false; to = (8, 9) })
 ends = refl
 
 -- a first pair of a directory that went on
-not_joined : tail_over_dropped_pair (Some (record { hard = false; to = (6, 7) })) (Some (record { hard = true; to = (8, 9) })) ≡ Some (record { hard = false; to = (8, 9) })
+not_joined : tail_over_drop (Some (record { hard = false; to = (6, 7) })) (Some (record { hard = true; to = (8, 9) })) ≡ Some (record { hard = false; to = (8, 9) })
 not_joined = refl
 
 -- at the end of the thread
-last : tail_over_dropped_pair (Some (record { hard = true; to = (6, 7) })) None ≡ None
+last : tail_over_drop (Some (record { hard = true; to = (6, 7) })) None ≡ None
 last = refl
 
-behind : pair_number_after_drop 2 5 ≡ 4
+behind : number_after_drop 2 5 ≡ 4
 behind = refl
 
-in_front : pair_number_after_drop 5 2 ≡ 2
+in_front : number_after_drop 5 2 ≡ 2
 in_front = refl

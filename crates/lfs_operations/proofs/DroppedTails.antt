@@ -2,18 +2,18 @@
 use Rattle.std.proofs.Common.{ℕ, zero, suc, ◌≡◌, ◌+◌, ◌<◌, ◌&&◌, Bool, true, false, cond, not, inl, inr, ◌⊎◌, List, [], ◌∷◌, ◌++◌, length, Option, Some, None, refl, sym, ap, ap₂, subst, ◌∙◌, arith, get_or, set, remove}
 use Rattle.std.specs.Option.{option_and_then}
 use Rattle.std.specs.Prelude.{slice_index}
-use Rattle.lfs_operations.proofs.Common.{xor_lt, same_Some, Blocks, PutMove, PutTail, raw_pair_content_after_changes, RawPairContent, pair_content_if_slots_complete, content_after_log_entries, content_of_pair_at, has_commit, current_block_of_two, current_block_of_pair_at, is_later_revision, empty_raw_pair_content, raw_content_of_pair_at, Disk, block_bytes_on_disk, log_entries_of_block, revision_of_block, IsWellFormedRawPairContent, AreMoveStateFieldsWithinBitWidths, PairContent, IsContentFittingPair, Gstate, Tail, gstate_xor, zero_gstate, Pair, gstate_of_pairs, pair_address_named_by_tail, completed_from, completed_parts, Each, each_right, each_weaker, Does, does_first, does_nothing, puts_move, puts_tail, gstate_assoc, gstate_comm, gstate_cons, gstate_moved, gstate_right, gstate_self, logged, KeptThread, CanDropNextPair, IsPairAfterIndexDropped, PowerLossLeavesPairOldOrChanged, IsCommitRefused, IsPairWrittenOnDisk, complete_content_after_changes, empty_pair_at_anchor, thread_pair_at_index, change_that_sets_tail, thread_pairs_with_content_replaced_at_index}
-use Rattle.lfs_device.specs.Bytes.{AreAllBlockElementsBelow256}
-use Rattle.lfs_model.specs.LoggedContent.{IsNonNull32BitTailIfSome}
+use Rattle.lfs_operations.proofs.Common.{xor_lt, same_Some, Blocks, PutMove, PutTail, changed_content_of, RawContent, complete_content, content_after, content_at, has_commit, current_of_two, current_block, is_later, empty_raw_content, raw_content, Disk, disk_block, block_entries, block_revision, IsWellFormed, MoveStateFits, PairContent, FitsInPair, Gstate, Tail, gstate_xor, zero_gstate, Pair, pairs_gstate, tail_address_of, completed_from, completed_parts, Each, each_right, each_weaker, Does, does_first, does_nothing, puts_move, puts_tail, gstate_assoc, gstate_comm, gstate_cons, gstate_moved, gstate_right, gstate_self, logged, KeptThread, CanDropNext, IsNextDropped, LossLeavesPairChanged, RefusesCommit, IsPairWritten, complete_after, empty_anchor, thread_pair_at, tail_setting_change, pairs_with}
+use Rattle.lfs_device.specs.Bytes.{HoldBytes}
+use Rattle.lfs_model.specs.layers.LoggedContent.{IsAllowedTail}
 use Rattle.lfs_model.proofs.Effects.{ends_tail}
-use Rattle.lfs_operations.specs.Dropping.{IsNextPairDropped, IsLeftByStoppedPairDrop, delta_after_next_pair_drop, tail_after_next_pair_drop, tail_over_dropped_pair, drop_next_pair_changes, content_after_next_pair_drop}
+use Rattle.lfs_operations.specs.Dropping.{IsPairDropped, LeftByDrop, delta_after_drop, tail_after_drop, tail_over_drop, dropping_changes, content_after_drop}
 use Rattle.lfs_operations.proofs.Held.{completes_to}
 use Rattle.lfs_operations.proofs.Threads.{get_at, set_at}
 
 -- ---- what a log comes to
 
-bytes_of_holder : (a b x : List ℕ) → ((i : ℕ) → slice_index a i < 256) → ((i : ℕ) → slice_index b i < 256) → current_block_of_two a b ≡ Some x → (i : ℕ) → slice_index x i < 256
-bytes_of_holder a b x ha hb is = go (has_commit a) (has_commit b) (has_commit b && is_later_revision (revision_of_block a) (revision_of_block b)) is
+bytes_of_holder : (a b x : List ℕ) → ((i : ℕ) → slice_index a i < 256) → ((i : ℕ) → slice_index b i < 256) → current_of_two a b ≡ Some x → (i : ℕ) → slice_index x i < 256
+bytes_of_holder a b x ha hb is = go (has_commit a) (has_commit b) (has_commit b && is_later (block_revision a) (block_revision b)) is
   where
     of : (y : List ℕ) → ((i : ℕ) → slice_index y i < 256) → Some y ≡ Some x → (i : ℕ) → slice_index x i < 256
     of y h e = subst (λ z. (i : ℕ) → slice_index z i < 256) (same_Some y x e) h
@@ -26,41 +26,41 @@ bytes_of_holder a b x ha hb is = go (has_commit a) (has_commit b) (has_commit b 
 
 -- its tail and its delta can be written again
 pub record IsWritableAgain (c : PairContent) : Type 0 where
-  pub tail : IsNonNull32BitTailIfSome c.tail
-  pub move : AreMoveStateFieldsWithinBitWidths c.move
+  pub tail : IsAllowedTail c.tail
+  pub move : MoveStateFits c.move
 
-logged_raw : (disk : Disk) (at : ℕ × ℕ) (raw : RawPairContent) → AreAllBlockElementsBelow256 disk.blocks → raw_content_of_pair_at disk at ≡ Some raw → IsWellFormedRawPairContent raw
-logged_raw disk at raw bytes is = go (current_block_of_pair_at disk at) refl is
+logged_raw : (disk : Disk) (at : ℕ × ℕ) (raw : RawContent) → HoldBytes disk.blocks → raw_content disk at ≡ Some raw → IsWellFormed raw
+logged_raw disk at raw bytes is = go (current_block disk at) refl is
   where
-    go : (o : Option (List ℕ)) → current_block_of_pair_at disk at ≡ o → option_and_then (λ block. content_after_log_entries empty_raw_pair_content (log_entries_of_block block)) o ≡ Some raw → IsWellFormedRawPairContent raw
+    go : (o : Option (List ℕ)) → current_block disk at ≡ o → option_and_then (λ block. content_after empty_raw_content (block_entries block)) o ≡ Some raw → IsWellFormed raw
     go None e k = absurd (cc)
-    go (Some block) e k = logged block raw (bytes_of_holder (block_bytes_on_disk disk at.0) (block_bytes_on_disk disk at.1) block (bytes at.0) (bytes at.1) e) k
+    go (Some block) e k = logged block raw (bytes_of_holder (disk_block disk at.0) (disk_block disk at.1) block (bytes at.0) (bytes at.1) e) k
 
-pub logged_content : (disk : Disk) (at : ℕ × ℕ) (c : PairContent) → AreAllBlockElementsBelow256 disk.blocks → content_of_pair_at disk at ≡ Some c → IsWritableAgain c
+pub logged_content : (disk : Disk) (at : ℕ × ℕ) (c : PairContent) → HoldBytes disk.blocks → content_at disk at ≡ Some c → IsWritableAgain c
 logged_content disk at c bytes is =
-    let k = completes_to (raw_content_of_pair_at disk at) c is in
+    let k = completes_to (raw_content disk at) c is in
     let l = logged_raw disk at k.raw bytes k.is in
     let parts = completed_parts k.raw c k.complete in
-    record { tail = subst IsNonNull32BitTailIfSome (sym parts.tail) l.tail; move = subst AreMoveStateFieldsWithinBitWidths (sym parts.move) l.move }
+    record { tail = subst IsAllowedTail (sym parts.tail) l.tail; move = subst MoveStateFits (sym parts.move) l.move }
 
 -- ---- deltas
 
-pub move_xor : (g h : Gstate) → AreMoveStateFieldsWithinBitWidths g → AreMoveStateFieldsWithinBitWidths h → AreMoveStateFieldsWithinBitWidths (gstate_xor g h)
+pub move_xor : (g h : Gstate) → MoveStateFits g → MoveStateFits h → MoveStateFits (gstate_xor g h)
 move_xor g h a b = record {
   kind = xor_lt 11 g.kind h.kind a.kind b.kind;
   id = xor_lt 10 g.id h.id a.id b.id;
   pair = (xor_lt 32 g.pair.0 h.pair.0 a.pair.0 b.pair.0, xor_lt 32 g.pair.1 h.pair.1 a.pair.1 b.pair.1);
 }
 
-pub no_move_state : AreMoveStateFieldsWithinBitWidths zero_gstate
+pub no_move_state : MoveStateFits zero_gstate
 no_move_state = record { kind = omega arith; id = omega arith; pair = (omega arith, omega arith) }
 
-pub moves_joined : (ps : List Pair) → Each (λ p. AreMoveStateFieldsWithinBitWidths p.content.move) ps → AreMoveStateFieldsWithinBitWidths (gstate_of_pairs ps)
+pub moves_joined : (ps : List Pair) → Each (λ p. MoveStateFits p.content.move) ps → MoveStateFits (pairs_gstate ps)
 moves_joined [] h = no_move_state
-moves_joined (p ∷ ps) h = subst AreMoveStateFieldsWithinBitWidths (sym (gstate_cons p ps)) (move_xor p.content.move (gstate_of_pairs ps) h.0 (moves_joined ps h.1))
+moves_joined (p ∷ ps) h = subst MoveStateFits (sym (gstate_cons p ps)) (move_xor p.content.move (pairs_gstate ps) h.0 (moves_joined ps h.1))
 
-pub all_again : (disk : Disk) (ps : List Pair) → AreAllBlockElementsBelow256 disk.blocks → Each (λ p. content_of_pair_at disk p.at ≡ Some p.content) ps → Each (λ p. IsWritableAgain p.content) ps
-all_again disk ps bytes h = each_weaker (λ (p : Pair). content_of_pair_at disk p.at ≡ Some p.content) (λ (p : Pair). IsWritableAgain p.content) (λ p e. logged_content disk p.at p.content bytes e) ps h
+pub all_again : (disk : Disk) (ps : List Pair) → HoldBytes disk.blocks → Each (λ p. content_at disk p.at ≡ Some p.content) ps → Each (λ p. IsWritableAgain p.content) ps
+all_again disk ps bytes h = each_weaker (λ (p : Pair). content_at disk p.at ≡ Some p.content) (λ (p : Pair). IsWritableAgain p.content) (λ p e. logged_content disk p.at p.content bytes e) ps h
 
 -- ---- two pairs of the thread, one behind the other
 
@@ -91,14 +91,14 @@ remove_next (x ∷ xs) q o zs =
     ap (λ (n : ℕ). remove (x ∷ (xs ++ q ∷ o ∷ zs)) n) e ∙ ap (λ z. x ∷ z) (remove_next xs q o zs)
 
 module _ (t : KeptThread) (front : ℕ) (ahead : List Pair) (p o : Pair) (back : List Pair) (is : t.pairs ≡ ahead ++ p ∷ o ∷ back) (number : length ahead ≡ front) where
-  pub front_is : thread_pair_at_index t front ≡ p
-  front_is = ap₂ (λ (z : List Pair) (i : ℕ). get_or z i empty_pair_at_anchor) is (sym number) ∙ get_at ahead p (o ∷ back) empty_pair_at_anchor
+  pub front_is : thread_pair_at t front ≡ p
+  front_is = ap₂ (λ (z : List Pair) (i : ℕ). get_or z i empty_anchor) is (sym number) ∙ get_at ahead p (o ∷ back) empty_anchor
 
-  pub gone_is : thread_pair_at_index t (front + 1) ≡ o
-  gone_is = ap₂ (λ (z : List Pair) (i : ℕ). get_or z (i + 1) empty_pair_at_anchor) is (sym number) ∙ get_next ahead p o back empty_pair_at_anchor
+  pub gone_is : thread_pair_at t (front + 1) ≡ o
+  gone_is = ap₂ (λ (z : List Pair) (i : ℕ). get_or z (i + 1) empty_anchor) is (sym number) ∙ get_next ahead p o back empty_anchor
 
   -- the thread without the second one
-  pub without_is : (c : PairContent) → remove (thread_pairs_with_content_replaced_at_index t front c) (front + 1) ≡ ahead ++ record { at = p.at; content = c } ∷ back
+  pub without_is : (c : PairContent) → remove (pairs_with t front c) (front + 1) ≡ ahead ++ record { at = p.at; content = c } ∷ back
   without_is c =
       let q : Pair = record { at = p.at; content = c } in
       ap (λ (z : Pair). remove (set t.pairs front (record { at = z.at; content = c })) (front + 1)) front_is
@@ -106,63 +106,63 @@ module _ (t : KeptThread) (front : ℕ) (ahead : List Pair) (p o : Pair) (back :
       ∙ ap (λ (z : List Pair). remove z (length ahead + 1)) (set_at ahead p (o ∷ back) q) ∙ remove_next ahead q o back
 
   -- what the two deltas and the turn of the global state come to
-  deltas : (d : Gstate) (q : Pair) → q.content.move ≡ gstate_xor (gstate_xor p.content.move o.content.move) d → gstate_of_pairs (q ∷ []) ≡ gstate_xor d (gstate_of_pairs (p ∷ o ∷ []))
+  deltas : (d : Gstate) (q : Pair) → q.content.move ≡ gstate_xor (gstate_xor p.content.move o.content.move) d → pairs_gstate (q ∷ []) ≡ gstate_xor d (pairs_gstate (p ∷ o ∷ []))
   deltas d q e =
-      let two : gstate_of_pairs (p ∷ o ∷ []) ≡ gstate_xor p.content.move o.content.move
+      let two : pairs_gstate (p ∷ o ∷ []) ≡ gstate_xor p.content.move o.content.move
       = gstate_cons p (o ∷ []) ∙ ap (gstate_xor p.content.move) (gstate_cons o [] ∙ gstate_right o.content.move) in
       gstate_cons q [] ∙ gstate_right q.content.move ∙ e ∙ gstate_comm (gstate_xor p.content.move o.content.move) d ∙ ap (gstate_xor d) (sym two)
 
   turned_back : (g s : Gstate) → gstate_xor (gstate_xor g s) g ≡ s
   turned_back g s = ap (λ z. gstate_xor z g) (gstate_comm g s) ∙ gstate_assoc s g g ∙ ap (gstate_xor s) (gstate_self g) ∙ gstate_right s
 
-  pub gstate_is : (state : Gstate) (q : Pair) → q.content.move ≡ delta_after_next_pair_drop t front state → gstate_of_pairs (ahead ++ q ∷ back) ≡ state
+  pub gstate_is : (state : Gstate) (q : Pair) → q.content.move ≡ delta_after_drop t front state → pairs_gstate (ahead ++ q ∷ back) ≡ state
   gstate_is state q e =
-      let d = gstate_xor (gstate_of_pairs t.pairs) state in
+      let d = gstate_xor (pairs_gstate t.pairs) state in
       gstate_moved d ahead (p ∷ o ∷ []) (q ∷ []) back
       (deltas d q (e ∙ ap₂ (λ (x y : Pair). gstate_xor (gstate_xor x.content.move y.content.move) d) front_is gone_is))
-      ∙ ap (λ z. gstate_xor d (gstate_of_pairs z)) (sym is) ∙ turned_back (gstate_of_pairs t.pairs) state
+      ∙ ap (λ z. gstate_xor d (pairs_gstate z)) (sym is) ∙ turned_back (pairs_gstate t.pairs) state
 
 -- ---- the changes
 
-over_again : (f g : Option Tail) → IsNonNull32BitTailIfSome g → IsNonNull32BitTailIfSome (tail_over_dropped_pair f g)
+over_again : (f g : Option Tail) → IsAllowedTail g → IsAllowedTail (tail_over_drop f g)
 over_again f None h = tt
 over_again f (Some t) h = h
 
-pub over_next : (f g : Option Tail) → pair_address_named_by_tail (tail_over_dropped_pair f g) ≡ pair_address_named_by_tail g
+pub over_next : (f g : Option Tail) → tail_address_of (tail_over_drop f g) ≡ tail_address_of g
 over_next f None = refl
 over_next f (Some t) = refl
 
-pub takes : (raw : RawPairContent) (tail : Option Tail) (m : Gstate) → IsNonNull32BitTailIfSome tail → AreMoveStateFieldsWithinBitWidths m
-    → raw_pair_content_after_changes raw (change_that_sets_tail tail ∷ PutMove m ∷ []) ≡ Some (record { slots = raw.slots; tail = tail; move = m })
+pub takes : (raw : RawContent) (tail : Option Tail) (m : Gstate) → IsAllowedTail tail → MoveStateFits m
+    → changed_content_of raw (tail_setting_change tail ∷ PutMove m ∷ []) ≡ Some (record { slots = raw.slots; tail = tail; move = m })
 takes raw None m h k =
-    let now : RawPairContent = record raw { tail = None } in
-    let end : RawPairContent = record { slots = raw.slots; tail = None; move = m } in
+    let now : RawContent = record raw { tail = None } in
+    let end : RawContent = record { slots = raw.slots; tail = None; move = m } in
     does_first (PutTail false None) (PutMove m ∷ []) raw now end (ends_tail raw false) (does_first (PutMove m) [] now end end (puts_move now m k) (does_nothing end))
 takes raw (Some t) m h k =
-    let now : RawPairContent = record raw { tail = Some t } in
-    let end : RawPairContent = record { slots = raw.slots; tail = Some t; move = m } in
+    let now : RawContent = record raw { tail = Some t } in
+    let end : RawContent = record { slots = raw.slots; tail = Some t; move = m } in
     does_first (PutTail t.hard (Some t.to)) (PutMove m ∷ []) raw now end
     (subst (λ z. Does (PutTail t.hard (Some t.to)) raw (record raw { tail = z })) (ap (λ b. cond b None (Some (record { hard = t.hard; to = t.to }))) h.1) (puts_tail raw t.hard t.to h.0))
     (does_first (PutMove m) [] now end end (puts_move now m k) (does_nothing end))
 
-pub takes_tail : (c : PairContent) (raw : RawPairContent) (tail : Option Tail) (m : Gstate) → pair_content_if_slots_complete raw ≡ Some c → IsNonNull32BitTailIfSome tail → AreMoveStateFieldsWithinBitWidths m
-    → option_and_then pair_content_if_slots_complete (raw_pair_content_after_changes raw (change_that_sets_tail tail ∷ PutMove m ∷ [])) ≡ Some (record { slots = c.slots; tail = tail; move = m })
+pub takes_tail : (c : PairContent) (raw : RawContent) (tail : Option Tail) (m : Gstate) → complete_content raw ≡ Some c → IsAllowedTail tail → MoveStateFits m
+    → option_and_then complete_content (changed_content_of raw (tail_setting_change tail ∷ PutMove m ∷ [])) ≡ Some (record { slots = c.slots; tail = tail; move = m })
 takes_tail c raw tail m complete h k =
-    ap (option_and_then pair_content_if_slots_complete) (takes raw tail m h k)
+    ap (option_and_then complete_content) (takes raw tail m h k)
     ∙ completed_from (record { slots = raw.slots; tail = tail; move = m }) c.slots (completed_parts raw c complete).slots
 
-module _ (t : KeptThread) (front : ℕ) (state : Gstate) (below : front + 1 < length t.pairs) (contents : Each (λ p. content_of_pair_at t.disk p.at ≡ Some p.content) t.pairs)
-    (bytes : AreAllBlockElementsBelow256 t.disk.blocks) (small : AreMoveStateFieldsWithinBitWidths state) where
+module _ (t : KeptThread) (front : ℕ) (state : Gstate) (below : front + 1 < length t.pairs) (contents : Each (λ p. content_at t.disk p.at ≡ Some p.content) t.pairs)
+    (bytes : HoldBytes t.disk.blocks) (small : MoveStateFits state) where
   two : TwoAt t.pairs front
   two = two_at t.pairs front below
 
-  is_one : thread_pair_at_index t front ≡ two.one
+  is_one : thread_pair_at t front ≡ two.one
   is_one = front_is t front two.ahead two.one two.other two.back two.is two.number
 
-  is_other : thread_pair_at_index t (front + 1) ≡ two.other
+  is_other : thread_pair_at t (front + 1) ≡ two.other
   is_other = gone_is t front two.ahead two.one two.other two.back two.is two.number
 
-  there : (P : Pair → Type 0) → Each P t.pairs → P (thread_pair_at_index t front) × P (thread_pair_at_index t (front + 1))
+  there : (P : Pair → Type 0) → Each P t.pairs → P (thread_pair_at t front) × P (thread_pair_at t (front + 1))
   there P h =
       let k = each_right P two.ahead (two.one ∷ two.other ∷ two.back) (subst (Each P) two.is h) in
       (subst P (sym is_one) k.0, subst P (sym is_other) k.1.0)
@@ -170,54 +170,54 @@ module _ (t : KeptThread) (front : ℕ) (state : Gstate) (below : front + 1 < le
   again : Each (λ p. IsWritableAgain p.content) t.pairs
   again = all_again t.disk t.pairs bytes contents
 
-  small_delta : AreMoveStateFieldsWithinBitWidths (delta_after_next_pair_drop t front state)
+  small_delta : MoveStateFits (delta_after_drop t front state)
   small_delta =
       let k = there (λ p. IsWritableAgain p.content) again in
-      let all = moves_joined t.pairs (each_weaker (λ (p : Pair). IsWritableAgain p.content) (λ (p : Pair). AreMoveStateFieldsWithinBitWidths p.content.move) (λ p h. h.move) t.pairs again) in
-      move_xor (gstate_xor (thread_pair_at_index t front).content.move (thread_pair_at_index t (front + 1)).content.move) (gstate_xor (gstate_of_pairs t.pairs) state)
-      (move_xor (thread_pair_at_index t front).content.move (thread_pair_at_index t (front + 1)).content.move k.0.move k.1.move) (move_xor (gstate_of_pairs t.pairs) state all small)
+      let all = moves_joined t.pairs (each_weaker (λ (p : Pair). IsWritableAgain p.content) (λ (p : Pair). MoveStateFits p.content.move) (λ p h. h.move) t.pairs again) in
+      move_xor (gstate_xor (thread_pair_at t front).content.move (thread_pair_at t (front + 1)).content.move) (gstate_xor (pairs_gstate t.pairs) state)
+      (move_xor (thread_pair_at t front).content.move (thread_pair_at t (front + 1)).content.move k.0.move k.1.move) (move_xor (pairs_gstate t.pairs) state all small)
 
-  pub taking_made : complete_content_after_changes t front (drop_next_pair_changes t front state) ≡ Some (content_after_next_pair_drop t front state)
+  pub taking_made : complete_after t front (dropping_changes t front state) ≡ Some (content_after_drop t front state)
   taking_made =
       let k = there (λ p. IsWritableAgain p.content) again in
-      let held = completes_to (raw_content_of_pair_at t.disk (thread_pair_at_index t front).at) (thread_pair_at_index t front).content (there (λ p. content_of_pair_at t.disk p.at ≡ Some p.content) contents).0 in
-      ap (λ o. option_and_then pair_content_if_slots_complete (option_and_then (λ (x : RawPairContent). raw_pair_content_after_changes x (drop_next_pair_changes t front state)) o)) held.is
-      ∙ takes_tail (thread_pair_at_index t front).content held.raw (tail_after_next_pair_drop t front) (delta_after_next_pair_drop t front state) held.complete
-      (over_again (thread_pair_at_index t front).content.tail (thread_pair_at_index t (front + 1)).content.tail k.1.tail) small_delta
+      let held = completes_to (raw_content t.disk (thread_pair_at t front).at) (thread_pair_at t front).content (there (λ p. content_at t.disk p.at ≡ Some p.content) contents).0 in
+      ap (λ o. option_and_then complete_content (option_and_then (λ (x : RawContent). changed_content_of x (dropping_changes t front state)) o)) held.is
+      ∙ takes_tail (thread_pair_at t front).content held.raw (tail_after_drop t front) (delta_after_drop t front state) held.complete
+      (over_again (thread_pair_at t front).content.tail (thread_pair_at t (front + 1)).content.tail k.1.tail) small_delta
 
-module _ (t : KeptThread) (front : ℕ) (state : Gstate) (below : front + 1 < length t.pairs) (made : complete_content_after_changes t front (drop_next_pair_changes t front state) ≡ Some (content_after_next_pair_drop t front state)) where
-  pub can_drop : CanDropNextPair t front (drop_next_pair_changes t front state)
+module _ (t : KeptThread) (front : ℕ) (state : Gstate) (below : front + 1 < length t.pairs) (made : complete_after t front (dropping_changes t front state) ≡ Some (content_after_drop t front state)) where
+  pub can_drop : CanDropNext t front (dropping_changes t front state)
   can_drop = record {
     below = below;
-    content = content_after_next_pair_drop t front state;
+    content = content_after_drop t front state;
     made = made;
-    next = over_next (thread_pair_at_index t front).content.tail (thread_pair_at_index t (front + 1)).content.tail;
+    next = over_next (thread_pair_at t front).content.tail (thread_pair_at t (front + 1)).content.tail;
   }
 
   parted : TwoAt t.pairs front
   parted = two_at t.pairs front below
 
   -- the slots stay, so it fits
-  pub drop_not_refused : IsContentFittingPair t.disk.block_size t.disk.page (thread_pair_at_index t front).content → (new : KeptThread) → IsCommitRefused t front (drop_next_pair_changes t front state) new → ⊥
-  drop_not_refused fits new is = is.too_large (subst (IsContentFittingPair t.disk.block_size t.disk.page) (same_Some (content_after_next_pair_drop t front state) is.content (sym made ∙ is.made)) (record { size = fits.size; count = fits.count }))
+  pub drop_not_refused : FitsInPair t.disk.block_size t.disk.page (thread_pair_at t front).content → (new : KeptThread) → RefusesCommit t front (dropping_changes t front state) new → ⊥
+  drop_not_refused fits new is = is.too_large (subst (FitsInPair t.disk.block_size t.disk.page) (same_Some (content_after_drop t front state) is.content (sym made ∙ is.made)) (record { size = fits.size; count = fits.count }))
 
-  pub has_dropped : (new : KeptThread) → IsPairAfterIndexDropped t front (drop_next_pair_changes t front state) new → IsNextPairDropped t front state new
+  pub has_dropped : (new : KeptThread) → IsNextDropped t front (dropping_changes t front state) new → IsPairDropped t front state new
   has_dropped new is =
-      let same = same_Some is.content (content_after_next_pair_drop t front state) (sym is.made ∙ made) in
-      let pairs = is.pairs ∙ ap (λ c. remove (thread_pairs_with_content_replaced_at_index t front c) (front + 1)) same in
+      let same = same_Some is.content (content_after_drop t front state) (sym is.made ∙ made) in
+      let pairs = is.pairs ∙ ap (λ c. remove (pairs_with t front c) (front + 1)) same in
       record {
-        written = subst (λ c. IsPairWrittenOnDisk t front c new.disk) same is.written;
+        written = subst (λ c. IsPairWritten t front c new.disk) same is.written;
         pairs = pairs;
-        gstate = ap gstate_of_pairs (pairs ∙ without_is t front parted.ahead parted.one parted.other parted.back parted.is parted.number (content_after_next_pair_drop t front state))
-            ∙ gstate_is t front parted.ahead parted.one parted.other parted.back parted.is parted.number state (record { at = parted.one.at; content = content_after_next_pair_drop t front state }) refl;
+        gstate = ap pairs_gstate (pairs ∙ without_is t front parted.ahead parted.one parted.other parted.back parted.is parted.number (content_after_drop t front state))
+            ∙ gstate_is t front parted.ahead parted.one parted.other parted.back parted.is parted.number state (record { at = parted.one.at; content = content_after_drop t front state }) refl;
         thread = is.thread;
         map = is.map;
       }
 
-  pub left_by_drop : (left : Blocks) → PowerLossLeavesPairOldOrChanged t front (drop_next_pair_changes t front state) left → IsLeftByStoppedPairDrop t front state left
+  pub left_by_drop : (left : Blocks) → LossLeavesPairChanged t front (dropping_changes t front state) left → LeftByDrop t front state left
   left_by_drop left is = record { content = is.content; is = go is.is; written = is.written }
     where
-      go : (is.content ≡ (thread_pair_at_index t front).content) ⊎ ((complete_content_after_changes t front (drop_next_pair_changes t front state) ≡ Some is.content) × IsContentFittingPair t.disk.block_size t.disk.page is.content)
-          → (is.content ≡ (thread_pair_at_index t front).content) ⊎ (is.content ≡ content_after_next_pair_drop t front state)
+      go : (is.content ≡ (thread_pair_at t front).content) ⊎ ((complete_after t front (dropping_changes t front state) ≡ Some is.content) × FitsInPair t.disk.block_size t.disk.page is.content)
+          → (is.content ≡ (thread_pair_at t front).content) ⊎ (is.content ≡ content_after_drop t front state)
       go (inl e) = inl e
-      go (inr k) = inr (same_Some is.content (content_after_next_pair_drop t front state) (sym k.0 ∙ made))
+      go (inr k) = inr (same_Some is.content (content_after_drop t front state) (sym k.0 ∙ made))

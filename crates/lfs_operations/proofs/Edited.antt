@@ -1,16 +1,16 @@
 -- An entry whose attributes change, as a step of the thread.
 use Rattle.std.proofs.Common.{ℕ, ◌≡◌, ◌^◌, ◌<◌, ◌≤◌, true, false, List, [], ◌∷◌, ◌++◌, Some, refl, sym, ap, subst, ◌∙◌, arith, inl}
 use Rattle.std.specs.Prelude.{All}
-use Rattle.lfs_operations.proofs.Common.{Name, recursion_from_All, tree_after_change_of_node, PairContentChange, PutAttribute, RawSlot, attributes_with_attribute, attributes_without_attribute, Disk, DeviceCallEvent, Operation, SurvivesPowerLossInCallsSince, Session, path_of_bytes_or_root, Attributes, Slot, is_superblock, same_pair, slot_size, Pair, blocks_of_pairs, Tree, IsFileOrDirectoryEntry, IsSkipListIfCtzStruct, IsEntryWithinWritableLimits, IsSlotWithinWritableLimits, IsPathToDirectory, all_slots_not_moved, tree_on_disk, IsImageAfterTreeChange, IsImageAfterCompletedOperation, recovered_from, commit_step, Each, each_right, occurrence_count_of_number, puts_attribute, file_blocks_same, is_list_same, IsTrueAfterAnyPowerLossSince-weaker, some_filled, Site, thread_at, begin_of, PowerLossLeavesSuchBlocksAfterCleanErases, KeptThread, CanChangePair, IsPairChanged, PowerLossLeavesPairOldOrChanged, IsCommitRefused}
-use Rattle.lfs_model.specs.TreeEdits.{attributes_of_node, node_with_attributes}
-use Rattle.lfs_model.specs.Changes.{RemoveAttribute}
-use Rattle.lfs_model.specs.Operations as ops
+use Rattle.lfs_operations.proofs.Common.{Name, recursion_from_All, tree_with_change, PairChange, PutAttribute, RawSlot, attributes_with, attributes_without, Disk, CallEvent, Operation, SurvivesLossSince, Session, path_or_root, Attributes, Slot, is_superblock, same_pair, slot_size, Pair, blocks_of_pairs, Tree, IsTreeEntry, IsWellFormedCtz, IsWritableEntry, IsWritableSlot, LeadsTo, all_slots_not_moved, tree_on_disk, IsChangedImage, IsCompletion, recovered_from, commit_step, Each, each_right, number_count, puts_attribute, file_blocks_same, is_list_same, HoldsAtLosses-weaker, some_filled, Site, thread_at, begin_of, LossLeavesCleanly, KeptThread, CanChangePair, IsPairCommitted, LossLeavesPairChanged, RefusesCommit}
+use Rattle.lfs_model.specs.session.TreeEdits.{node_attributes_of, with_attributes}
+use Rattle.lfs_model.specs.layers.Changes.{RemoveAttribute}
+use Rattle.lfs_model.specs.session.Operations as ops
 use Rattle.lfs_model.proofs.Effects.{removes_attribute}
 use Rattle.lfs_model.proofs.Moves.{attributes_change}
 use Rattle.lfs_model.proofs.OneCommit.{remove_attr_completed, set_attr_completed}
-use Rattle.lfs_operations.specs.Changing.{CanChangeOrSplitPair, IsLeftByStoppedChangeOrSplit, IsPairChangedOrSplit}
-use Rattle.lfs_operations.specs.Editing.{CanEditEntryOfPair, CanSetAttribute, HasRemovedAttribute, HasSetAttribute, slot_of_editable_entry, tree_with_attributes_at}
-use Rattle.lfs_operations.specs.Ready.{ShowsTreeReadyForChange}
+use Rattle.lfs_operations.specs.Changing.{CanTurn, LeftByTurn, IsTurned}
+use Rattle.lfs_operations.specs.Editing.{CanEditIn, CanSetAttribute, HasRemovedAttribute, HasSetAttribute, editable_slot, tree_with_attributes_set}
+use Rattle.lfs_operations.specs.Ready.{ShowsReadyTree}
 use Rattle.lfs_operations.proofs.Held.{each_pair}
 use Rattle.lfs_operations.proofs.Replacing as replacing
 use Rattle.lfs_operations.proofs.Replacing.{Makes, Names, Turns, can_put, entry, leads_there, of_slot, same_there, splicing, there}
@@ -19,16 +19,16 @@ use Rattle.lfs_operations.proofs.Splicing.{Commits, IsSplicing}
 use Rattle.lfs_operations.proofs.Stepped.{HasStep, becomes, put_step, ready_again, survives}
 
 -- the change gives the slot at the id those attributes
-abbrev pub ChangesAttributes : PairContentChange → ℕ → (Attributes → Attributes) → Type 0
+abbrev pub ChangesAttributes : PairChange → ℕ → (Attributes → Attributes) → Type 0
 ChangesAttributes change id f = Makes change id (λ s. record s { attributes = f s.attributes })
 
-module _ (t : KeptThread) (index id : ℕ) (can : CanEditEntryOfPair t index id) (f : Attributes → Attributes) (change : PairContentChange) (does : ChangesAttributes change id f)
-    (fits : IsEntryWithinWritableLimits t.disk.profile t.disk.block_size t.disk.page (record (slot_of_editable_entry can) { attributes = f (slot_of_editable_entry can).attributes })) where
+module _ (t : KeptThread) (index id : ℕ) (can : CanEditIn t index id) (f : Attributes → Attributes) (change : PairChange) (does : ChangesAttributes change id f)
+    (fits : IsWritableEntry t.disk.profile t.disk.block_size t.disk.page (record (editable_slot can) { attributes = f (editable_slot can).attributes })) where
   abbrev g : RawSlot → RawSlot
   g z = record z { attributes = f z.attributes }
 
   abbrev u : Slot
-  u = slot_of_editable_entry can
+  u = editable_slot can
 
   abbrev v : Slot
   v = record u { attributes = f u.attributes }
@@ -48,16 +48,16 @@ module _ (t : KeptThread) (index id : ℕ) (can : CanEditEntryOfPair t index id)
   abbrev w : Site
   w = replacing.w t index id can g v change does turns fits
 
-  pub can_put_attributes : CanChangeOrSplitPair t index (change ∷ [])
+  pub can_put_attributes : CanTurn t index (change ∷ [])
   can_put_attributes = can_put t index id can g v change does turns fits
 
-  pub edit_not_refused : slot_size v ≤ slot_size u → (new : KeptThread) → IsCommitRefused t index (change ∷ []) new → ⊥
+  pub edit_not_refused : slot_size v ≤ slot_size u → (new : KeptThread) → RefusesCommit t index (change ∷ []) new → ⊥
   edit_not_refused less = replacing.not_refused t index id can g v change does turns fits less
 
   there_now : t.pairs ≡ thread_at w (p ∷ [])
   there_now = there t index id can g v change does turns fits
 
-  was : IsFileOrDirectoryEntry u
+  was : IsTreeEntry u
   was = entry t index id can g v change does turns fits
 
   -- the same blocks
@@ -67,8 +67,8 @@ module _ (t : KeptThread) (index id : ℕ) (can : CanEditEntryOfPair t index id)
     flying = tt;
     apart = can.ready.accepted.owned_once;
     lists = λ disk geometry file come. is_list_same t.disk disk u.struct geometry file
-        (of_slot t index id can g v change does turns fits (λ x. IsSkipListIfCtzStruct t.disk x.struct) (recursion_from_All (λ (x : Slot). IsSkipListIfCtzStruct t.disk x.struct) (all_slots_not_moved t.pairs) can.ready.accepted.lists));
-    blocks = λ disk geometry file come b. let e = ap (occurrence_count_of_number b) (file_blocks_same t.disk disk u.struct geometry file) in omega arith;
+        (of_slot t index id can g v change does turns fits (λ x. IsWellFormedCtz t.disk x.struct) (recursion_from_All (λ (x : Slot). IsWellFormedCtz t.disk x.struct) (all_slots_not_moved t.pairs) can.ready.accepted.lists));
+    blocks = λ disk geometry file come b. let e = ap (number_count b) (file_blocks_same t.disk disk u.struct geometry file) in omega arith;
   }
 
   spliced : IsSplicing t index (change ∷ []) w p l (u ∷ []) (v ∷ []) r [] []
@@ -77,43 +77,43 @@ module _ (t : KeptThread) (index id : ℕ) (can : CanEditEntryOfPair t index id)
   other_slot : is_superblock u ≡ false
   other_slot = can.stands.stands.entry
 
-  led : IsPathToDirectory (thread_at w (p ∷ [])) can.path can.at
+  led : LeadsTo (thread_at w (p ∷ [])) can.path can.at
   led = leads_there t index id can g v change does turns fits
 
   same_begin : same_pair (begin_of w (p ∷ [])) can.at ≡ true
   same_begin = same_there t index id can g v change does turns fits
 
   abbrev turn : Tree → Tree
-  turn = tree_after_change_of_node (can.path ++ can.name ∷ []) (λ n. node_with_attributes (f (attributes_of_node (Some n))) n)
+  turn = tree_with_change (can.path ++ can.name ∷ []) (λ n. with_attributes (f (node_attributes_of (Some n))) n)
 
-  follows : (disk : Disk) (q : Pair) (more : List Pair) → Commits t w p l (u ∷ []) (v ∷ []) r [] disk q more → IsImageAfterTreeChange t.disk (thread_at w (p ∷ [])) disk (thread_at w (q ∷ more)) turn (λ d. d)
-  follows disk q more commit = subst (λ (n : Name). IsImageAfterTreeChange t.disk (thread_at w (p ∷ [])) disk (thread_at w (q ∷ more)) (tree_after_change_of_node (can.path ++ n ∷ []) (λ z. node_with_attributes (f (attributes_of_node (Some z))) z)) (λ d. d)) can.stands.stands.named
+  follows : (disk : Disk) (q : Pair) (more : List Pair) → Commits t w p l (u ∷ []) (v ∷ []) r [] disk q more → IsChangedImage t.disk (thread_at w (p ∷ [])) disk (thread_at w (q ∷ more)) turn (λ d. d)
+  follows disk q more commit = subst (λ (n : Name). IsChangedImage t.disk (thread_at w (p ∷ [])) disk (thread_at w (q ∷ more)) (tree_with_change (can.path ++ n ∷ []) (λ z. with_attributes (f (node_attributes_of (Some z))) z)) (λ d. d)) can.stands.stands.named
       (attributes_change t.disk disk w p [] q more (blocks_of_pairs more) [] l r u v (commit_step t.disk disk w p q more [] l (u ∷ []) (v ∷ []) r commit.commit) other_slot can.path can.at led same_begin f refl
       (λ e. (recovered_from t.disk (thread_at w (p ∷ [])) commit.commit.accepted commit.commit.settled).reached))
 
-  pub become : (new : KeptThread) (x : HasStep t w p l (u ∷ []) (v ∷ []) r [] [] new) → ShowsTreeReadyForChange t new (tree_with_attributes_at t can.path can.name f)
-  become new x = ready_again t new (tree_with_attributes_at t can.path can.name f) (becomes t index (change ∷ []) w p l (u ∷ []) (v ∷ []) r [] [] spliced turn (λ disk q more commit. ((λ d. d), follows disk q more commit))
+  pub become : (new : KeptThread) (x : HasStep t w p l (u ∷ []) (v ∷ []) r [] [] new) → ShowsReadyTree t new (tree_with_attributes_set t can.path can.name f)
+  become new x = ready_again t new (tree_with_attributes_set t can.path can.name f) (becomes t index (change ∷ []) w p l (u ∷ []) (v ∷ []) r [] [] spliced turn (λ disk q more commit. ((λ d. d), follows disk q more commit))
       (λ e. some_filled l r v) new x)
 
-  pub stepped : (new : KeptThread) → IsPairChangedOrSplit t index (change ∷ []) new → HasStep t w p l (u ∷ []) (v ∷ []) r [] [] new
+  pub stepped : (new : KeptThread) → IsTurned t index (change ∷ []) new → HasStep t w p l (u ∷ []) (v ∷ []) r [] [] new
   stepped new is = put_step t index (change ∷ []) w p l (u ∷ []) (v ∷ []) r [] [] spliced new is
 
-  pub edit_survives : (new : List DeviceCallEvent) → PowerLossLeavesSuchBlocksAfterCleanErases t.history new (IsLeftByStoppedChangeOrSplit t index (change ∷ [])) → SurvivesPowerLossInCallsSince t.disk t.history new (tree_on_disk t.disk t.pairs) (tree_with_attributes_at t can.path can.name f)
+  pub edit_survives : (new : List CallEvent) → LossLeavesCleanly t.history new (LeftByTurn t index (change ∷ [])) → SurvivesLossSince t.disk t.history new (tree_on_disk t.disk t.pairs) (tree_with_attributes_set t can.path can.name f)
   edit_survives new stops = survives t index (change ∷ []) w p l (u ∷ []) (v ∷ []) r [] [] spliced turn (λ disk q more commit. ((λ d. d), follows disk q more commit)) (λ e. some_filled l r v) new stops
 
   -- as an operation
-  completed_there : (new : KeptThread) (x : HasStep t w p l (u ∷ []) (v ∷ []) r [] [] new) (z : Session) (op : Operation) → IsImageAfterCompletedOperation t.disk (thread_at w (p ∷ [])) z op new.disk (thread_at w (x.q ∷ x.more))
-      → IsImageAfterCompletedOperation t.disk t.pairs z op new.disk new.pairs
-  completed_there new x z op h = subst (λ y. IsImageAfterCompletedOperation t.disk y z op new.disk new.pairs) (sym there_now) (subst (λ y. IsImageAfterCompletedOperation t.disk (thread_at w (p ∷ [])) z op new.disk y) (sym x.pairs) h)
+  completed_there : (new : KeptThread) (x : HasStep t w p l (u ∷ []) (v ∷ []) r [] [] new) (z : Session) (op : Operation) → IsCompletion t.disk (thread_at w (p ∷ [])) z op new.disk (thread_at w (x.q ∷ x.more))
+      → IsCompletion t.disk t.pairs z op new.disk new.pairs
+  completed_there new x z op h = subst (λ y. IsCompletion t.disk y z op new.disk new.pairs) (sym there_now) (subst (λ y. IsCompletion t.disk (thread_at w (p ∷ [])) z op new.disk y) (sym x.pairs) h)
 
-  pub set_completed : (kind : ℕ) (bytes : List ℕ) → ((a : Attributes) → f a ≡ attributes_with_attribute kind bytes a) → (new : KeptThread) → HasStep t w p l (u ∷ []) (v ∷ []) r [] [] new → (z : Session) (given : List ℕ)
-      → z.tree ≡ tree_on_disk t.disk t.pairs → path_of_bytes_or_root given ≡ can.path ++ can.name ∷ [] → IsImageAfterCompletedOperation t.disk t.pairs z (ops.SetAttr given kind bytes) new.disk new.pairs
+  pub set_completed : (kind : ℕ) (bytes : List ℕ) → ((a : Attributes) → f a ≡ attributes_with kind bytes a) → (new : KeptThread) → HasStep t w p l (u ∷ []) (v ∷ []) r [] [] new → (z : Session) (given : List ℕ)
+      → z.tree ≡ tree_on_disk t.disk t.pairs → path_or_root given ≡ can.path ++ can.name ∷ [] → IsCompletion t.disk t.pairs z (ops.SetAttr given kind bytes) new.disk new.pairs
   set_completed kind bytes is_put new x z given tree is_path = completed_there new x z (ops.SetAttr given kind bytes)
       (set_attr_completed t.disk new.disk w p x.q x.more [] l r u v x.commit.commit other_slot can.path can.at led same_begin z (tree ∙ ap (tree_on_disk t.disk) there_now) given kind bytes
       (is_path ∙ ap (λ n. can.path ++ n ∷ []) (sym can.stands.stands.named)) (ap (λ a. record u { attributes = a }) (is_put u.attributes)))
 
-  pub remove_completed : (kind : ℕ) → ((a : Attributes) → f a ≡ attributes_without_attribute kind a) → (new : KeptThread) → HasStep t w p l (u ∷ []) (v ∷ []) r [] [] new → (z : Session) (given : List ℕ)
-      → z.tree ≡ tree_on_disk t.disk t.pairs → path_of_bytes_or_root given ≡ can.path ++ can.name ∷ [] → IsImageAfterCompletedOperation t.disk t.pairs z (ops.RemoveAttr given kind) new.disk new.pairs
+  pub remove_completed : (kind : ℕ) → ((a : Attributes) → f a ≡ attributes_without kind a) → (new : KeptThread) → HasStep t w p l (u ∷ []) (v ∷ []) r [] [] new → (z : Session) (given : List ℕ)
+      → z.tree ≡ tree_on_disk t.disk t.pairs → path_or_root given ≡ can.path ++ can.name ∷ [] → IsCompletion t.disk t.pairs z (ops.RemoveAttr given kind) new.disk new.pairs
   remove_completed kind is_without new x z given tree is_path = completed_there new x z (ops.RemoveAttr given kind)
       (remove_attr_completed t.disk new.disk w p x.q x.more [] l r u v x.commit.commit other_slot can.path can.at led same_begin z (tree ∙ ap (tree_on_disk t.disk) there_now) given kind
       (is_path ∙ ap (λ n. can.path ++ n ∷ []) (sym can.stands.stands.named)) (ap (λ a. record u { attributes = a }) (is_without u.attributes)))
@@ -121,61 +121,61 @@ module _ (t : KeptThread) (index id : ℕ) (can : CanEditEntryOfPair t index id)
 -- ---- an attribute is set
 
 module _ (t : KeptThread) (index id kind : ℕ) (bytes : List ℕ) (low : kind < 2 ^ 8) (set : CanSetAttribute t index id kind bytes) where
-  set_does : ChangesAttributes (PutAttribute id kind bytes) id (attributes_with_attribute kind bytes)
+  set_does : ChangesAttributes (PutAttribute id kind bytes) id (attributes_with kind bytes)
   set_does c small named = let short = set.short in puts_attribute c id kind bytes small (omega arith) (omega arith) named
 
-  pub can_set : CanChangeOrSplitPair t index (PutAttribute id kind bytes ∷ [])
-  can_set = can_put_attributes t index id set.can (attributes_with_attribute kind bytes) (PutAttribute id kind bytes) set_does set.fits
+  pub can_set : CanTurn t index (PutAttribute id kind bytes ∷ [])
+  can_set = can_put_attributes t index id set.can (attributes_with kind bytes) (PutAttribute id kind bytes) set_does set.fits
 
-  pub has_set : (new : KeptThread) → IsPairChangedOrSplit t index (PutAttribute id kind bytes ∷ []) new → HasSetAttribute t new set.can.path set.can.name kind bytes
+  pub has_set : (new : KeptThread) → IsTurned t index (PutAttribute id kind bytes ∷ []) new → HasSetAttribute t new set.can.path set.can.name kind bytes
   has_set new is =
-      let x = stepped t index id set.can (attributes_with_attribute kind bytes) (PutAttribute id kind bytes) set_does set.fits new is in
+      let x = stepped t index id set.can (attributes_with kind bytes) (PutAttribute id kind bytes) set_does set.fits new is in
       record {
-        now = become t index id set.can (attributes_with_attribute kind bytes) (PutAttribute id kind bytes) set_does set.fits new x;
+        now = become t index id set.can (attributes_with kind bytes) (PutAttribute id kind bytes) set_does set.fits new x;
         completed = λ z given tree is_path.
-            set_completed t index id set.can (attributes_with_attribute kind bytes) (PutAttribute id kind bytes) set_does set.fits kind bytes (λ a. refl) new x z given tree is_path;
+            set_completed t index id set.can (attributes_with kind bytes) (PutAttribute id kind bytes) set_does set.fits kind bytes (λ a. refl) new x z given tree is_path;
       }
 
-  pub set_survives : (new : List DeviceCallEvent) → PowerLossLeavesSuchBlocksAfterCleanErases t.history new (IsLeftByStoppedChangeOrSplit t index (PutAttribute id kind bytes ∷ []))
-      → SurvivesPowerLossInCallsSince t.disk t.history new (tree_on_disk t.disk t.pairs) (tree_with_attributes_at t set.can.path set.can.name (attributes_with_attribute kind bytes))
-  set_survives new stops = edit_survives t index id set.can (attributes_with_attribute kind bytes) (PutAttribute id kind bytes) set_does set.fits new stops
+  pub set_survives : (new : List CallEvent) → LossLeavesCleanly t.history new (LeftByTurn t index (PutAttribute id kind bytes ∷ []))
+      → SurvivesLossSince t.disk t.history new (tree_on_disk t.disk t.pairs) (tree_with_attributes_set t set.can.path set.can.name (attributes_with kind bytes))
+  set_survives new stops = edit_survives t index id set.can (attributes_with kind bytes) (PutAttribute id kind bytes) set_does set.fits new stops
 
 -- ---- an attribute goes
 
-module _ (t : KeptThread) (index id kind : ℕ) (low : kind < 2 ^ 8) (can : CanEditEntryOfPair t index id) where
-  remove_does : ChangesAttributes (RemoveAttribute id kind) id (attributes_without_attribute kind)
+module _ (t : KeptThread) (index id kind : ℕ) (low : kind < 2 ^ 8) (can : CanEditIn t index id) where
+  remove_does : ChangesAttributes (RemoveAttribute id kind) id (attributes_without kind)
   remove_does c small named = removes_attribute c id kind small (omega arith) named
 
   -- the entry takes no more than it did
-  still_fits : IsEntryWithinWritableLimits t.disk.profile t.disk.block_size t.disk.page (record (slot_of_editable_entry can) { attributes = attributes_without_attribute kind (slot_of_editable_entry can).attributes })
+  still_fits : IsWritableEntry t.disk.profile t.disk.block_size t.disk.page (record (editable_slot can) { attributes = attributes_without kind (editable_slot can).attributes })
   still_fits =
       let s = can.stands in
-      let here = each_pair t can.ready can.first index s.pair s.rest s.place (λ x. All (IsSlotWithinWritableLimits t.disk.profile t.disk.block_size t.disk.page) x.content.slots)
-      (recursion_from_All (λ (x : Pair). All (IsSlotWithinWritableLimits t.disk.profile t.disk.block_size t.disk.page) x.content.slots) t.pairs can.ready.writable.slots) in
-      let slots = subst (Each (IsSlotWithinWritableLimits t.disk.profile t.disk.block_size t.disk.page)) s.stands.held (recursion_from_All (IsSlotWithinWritableLimits t.disk.profile t.disk.block_size t.disk.page) s.pair.content.slots here) in
-      let was = (each_right (IsSlotWithinWritableLimits t.disk.profile t.disk.block_size t.disk.page) s.stands.left (s.stands.slot ∷ s.stands.right) slots).0.1 s.stands.entry in
+      let here = each_pair t can.ready can.first index s.pair s.rest s.place (λ x. All (IsWritableSlot t.disk.profile t.disk.block_size t.disk.page) x.content.slots)
+      (recursion_from_All (λ (x : Pair). All (IsWritableSlot t.disk.profile t.disk.block_size t.disk.page) x.content.slots) t.pairs can.ready.writable.slots) in
+      let slots = subst (Each (IsWritableSlot t.disk.profile t.disk.block_size t.disk.page)) s.stands.held (recursion_from_All (IsWritableSlot t.disk.profile t.disk.block_size t.disk.page) s.pair.content.slots here) in
+      let was = (each_right (IsWritableSlot t.disk.profile t.disk.block_size t.disk.page) s.stands.left (s.stands.slot ∷ s.stands.right) slots).0.1 s.stands.entry in
       record {
-        charge = (let e = was.charge in let n = fewer_attributes kind (slot_of_editable_entry can).attributes in omega arith);
+        charge = (let e = was.charge in let n = fewer_attributes kind (editable_slot can).attributes in omega arith);
         inline = was.inline;
       }
 
   pub can_remove : CanChangePair t index (RemoveAttribute id kind ∷ [])
-  can_remove = (can_put_attributes t index id can (attributes_without_attribute kind) (RemoveAttribute id kind) remove_does still_fits).can
+  can_remove = (can_put_attributes t index id can (attributes_without kind) (RemoveAttribute id kind) remove_does still_fits).can
 
   -- so what the pair holds then fits, as what it held did
-  pub not_refused : (new : KeptThread) → IsCommitRefused t index (RemoveAttribute id kind ∷ []) new → ⊥
-  not_refused new is = edit_not_refused t index id can (attributes_without_attribute kind) (RemoveAttribute id kind) remove_does still_fits
-      (let n = fewer_attributes kind (slot_of_editable_entry can).attributes in omega arith) new is
+  pub not_refused : (new : KeptThread) → RefusesCommit t index (RemoveAttribute id kind ∷ []) new → ⊥
+  not_refused new is = edit_not_refused t index id can (attributes_without kind) (RemoveAttribute id kind) remove_does still_fits
+      (let n = fewer_attributes kind (editable_slot can).attributes in omega arith) new is
 
-  pub has_removed : (new : KeptThread) → IsPairChanged t index (RemoveAttribute id kind ∷ []) new → HasRemovedAttribute t new can.path can.name kind
+  pub has_removed : (new : KeptThread) → IsPairCommitted t index (RemoveAttribute id kind ∷ []) new → HasRemovedAttribute t new can.path can.name kind
   has_removed new is =
-      let x = stepped t index id can (attributes_without_attribute kind) (RemoveAttribute id kind) remove_does still_fits new (inl is) in
+      let x = stepped t index id can (attributes_without kind) (RemoveAttribute id kind) remove_does still_fits new (inl is) in
       record {
-        now = become t index id can (attributes_without_attribute kind) (RemoveAttribute id kind) remove_does still_fits new x;
+        now = become t index id can (attributes_without kind) (RemoveAttribute id kind) remove_does still_fits new x;
         completed = λ z given tree is_path.
-            remove_completed t index id can (attributes_without_attribute kind) (RemoveAttribute id kind) remove_does still_fits kind (λ a. refl) new x z given tree is_path;
+            remove_completed t index id can (attributes_without kind) (RemoveAttribute id kind) remove_does still_fits kind (λ a. refl) new x z given tree is_path;
       }
 
-  pub remove_survives : (new : List DeviceCallEvent) → PowerLossLeavesSuchBlocksAfterCleanErases t.history new (PowerLossLeavesPairOldOrChanged t index (RemoveAttribute id kind ∷ []))
-      → SurvivesPowerLossInCallsSince t.disk t.history new (tree_on_disk t.disk t.pairs) (tree_with_attributes_at t can.path can.name (attributes_without_attribute kind))
-  remove_survives new stops = edit_survives t index id can (attributes_without_attribute kind) (RemoveAttribute id kind) remove_does still_fits new (λ clean. IsTrueAfterAnyPowerLossSince-weaker (λ left x. inl x) (stops clean))
+  pub remove_survives : (new : List CallEvent) → LossLeavesCleanly t.history new (LossLeavesPairChanged t index (RemoveAttribute id kind ∷ []))
+      → SurvivesLossSince t.disk t.history new (tree_on_disk t.disk t.pairs) (tree_with_attributes_set t can.path can.name (attributes_without kind))
+  remove_survives new stops = edit_survives t index id can (attributes_without kind) (RemoveAttribute id kind) remove_does still_fits new (λ clean. HoldsAtLosses-weaker (λ left x. inl x) (stops clean))

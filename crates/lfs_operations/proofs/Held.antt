@@ -3,17 +3,17 @@ use Rattle.std.proofs.Common.{ℕ, ◌≡◌, ◌+◌, ◌<◌, false, take, dro
 use Rattle.std.specs.Option.{option_and_then}
 use Rattle.std.specs.Prelude.{slice_index}
 use Rattle.lfs_model.specs.declared.limits.AcceptedVersions.{AcceptedVersions}
-use Rattle.lfs_operations.proofs.Common.{log_entries_of_block, logged, recursion_from_All, RawPairContent, raw_content_of_pair_at, content_after_log_entries, content_of_pair_at, pair_content_if_slots_complete, current_block_of_pair_at, empty_raw_pair_content, Disk, IsPairOfDirectory, PairContent, IsContentFittingPair, Slot, is_superblock, HasSuperblockIfAnySlot, IsAcceptedImage, IsFileOrDirectoryEntry, take-append-drop, Pair, pair_count_before_root, Each, each_append, each_right, each_weaker, KeptThread, thread_pair_at_index, empty_pair_at_anchor}
+use Rattle.lfs_operations.proofs.Common.{block_entries, logged, recursion_from_All, RawContent, raw_content, content_after, content_at, complete_content, current_block, empty_raw_content, Disk, IsPairOfDirectory, PairContent, FitsInPair, Slot, is_superblock, BeginsWithSuperblock, IsAccepted, IsTreeEntry, take-append-drop, Pair, pair_count_before_root, Each, each_append, each_right, each_weaker, KeptThread, thread_pair_at, empty_anchor}
 use Rattle.std.specs.Prelude.{All}
-use Rattle.lfs_operations.specs.Ready.{IsRawPairContentWellFormed, IsImageReadyForChange}
+use Rattle.lfs_operations.specs.Ready.{IsRawFormed, IsReadyImage}
 
 -- a content that is complete comes of one that is there
-pub record CompletesTo (o : Option RawPairContent) (c : PairContent) : Type 0 where
-  pub raw : RawPairContent
+pub record CompletesTo (o : Option RawContent) (c : PairContent) : Type 0 where
+  pub raw : RawContent
   pub is : o ≡ Some raw
-  pub complete : pair_content_if_slots_complete raw ≡ Some c
+  pub complete : complete_content raw ≡ Some c
 
-pub completes_to : (o : Option RawPairContent) (c : PairContent) → option_and_then pair_content_if_slots_complete o ≡ Some c → CompletesTo o c
+pub completes_to : (o : Option RawContent) (c : PairContent) → option_and_then complete_content o ≡ Some c → CompletesTo o c
 completes_to None c h = absurd (cc)
 completes_to (Some raw) c h = record { raw = raw; is = refl; complete = h }
 
@@ -25,30 +25,30 @@ get_behind (x ∷ xs) p zs n d e = ap (λ (k : ℕ). get_or (x ∷ (xs ++ p ∷ 
 
 -- each slot but a superblock's
 abbrev pub IsEntryIfOther : Slot → Type 0
-IsEntryIfOther s = is_superblock s ≡ false → IsFileOrDirectoryEntry s
+IsEntryIfOther s = is_superblock s ≡ false → IsTreeEntry s
 
-headed_entries : (versions : AcceptedVersions) (bytes : List ℕ) (slots : List Slot) → HasSuperblockIfAnySlot versions bytes slots → Each IsEntryIfOther slots
+headed_entries : (versions : AcceptedVersions) (bytes : List ℕ) (slots : List Slot) → BeginsWithSuperblock versions bytes slots → Each IsEntryIfOther slots
 headed_entries versions bytes [] h = tt
-headed_entries versions bytes (s ∷ slots) h = ((λ e. absurd (let z = sym e ∙ h.0 in cc)), each_weaker IsFileOrDirectoryEntry IsEntryIfOther (λ x k e. k) slots (recursion_from_All IsFileOrDirectoryEntry slots h.2))
+headed_entries versions bytes (s ∷ slots) h = ((λ e. absurd (let z = sym e ∙ h.0 in cc)), each_weaker IsTreeEntry IsEntryIfOther (λ x k e. k) slots (recursion_from_All IsTreeEntry slots h.2))
 
-pub other_entries : (disk : Disk) (ps : List Pair) → IsAcceptedImage disk ps → Each (λ p. Each IsEntryIfOther p.content.slots) ps
+pub other_entries : (disk : Disk) (ps : List Pair) → IsAccepted disk ps → Each (λ p. Each IsEntryIfOther p.content.slots) ps
 other_entries disk ps ok = subst (Each (λ p. Each IsEntryIfOther p.content.slots)) (take-append-drop (pair_count_before_root ps + 1) ps)
     (each_append (λ p. Each IsEntryIfOther p.content.slots) (take (pair_count_before_root ps + 1) ps) (drop (pair_count_before_root ps + 1) ps)
-    (each_weaker (λ (p : Pair). HasSuperblockIfAnySlot disk.profile.versions ok.superblock.0 p.content.slots) (λ (p : Pair). Each IsEntryIfOther p.content.slots) (λ p h. headed_entries disk.profile.versions ok.superblock.0 p.content.slots h)
-    (take (pair_count_before_root ps + 1) ps) (recursion_from_All (λ (p : Pair). HasSuperblockIfAnySlot disk.profile.versions ok.superblock.0 p.content.slots) (take (pair_count_before_root ps + 1) ps) ok.superblock.1.1))
-    (each_weaker (λ (p : Pair). All IsFileOrDirectoryEntry p.content.slots) (λ (p : Pair). Each IsEntryIfOther p.content.slots)
-    (λ p h. each_weaker IsFileOrDirectoryEntry IsEntryIfOther (λ x k e. k) p.content.slots (recursion_from_All IsFileOrDirectoryEntry p.content.slots h)) (drop (pair_count_before_root ps + 1) ps)
-    (recursion_from_All (λ (p : Pair). All IsFileOrDirectoryEntry p.content.slots) (drop (pair_count_before_root ps + 1) ps) ok.slots)))
+    (each_weaker (λ (p : Pair). BeginsWithSuperblock disk.profile.versions ok.superblock.0 p.content.slots) (λ (p : Pair). Each IsEntryIfOther p.content.slots) (λ p h. headed_entries disk.profile.versions ok.superblock.0 p.content.slots h)
+    (take (pair_count_before_root ps + 1) ps) (recursion_from_All (λ (p : Pair). BeginsWithSuperblock disk.profile.versions ok.superblock.0 p.content.slots) (take (pair_count_before_root ps + 1) ps) ok.superblock.1.1))
+    (each_weaker (λ (p : Pair). All IsTreeEntry p.content.slots) (λ (p : Pair). Each IsEntryIfOther p.content.slots)
+    (λ p h. each_weaker IsTreeEntry IsEntryIfOther (λ x k e. k) p.content.slots (recursion_from_All IsTreeEntry p.content.slots h)) (drop (pair_count_before_root ps + 1) ps)
+    (recursion_from_All (λ (p : Pair). All IsTreeEntry p.content.slots) (drop (pair_count_before_root ps + 1) ps) ok.slots)))
 
 -- ---- the pair of a place
 
-module _ (t : KeptThread) (ready : IsImageReadyForChange t) (first index : ℕ) (p : Pair) (rest : List Pair) (place : IsPairOfDirectory t.pairs first index p rest) where
+module _ (t : KeptThread) (ready : IsReadyImage t) (first index : ℕ) (p : Pair) (rest : List Pair) (place : IsPairOfDirectory t.pairs first index p rest) where
   parts : t.pairs ≡ (place.front ++ place.left) ++ p ∷ rest
   parts = place.parts ∙ sym (append_assoc place.front place.left (p ∷ rest))
 
-  pub here : thread_pair_at_index t index ≡ p
-  here = ap (λ (z : List Pair). get_or z index empty_pair_at_anchor) parts
-      ∙ get_behind (place.front ++ place.left) p rest index empty_pair_at_anchor (let l = length-append place.front place.left in let n = place.number in omega arith)
+  pub here : thread_pair_at t index ≡ p
+  here = ap (λ (z : List Pair). get_or z index empty_anchor) parts
+      ∙ get_behind (place.front ++ place.left) p rest index empty_anchor (let l = length-append place.front place.left in let n = place.number in omega arith)
 
   pub below : index < length t.pairs
   below = let e = ap length parts in let l = length-append (place.front ++ place.left) (p ∷ rest) in let m = length-append place.front place.left in let n = place.number in omega arith
@@ -56,17 +56,17 @@ module _ (t : KeptThread) (ready : IsImageReadyForChange t) (first index : ℕ) 
   pub each_pair : (P : Pair → Type 0) → Each P t.pairs → P p
   each_pair P h = (each_right P (place.front ++ place.left) (p ∷ rest) (subst (Each P) parts h)).0
 
-  pub holds : content_of_pair_at t.disk (thread_pair_at_index t index).at ≡ Some p.content
-  holds = ap (λ (z : Pair). content_of_pair_at t.disk z.at) here
-      ∙ each_pair (λ (x : Pair). content_of_pair_at t.disk x.at ≡ Some x.content) (recursion_from_All (λ (x : Pair). content_of_pair_at t.disk x.at ≡ Some x.content) t.pairs ready.accepted.thread.contents)
+  pub holds : content_at t.disk (thread_pair_at t index).at ≡ Some p.content
+  holds = ap (λ (z : Pair). content_at t.disk z.at) here
+      ∙ each_pair (λ (x : Pair). content_at t.disk x.at ≡ Some x.content) (recursion_from_All (λ (x : Pair). content_at t.disk x.at ≡ Some x.content) t.pairs ready.accepted.thread.contents)
 
-  pub fits_there : IsContentFittingPair t.disk.block_size t.disk.page p.content
-  fits_there = each_pair (λ (x : Pair). IsContentFittingPair t.disk.block_size t.disk.page x.content)
-      (recursion_from_All (λ (x : Pair). IsContentFittingPair t.disk.block_size t.disk.page x.content) t.pairs ready.writable.pairs)
+  pub fits_there : FitsInPair t.disk.block_size t.disk.page p.content
+  fits_there = each_pair (λ (x : Pair). FitsInPair t.disk.block_size t.disk.page x.content)
+      (recursion_from_All (λ (x : Pair). FitsInPair t.disk.block_size t.disk.page x.content) t.pairs ready.writable.pairs)
 
-  pub raw_there : CompletesTo (raw_content_of_pair_at t.disk (thread_pair_at_index t index).at) p.content
-  raw_there = completes_to (raw_content_of_pair_at t.disk (thread_pair_at_index t index).at) p.content holds
+  pub raw_there : CompletesTo (raw_content t.disk (thread_pair_at t index).at) p.content
+  raw_there = completes_to (raw_content t.disk (thread_pair_at t index).at) p.content holds
 
 -- a log of bytes comes to what a log can come to
-pub logged_at : (disk : Disk) (at : ℕ × ℕ) (block : List ℕ) → current_block_of_pair_at disk at ≡ Some block → ((i : ℕ) → slice_index block i < 256) → IsRawPairContentWellFormed disk at
-logged_at disk at block holds bytes raw is = logged block raw bytes (sym (ap (λ o. option_and_then (λ b. content_after_log_entries empty_raw_pair_content (log_entries_of_block b)) o) holds) ∙ is)
+pub logged_at : (disk : Disk) (at : ℕ × ℕ) (block : List ℕ) → current_block disk at ≡ Some block → ((i : ℕ) → slice_index block i < 256) → IsRawFormed disk at
+logged_at disk at block holds bytes raw is = logged block raw bytes (sym (ap (λ o. option_and_then (λ b. content_after empty_raw_content (block_entries b)) o) holds) ∙ is)

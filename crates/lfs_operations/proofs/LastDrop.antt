@@ -1,8 +1,8 @@
 -- The last step of an operation drops a pair that no path leads to any more.
 use Rattle.std.proofs.Common.{ℕ, ◌≡◌, inr, ◌+◌, ◌-◌, ◌≤◌, false, List, [], ◌∷◌, ◌++◌, length, refl, sym, ap, subst, ◌∙◌, arith}
-use Rattle.lfs_operations.proofs.Common.{Blocks, AreExactlyTheUsedBlocks, Disk, block_count, HasTreeBeforeOrAfterOperation as IsLeftOf, disk_with_blocks, PairContent, zero_gstate, Pair, blocks_of_pairs, gstate_of_pairs, is_hard_tail, root_directory_address_of_pairs, pair_count_before_root, blocks_of_pair_address, Tree, IsAcceptedImage, DirectoryAddressByPath, all_slots_not_moved, tree_on_disk, used_blocks, ArePairsWithSameAddressesAndSlots, alike_append, alike_itself, occurrence_count_of_number, count_append, count_here, once_from_distinct, HasNoMove, IsGone, file_blocks_of_slots, IsWritableImageAfterTreeChange, IsChain, KeptThread, HasSameGeometry, IsPairWrittenOnDisk, thread_pair_at_index}
-use Rattle.lfs_operations.specs.Dropping.{CanDropPairAt, IsNextPairDropped, ShowsTreeAfterPairDrops, IsLeftByStoppedPairDrop, HasSameBlocksInFlight, content_after_next_pair_drop}
-use Rattle.lfs_operations.specs.Ready.{IsImageReadyForChange, KeepsPairCountBeforeRoot}
+use Rattle.lfs_operations.proofs.Common.{Blocks, AreUsed, Disk, block_count, HasEither as IsLeftOf, with_blocks, PairContent, zero_gstate, Pair, blocks_of_pairs, pairs_gstate, is_hard_tail, root_address, pair_count_before_root, address_blocks, Tree, IsAccepted, PathAddresses, all_slots_not_moved, tree_on_disk, used_blocks, SameSlots, alike_append, alike_itself, number_count, count_append, count_here, once_from_distinct, HasNoMove, IsGone, file_blocks, IsWritableChange, IsChain, KeptThread, SameGeometryAs, IsPairWritten, thread_pair_at}
+use Rattle.lfs_operations.specs.Dropping.{CanDropAt, IsPairDropped, ShowsAfterDrops, LeftByDrop, SameInFlight, content_after_drop}
+use Rattle.lfs_operations.specs.Ready.{IsReadyImage, KeepsRootBeginning}
 use Rattle.lfs_operations.proofs.Dropped.{HasMapWithout, IsToBeDropped, can_drop_pair, device_left, front_there, gone_there, left_dropped, map_dropped, pairs_left, slots_left, state_left, tail_left, used_left}
 use Rattle.lfs_operations.proofs.DroppedTails.{no_move_state}
 use Rattle.lfs_operations.proofs.Placing.{left_after}
@@ -10,10 +10,10 @@ use Rattle.lfs_operations.proofs.Rmdir.{over_soft}
 use Rattle.lfs_operations.proofs.RootStays.{root_stays}
 
 -- The image shows the changed tree, and still does once the pair o of number n, which stands behind x, is dropped.
-pub record IsAllButDropped (t m : KeptThread) (o : Pair) (n : ℕ) (change : Tree → Tree) (walk : DirectoryAddressByPath → DirectoryAddressByPath) : Type 0 where
-  pub ready : IsImageReadyForChange t
-  pub taken : IsWritableImageAfterTreeChange t.disk t.pairs m.disk m.pairs change walk
-  pub no_move : HasNoMove (gstate_of_pairs m.pairs)
+pub record IsAllButDropped (t m : KeptThread) (o : Pair) (n : ℕ) (change : Tree → Tree) (walk : PathAddresses → PathAddresses) : Type 0 where
+  pub ready : IsReadyImage t
+  pub taken : IsWritableChange t.disk t.pairs m.disk m.pairs change walk
+  pub no_move : HasNoMove (pairs_gstate m.pairs)
   pub chain : List Pair
   pub front : List Pair
   pub x : Pair
@@ -22,36 +22,36 @@ pub record IsAllButDropped (t m : KeptThread) (o : Pair) (n : ℕ) (change : Tre
   pub is_chain : IsChain chain (front ++ x ∷ o ∷ back)
   pub number : length (chain ++ front) + 1 ≡ n
   pub soft : is_hard_tail x.content.tail ≡ false
-  pub drops : (new : Disk) (y : Pair) → IsGone m.disk new chain front x o y back → IsWritableImageAfterTreeChange t.disk t.pairs new (chain ++ (front ++ y ∷ back)) change walk
+  pub drops : (new : Disk) (y : Pair) → IsGone m.disk new chain front x o y back → IsWritableChange t.disk t.pairs new (chain ++ (front ++ y ∷ back)) change walk
   pub empty : o.content.slots ≡ []
-  pub used : AreExactlyTheUsedBlocks m.map (used_blocks m.disk m.pairs)
+  pub used : AreUsed m.map (used_blocks m.disk m.pairs)
   pub size : length m.map ≡ block_count m.disk
-  pub flying : HasSameBlocksInFlight t.map m.map
-  pub root : KeepsPairCountBeforeRoot t m
-  pub shape : HasSameGeometry t.disk m.disk
+  pub flying : SameInFlight t.map m.map
+  pub root : KeepsRootBeginning t m
+  pub shape : SameGeometryAs t.disk m.disk
 
-module _ {t m : KeptThread} {o : Pair} {n : ℕ} {change : Tree → Tree} {walk : DirectoryAddressByPath → DirectoryAddressByPath} (k : IsAllButDropped t m o n change walk) where
+module _ {t m : KeptThread} {o : Pair} {n : ℕ} {change : Tree → Tree} {walk : PathAddresses → PathAddresses} (k : IsAllButDropped t m o n change walk) where
   dropping : IsToBeDropped m n zero_gstate (record { chain = k.chain; before = []; left = k.front; right = []; after = k.back }) k.x o
   dropping = record { accepted = k.taken.follows.accepted; writable = k.taken.writable; storable = no_move_state; there = k.there; number = k.number }
 
-  pub x_there : thread_pair_at_index m (n - 1) ≡ k.x
+  pub x_there : thread_pair_at m (n - 1) ≡ k.x
   x_there = front_there dropping
 
-  pub o_there : thread_pair_at_index m (n - 1 + 1) ≡ o
+  pub o_there : thread_pair_at m (n - 1 + 1) ≡ o
   o_there = gone_there dropping
 
-  pub can_drop_last : CanDropPairAt m n zero_gstate
+  pub can_drop_last : CanDropAt m n zero_gstate
   can_drop_last = can_drop_pair dropping
 
   -- ---- the step
 
   abbrev pub c : PairContent
-  c = content_after_next_pair_drop m (n - 1) zero_gstate
+  c = content_after_drop m (n - 1) zero_gstate
 
   abbrev pub y : Pair
   y = record { at = k.x.at; content = c }
 
-  pub is_gone : (disk : Disk) → IsPairWrittenOnDisk m (n - 1) c disk → IsGone m.disk disk k.chain k.front k.x o y k.back
+  pub is_gone : (disk : Disk) → IsPairWritten m (n - 1) c disk → IsGone m.disk disk k.chain k.front k.x o y k.back
   is_gone disk written = record {
     device = device_left dropping disk written;
     settled = state_left dropping;
@@ -61,44 +61,44 @@ module _ {t m : KeptThread} {o : Pair} {n : ℕ} {change : Tree → Tree} {walk 
     tail = tail_left dropping ∙ over_soft k.x.content.tail o.content.tail k.soft;
   }
 
-  module _ (new : KeptThread) (g : IsNextPairDropped m (n - 1) zero_gstate new) where
+  module _ (new : KeptThread) (g : IsPairDropped m (n - 1) zero_gstate new) where
     pub pairs_end : new.pairs ≡ k.chain ++ (k.front ++ y ∷ k.back)
     pairs_end = pairs_left dropping new g
 
     -- the pairs but that one have the slots that they had
-    pub alike_end : ArePairsWithSameAddressesAndSlots (k.chain ++ (k.front ++ k.x ∷ k.back)) new.pairs
-    alike_end = subst (ArePairsWithSameAddressesAndSlots (k.chain ++ (k.front ++ k.x ∷ k.back))) (sym pairs_end)
+    pub alike_end : SameSlots (k.chain ++ (k.front ++ k.x ∷ k.back)) new.pairs
+    alike_end = subst (SameSlots (k.chain ++ (k.front ++ k.x ∷ k.back))) (sym pairs_end)
         (alike_append k.chain (k.front ++ k.x ∷ k.back) k.chain (k.front ++ y ∷ k.back) (alike_itself k.chain)
         (alike_append k.front (k.x ∷ k.back) k.front (y ∷ k.back) (alike_itself k.front) (refl, slots_left dropping, alike_itself k.back)))
 
-    pub taken_end : IsWritableImageAfterTreeChange t.disk t.pairs new.disk new.pairs change walk
-    taken_end = subst (λ z. IsWritableImageAfterTreeChange t.disk t.pairs new.disk z change walk) (sym pairs_end) (k.drops new.disk y (is_gone new.disk g.written))
+    pub taken_end : IsWritableChange t.disk t.pairs new.disk new.pairs change walk
+    taken_end = subst (λ z. IsWritableChange t.disk t.pairs new.disk z change walk) (sym pairs_end) (k.drops new.disk y (is_gone new.disk g.written))
 
-    end_used : (b : ℕ) → occurrence_count_of_number b (used_blocks new.disk new.pairs) + occurrence_count_of_number b (blocks_of_pair_address o.at) ≡ occurrence_count_of_number b (used_blocks m.disk m.pairs)
+    end_used : (b : ℕ) → number_count b (used_blocks new.disk new.pairs) + number_count b (address_blocks o.at) ≡ number_count b (used_blocks m.disk m.pairs)
     end_used b =
         let e = used_left dropping new g k.no_move (record { kind = refl; id = refl; pair = refl }) b in
-        let f = ap (λ z. occurrence_count_of_number b (file_blocks_of_slots m.disk z)) k.empty in
+        let f = ap (λ z. number_count b (file_blocks m.disk z)) k.empty in
         omega arith
 
     map_end : HasMapWithout m.map new.map (used_blocks new.disk new.pairs)
-    map_end = map_dropped dropping new g k.no_move (record { kind = refl; id = refl; pair = refl }) k.used (used_blocks new.disk new.pairs) (λ b. let f = ap (λ z. occurrence_count_of_number b (file_blocks_of_slots m.disk z)) k.empty in omega arith)
+    map_end = map_dropped dropping new g k.no_move (record { kind = refl; id = refl; pair = refl }) k.used (used_blocks new.disk new.pairs) (λ b. let f = ap (λ z. number_count b (file_blocks m.disk z)) k.empty in omega arith)
 
-    once : (b : ℕ) → occurrence_count_of_number b (used_blocks m.disk m.pairs) ≤ 1
+    once : (b : ℕ) → number_count b (used_blocks m.disk m.pairs) ≤ 1
     once b = once_from_distinct (used_blocks m.disk m.pairs) k.taken.follows.accepted.owned_once b
 
     -- the pair is gone, and no block came
-    pub end_fewer : (b : ℕ) → occurrence_count_of_number b (used_blocks new.disk new.pairs) ≤ occurrence_count_of_number b (used_blocks m.disk m.pairs)
+    pub end_fewer : (b : ℕ) → number_count b (used_blocks new.disk new.pairs) ≤ number_count b (used_blocks m.disk m.pairs)
     end_fewer b = let e = end_used b in omega arith
 
-    pub end_gone : occurrence_count_of_number o.at.0 (blocks_of_pairs new.pairs) ≡ 0
+    pub end_gone : number_count o.at.0 (blocks_of_pairs new.pairs) ≡ 0
     end_gone =
         let e = end_used o.at.0 in
         let f = once o.at.0 in
         let h = count_here o.at.0 (o.at.1 ∷ []) in
-        let l = count_append o.at.0 (blocks_of_pairs new.pairs) (file_blocks_of_slots new.disk (all_slots_not_moved new.pairs)) in
+        let l = count_append o.at.0 (blocks_of_pairs new.pairs) (file_blocks new.disk (all_slots_not_moved new.pairs)) in
         omega arith
 
-    pub shows_dropped : ShowsTreeAfterPairDrops t new (change (tree_on_disk t.disk t.pairs)) []
+    pub shows_dropped : ShowsAfterDrops t new (change (tree_on_disk t.disk t.pairs)) []
     shows_dropped = record {
       ready = record {
         accepted = taken_end.follows.accepted;
@@ -118,16 +118,16 @@ module _ {t m : KeptThread} {o : Pair} {n : ℕ} {change : Tree → Tree} {walk 
         (λ h. (map_end.flying b).1 ((k.flying b).1 h)),
       );
       root = ap pair_count_before_root pairs_end
-          ∙ root_stays m.disk new.disk k.chain (k.front ++ k.x ∷ o ∷ k.back) (k.front ++ y ∷ k.back) k.is_chain (subst (IsAcceptedImage m.disk) k.there k.taken.follows.accepted)
-          (subst (IsAcceptedImage new.disk) pairs_end taken_end.follows.accepted) (ap root_directory_address_of_pairs (sym pairs_end) ∙ taken_end.follows.root ∙ sym k.taken.follows.root ∙ ap root_directory_address_of_pairs k.there)
+          ∙ root_stays m.disk new.disk k.chain (k.front ++ k.x ∷ o ∷ k.back) (k.front ++ y ∷ k.back) k.is_chain (subst (IsAccepted m.disk) k.there k.taken.follows.accepted)
+          (subst (IsAccepted new.disk) pairs_end taken_end.follows.accepted) (ap root_address (sym pairs_end) ∙ taken_end.follows.root ∙ sym k.taken.follows.root ∙ ap root_address k.there)
           ∙ sym (ap pair_count_before_root k.there) ∙ k.root;
     }
 
   -- ---- at a stop
 
-  same_shape : (left : Blocks) → disk_with_blocks left m.disk ≡ disk_with_blocks left t.disk
+  same_shape : (left : Blocks) → with_blocks left m.disk ≡ with_blocks left t.disk
   same_shape left = λ j. record { block_size = k.shape.block_size j; page = k.shape.page j; order = k.shape.order j; profile = k.shape.profile j; blocks = left }
 
-  pub left_last : (left : Blocks) → IsLeftByStoppedPairDrop m (n - 1) zero_gstate left → IsLeftOf (disk_with_blocks left t.disk) (tree_on_disk t.disk t.pairs) (change (tree_on_disk t.disk t.pairs))
+  pub left_last : (left : Blocks) → LeftByDrop m (n - 1) zero_gstate left → IsLeftOf (with_blocks left t.disk) (tree_on_disk t.disk t.pairs) (change (tree_on_disk t.disk t.pairs))
   left_last left g = subst (λ z. IsLeftOf z (tree_on_disk t.disk t.pairs) (change (tree_on_disk t.disk t.pairs))) (same_shape left)
       (left_dropped dropping (inr k.taken.follows.shows) (λ disk written. left_after (k.drops disk y (is_gone disk written)) (inr refl)) left g)

@@ -3,8 +3,8 @@ use Rattle.std.proofs.Common.{ℕ, ◌≡◌, ◌⊎◌, inl, inr, List, Result,
 use Rattle.std.specs.Prelude.{IfErr, is_err}
 use Rattle.lfs_device.specs.declared.error.Error.{Error}
 use Rattle.lfs_device.specs.declared.error.Error.TheVariants.{Io, NoMemory, NoSpace}
-use Rattle.lfs_operations.proofs.Common.{BlockStateList, fault_count_of_history, KeptThread, ThreadView, IoMeantFaultNoMemoryKeptOtherBlocks}
-use Rattle.lfs_operations.specs.Changing.{ReportsErrorsOfCommitTakingBlocks, has_thread_failed_after_result}
+use Rattle.lfs_operations.proofs.Common.{BlockStates, fault_count, KeptThread, ThreadView, IoMeantFaultNoMemoryKeptOtherBlocks}
+use Rattle.lfs_operations.specs.Changing.{ReportsErrorsOfCommitTakingBlocks, has_failed_after}
 use Rattle.lfs_operations.specs.Making.{ReportsErrorsOfMakingDirectory}
 use Rattle.lfs_operations.proofs.Putting.{with_map, same_err}
 
@@ -19,12 +19,12 @@ reported_again bs old new e result given is same reported = record {
 }
 
 -- the first step failed
-pub reports_first : {X : Type 0} (old new : ThreadView) (sets : BlockStateList) (bs : List ℕ) (result : Result X Error) → new.failed ≡ is_err result → IoMeantFaultNoMemoryKeptOtherBlocks bs (with_map old.kept sets) new.kept result
+pub reports_first : {X : Type 0} (old new : ThreadView) (sets : BlockStates) (bs : List ℕ) (result : Result X Error) → new.failed ≡ is_err result → IoMeantFaultNoMemoryKeptOtherBlocks bs (with_map old.kept sets) new.kept result
     → ReportsErrorsOfMakingDirectory old new result
 reports_first old new sets bs result failed reported = record { failed = failed; errors = reported.errors; fault = reported.fault; no_fault = reported.no_fault }
 
 -- the second one tells, and never that there is no space
-pub reports_second : {X : Type 0} (old mid new : ThreadView) (result : Result X Error) → fault_count_of_history mid.kept.history ≡ fault_count_of_history old.kept.history → (result ≡ Err NoSpace → ⊥) → ReportsErrorsOfCommitTakingBlocks mid new result → ReportsErrorsOfMakingDirectory old new result
+pub reports_second : {X : Type 0} (old mid new : ThreadView) (result : Result X Error) → fault_count mid.kept.history ≡ fault_count old.kept.history → (result ≡ Err NoSpace → ⊥) → ReportsErrorsOfCommitTakingBlocks mid new result → ReportsErrorsOfMakingDirectory old new result
 reports_second {X = X} old mid new result same room reported = record {
   failed = reported.failed ∙ failing result room reported.reports.errors;
   errors = narrow result room reported.reports.errors;
@@ -38,8 +38,8 @@ reports_second {X = X} old mid new result same room reported = record {
     narrow (Err e) n (inr (inl h)) = inr h
     narrow (Err e) n (inr (inr h)) = absurd (n (ap Err h))
 
-    failing : (r : Result X Error) → (r ≡ Err NoSpace → ⊥) → IfErr r (λ e. (e ≡ Io) ⊎ ((e ≡ NoMemory) ⊎ (e ≡ NoSpace))) → has_thread_failed_after_result r ≡ is_err r
+    failing : (r : Result X Error) → (r ≡ Err NoSpace → ⊥) → IfErr r (λ e. (e ≡ Io) ⊎ ((e ≡ NoMemory) ⊎ (e ≡ NoSpace))) → has_failed_after r ≡ is_err r
     failing (Ok x) n h = refl
-    failing (Err e) n (inl h) = ap (λ (k : Error). has_thread_failed_after_result {X = X} (Err k)) h
-    failing (Err e) n (inr (inl h)) = ap (λ (k : Error). has_thread_failed_after_result {X = X} (Err k)) h
+    failing (Err e) n (inl h) = ap (λ (k : Error). has_failed_after {X = X} (Err k)) h
+    failing (Err e) n (inr (inl h)) = ap (λ (k : Error). has_failed_after {X = X} (Err k)) h
     failing (Err e) n (inr (inr h)) = absurd (n (ap Err h))

@@ -1,18 +1,18 @@
 -- Where the two steps of a mkdir change a directory: behind its last pair, and in the pair where the name belongs, which may be that one.
 use Rattle.std.proofs.Common.{ℕ, ◌≡◌, ◌⊎◌, inl, inr, ◌+◌, true, cond, List, [], ◌∷◌, ◌++◌, length, drop, refl, sym, ap, subst, ◌∙◌, arith, append_assoc, length-append}
-use Rattle.lfs_operations.proofs.Common.{Disk, hard_tail_joined_pair_count, Name, Session, Slot, zero_gstate, same_pair, new_directory_slot, path_of_bytes_or_root, Pair, blocks_of_pairs, first_pair_address, gstate_of_pairs, Path, IsPathToDirectory, entries_by_directory_in_thread, tree_on_disk, last_site, IsImageAfterCompletedOperation, IsRun, IsStep, place_at, IsPlace, IsTrueOfSomeElement, Site, among_right, begin_of, dirs_at, run_changed, thread_at, IsSite, IsChain, KeptThread}
-use Rattle.lfs_model.specs.Operations as ops
+use Rattle.lfs_operations.proofs.Common.{Disk, joined_count, Name, Session, Slot, zero_gstate, same_pair, directory_slot, path_or_root, Pair, blocks_of_pairs, first_address, pairs_gstate, Path, LeadsTo, all_entries, tree_on_disk, last_site, IsCompletion, IsRun, IsStep, place_at, IsPlace, HoldsOfSome, Site, among_right, begin_of, dirs_at, run_changed, thread_at, IsSite, IsChain, KeptThread}
+use Rattle.lfs_model.specs.session.Operations as ops
 use Rattle.lfs_model.proofs.MkdirSteps.{mkdir_in_two_completed}
 use Rattle.lfs_model.proofs.StepsTaken as taken
-use Rattle.lfs_operations.specs.Making.{IsLastPairOfHardTailRun}
+use Rattle.lfs_operations.specs.Making.{IsRunEnd}
 use Rattle.lfs_operations.proofs.MakingThreaded.{IsEnd, IsThreaded, IsThreading, fresh_pair, naming_pair}
 use Rattle.lfs_operations.proofs.MkdirAtLast.{mkdir_at_last_completed}
 
 -- ---- the last pair
 
-length_run : (p : Pair) (run after : List Pair) → IsRun (p ∷ run) → hard_tail_joined_pair_count (p ∷ (run ++ after)) ≡ length (p ∷ run)
-length_run p [] after h = ap (λ b. cond b (1 + hard_tail_joined_pair_count after) 1) h
-length_run p (q ∷ run) after h = ap (λ b. cond b (1 + hard_tail_joined_pair_count (q ∷ (run ++ after))) 1) h.0 ∙ (let e = length_run q run after h.1 in omega (arith, e))
+length_run : (p : Pair) (run after : List Pair) → IsRun (p ∷ run) → joined_count (p ∷ (run ++ after)) ≡ length (p ∷ run)
+length_run p [] after h = ap (λ b. cond b (1 + joined_count after) 1) h
+length_run p (q ∷ run) after h = ap (λ b. cond b (1 + joined_count (q ∷ (run ++ after))) 1) h.0 ∙ (let e = length_run q run after h.1 in omega (arith, e))
 
 drop_behind : (xs ys : List Pair) (n : ℕ) → n ≡ length xs → drop n (xs ++ ys) ≡ ys
 drop_behind [] ys n e = ap (λ k. drop k ys) e
@@ -23,12 +23,12 @@ run_right [] p right h = h
 run_right (x ∷ []) p right h = h.1
 run_right (x ∷ y ∷ left) p right h = run_right (y ∷ left) p right h.1
 
-pub last_number : (t : KeptThread) (index last : ℕ) (w : Site) (p : Pair) → t.pairs ≡ thread_at w (p ∷ []) → index ≡ length w.chain + length (w.before ++ w.left) → IsSite w (p ∷ []) → IsLastPairOfHardTailRun t.pairs index last
+pub last_number : (t : KeptThread) (index last : ℕ) (w : Site) (p : Pair) → t.pairs ≡ thread_at w (p ∷ []) → index ≡ length w.chain + length (w.before ++ w.left) → IsSite w (p ∷ []) → IsRunEnd t.pairs index last
     → last ≡ index + length w.right
 last_number t index last w p there place site is =
     let whole : t.pairs ≡ (w.chain ++ (w.before ++ w.left)) ++ (p ∷ (w.right ++ w.after)) = there ∙ sym (append_assoc w.chain (w.before ++ w.left) (p ∷ (w.right ++ w.after))) in
     let at : index ≡ length (w.chain ++ (w.before ++ w.left)) = place ∙ sym (length-append w.chain (w.before ++ w.left)) in
-    let run = ap (λ z. hard_tail_joined_pair_count (drop index z)) whole ∙ ap hard_tail_joined_pair_count (drop_behind (w.chain ++ (w.before ++ w.left)) (p ∷ (w.right ++ w.after)) index at) ∙ length_run p w.right w.after (run_right w.left p w.right site.run) in
+    let run = ap (λ z. joined_count (drop index z)) whole ∙ ap joined_count (drop_behind (w.chain ++ (w.before ++ w.left)) (p ∷ (w.right ++ w.after)) index at) ∙ length_run p w.right w.after (run_right w.left p w.right site.run) in
     let e = is.is in
     omega arith
 
@@ -56,15 +56,15 @@ site_behind w right f = record { chain = w.chain; before = w.before; left = w.le
 abbrev pub Completes : Disk → Site → List Pair → Pair → ℕ × ℕ → List Pair → Pair → List Slot → List Slot → Path → Name → Type 0
 Completes disk w left x fresh right p2 l r P name =
     (middle new : Disk) (q : Pair) (more : List Pair) → IsThreading disk middle w.chain w.before left w.after x fresh → IsThreaded disk w.chain w.before left w.after x fresh
-    → IsStep middle new (site_behind w right (fresh_pair x fresh)) p2 [] q more (blocks_of_pairs more) [] l [] (new_directory_slot name fresh ∷ []) r
-    → taken.IsPut middle (site_behind w right (fresh_pair x fresh)) p2 q more l [] (new_directory_slot name fresh ∷ []) r
-    → (a : ℕ × ℕ) → IsPathToDirectory (thread_at (last_site w.chain w.before left w.after) (x ∷ [])) P a → same_pair (begin_of (last_site w.chain w.before left w.after) (x ∷ [])) a ≡ true
-    → IsPlace middle.order (entries_by_directory_in_thread (thread_at (site_behind w right (fresh_pair x fresh)) (p2 ∷ [])) a) (place_at (site_behind w right (fresh_pair x fresh)) l) name
-    → (gstate_of_pairs (thread_at (last_site w.chain w.before left w.after) (naming_pair x fresh ∷ ([] ++ fresh_pair x fresh ∷ [])))).sync ≡ true
-    → gstate_of_pairs (thread_at (last_site w.chain w.before left w.after) (x ∷ [])) ≡ zero_gstate
-    → gstate_of_pairs (thread_at (site_behind w right (fresh_pair x fresh)) (q ∷ more)) ≡ zero_gstate
-    → (s : Session) (given : List ℕ) → s.tree ≡ tree_on_disk disk (thread_at (last_site w.chain w.before left w.after) (x ∷ [])) → path_of_bytes_or_root given ≡ P ++ name ∷ []
-    → IsImageAfterCompletedOperation disk (thread_at (last_site w.chain w.before left w.after) (x ∷ [])) s (ops.Mkdir given) new (thread_at (site_behind w right (fresh_pair x fresh)) (q ∷ more))
+    → IsStep middle new (site_behind w right (fresh_pair x fresh)) p2 [] q more (blocks_of_pairs more) [] l [] (directory_slot name fresh ∷ []) r
+    → taken.IsPut middle (site_behind w right (fresh_pair x fresh)) p2 q more l [] (directory_slot name fresh ∷ []) r
+    → (a : ℕ × ℕ) → LeadsTo (thread_at (last_site w.chain w.before left w.after) (x ∷ [])) P a → same_pair (begin_of (last_site w.chain w.before left w.after) (x ∷ [])) a ≡ true
+    → IsPlace middle.order (all_entries (thread_at (site_behind w right (fresh_pair x fresh)) (p2 ∷ [])) a) (place_at (site_behind w right (fresh_pair x fresh)) l) name
+    → (pairs_gstate (thread_at (last_site w.chain w.before left w.after) (naming_pair x fresh ∷ ([] ++ fresh_pair x fresh ∷ [])))).sync ≡ true
+    → pairs_gstate (thread_at (last_site w.chain w.before left w.after) (x ∷ [])) ≡ zero_gstate
+    → pairs_gstate (thread_at (site_behind w right (fresh_pair x fresh)) (q ∷ more)) ≡ zero_gstate
+    → (s : Session) (given : List ℕ) → s.tree ≡ tree_on_disk disk (thread_at (last_site w.chain w.before left w.after) (x ∷ [])) → path_or_root given ≡ P ++ name ∷ []
+    → IsCompletion disk (thread_at (last_site w.chain w.before left w.after) (x ∷ [])) s (ops.Mkdir given) new (thread_at (site_behind w right (fresh_pair x fresh)) (q ∷ more))
 
 -- the pair is the last one itself
 pub record IsOne (p x p2 : Pair) (fresh : ℕ × ℕ) : Type 0 where
@@ -74,7 +74,7 @@ pub record IsOne (p x p2 : Pair) (fresh : ℕ × ℕ) : Type 0 where
 -- or the last one stands behind it
 pub record IsAhead (p x p2 : Pair) (right : List Pair) (fresh : ℕ × ℕ) : Type 0 where
   pub stays : p2 ≡ p
-  pub names : IsTrueOfSomeElement (λ y. y ≡ naming_pair x fresh) right
+  pub names : HoldsOfSome (λ y. y ≡ naming_pair x fresh) right
 
 -- The last pair stands there, and after the first step the pair of the name here.
 pub record IsRoute (t : KeptThread) (last : ℕ) (w : Site) (p : Pair) (fresh : ℕ × ℕ) (l r : List Slot) (P : Path) (name : Name) : Type 0 where
@@ -92,7 +92,7 @@ pub record IsRoute (t : KeptThread) (last : ℕ) (w : Site) (p : Pair) (fresh : 
   pub which : IsOne p x p2 fresh ⊎ IsAhead p x p2 right fresh
   pub completed : Completes t.disk w left x fresh right p2 l r P name
 
-module _ (t : KeptThread) (index last : ℕ) (w : Site) (p : Pair) (there : t.pairs ≡ thread_at w (p ∷ [])) (place : index ≡ length w.chain + length (w.before ++ w.left)) (site : IsSite w (p ∷ [])) (is_last : IsLastPairOfHardTailRun t.pairs index last)
+module _ (t : KeptThread) (index last : ℕ) (w : Site) (p : Pair) (there : t.pairs ≡ thread_at w (p ∷ [])) (place : index ≡ length w.chain + length (w.before ++ w.left)) (site : IsSite w (p ∷ [])) (is_last : IsRunEnd t.pairs index last)
     (fresh : ℕ × ℕ) (l r : List Slot) (P : Path) (name : Name) where
   number : last ≡ index + length w.right
   number = last_number t index last w p there place site is_last
@@ -128,7 +128,7 @@ module _ (t : KeptThread) (index last : ℕ) (w : Site) (p : Pair) (there : t.pa
       run_there : IsRun (w.left ++ p ∷ [])
       run_there = subst (λ (z : List Pair). IsRun (w.left ++ p ∷ z)) e site.run
 
-      go : (xs : List Pair) → first_pair_address (xs ++ naming_pair p fresh ∷ []) ≡ first_pair_address (xs ++ p ∷ [])
+      go : (xs : List Pair) → first_address (xs ++ naming_pair p fresh ∷ []) ≡ first_address (xs ++ p ∷ [])
       go [] = refl
       go (z ∷ xs) = refl
 
@@ -180,7 +180,7 @@ module _ (t : KeptThread) (index last : ℕ) (w : Site) (p : Pair) (there : t.pa
           (run_changed (w.left ++ p ∷ k.mid) k.x [] (naming_pair k.x fresh) [] (λ h. refl)
           (subst IsRun (ap (λ (z : List Pair). w.left ++ p ∷ z) k.is ∙ sym (append_assoc w.left (p ∷ k.mid) (k.x ∷ []))) site.run))
 
-      go : (xs : List Pair) → first_pair_address ((xs ++ p ∷ k.mid) ++ k.x ∷ []) ≡ first_pair_address (xs ++ p ∷ [])
+      go : (xs : List Pair) → first_address ((xs ++ p ∷ k.mid) ++ k.x ∷ []) ≡ first_address (xs ++ p ∷ [])
       go [] = refl
       go (z ∷ xs) = refl
 

@@ -1,14 +1,14 @@
 -- A fresh pair is threaded behind the last one of a directory, and the sync bit set: what that comes to, and what a stop in it leaves.
 use Rattle.std.proofs.Common.{ℕ, ◌≡◌, ◌≢◌, ◌+◌, ◌<◌, ◌⊎◌, inl, inr, Bool, true, false, nat_eq, List, [], ◌∷◌, ◌++◌, length, Some, refl, sym, ap, ap₂, subst, ◌∙◌, ◌≤◌, arith, append_assoc, append-nil, flat_map}
 use Rattle.std.specs.Prelude.{All}
-use Rattle.lfs_operations.proofs.Common.{IsDistinct, same_Some, All-from_recursion, recursion_from_All, Blocks, AreBlocksEqualExceptThese, AreExactlyTheUsedBlocks, content_of_pair_at, current_block_of_two, current_block_of_pair_at, Disk, block_bytes_on_disk, block_count, HasTreeBeforeOrAfterOperation, disk_with_blocks, PairContent, IsContentFittingPair, Gstate, zero_gstate, gstate_xor, same_pair, Pair, blocks_of_pairs, gstate_of_pairs, is_hard_tail, blocks_of_pair_address, blocks_of_two_pair_addresses, Path, Tree, BeginsWithLogEntry, superblock_name_log_entry, IsAcceptedImage, AreNoEmptyPairsAfterHardTails, IsWritableImage, IsPathToDirectory, all_slots_not_moved, entries_by_directory_in_thread, skip_list_blocks_of_struct, tree_on_disk, used_blocks, fits_same, IsStepBeside, last_site, threaded, no_move_from, each_right, occurrence_count_of_number, count_append, count_here, once_from_distinct, HasNoMove, gstate_assoc, gstate_cons, gstate_left, gstate_moved, gstate_right, sync_bit_delta, gstate_with_inverted_sync_bit, turned_is, shown_before, shown_behind, pair_itself, Site, begin_of, dirs_at, thread_at, IsSite, IsPutBeside, IsWritableImageAfterTreeChange, beside_taken, taken_before, within_at, pairs_behind, ends_in_hard_tail, KeepsBlocksOutsideBothPairs, KeptThread, HasSameGeometry, HasPairOldContentOnDisk, IsFreshPairThreadedIn, PowerLossLeavesPairOldOrThreadedIn, ThreadChangesOnlyTheseBlocks, complete_content_after_changes, thread_pair_at_index, block_map_with_used_pair}
+use Rattle.lfs_operations.proofs.Common.{IsDistinct, same_Some, All-from_recursion, recursion_from_All, Blocks, SameExceptThese, AreUsed, content_at, current_of_two, current_block, Disk, disk_block, block_count, HasEither, with_blocks, PairContent, FitsInPair, Gstate, zero_gstate, gstate_xor, same_pair, Pair, blocks_of_pairs, pairs_gstate, is_hard_tail, address_blocks, addresses_blocks, Path, Tree, BeginsWith, superblock_entry, IsAccepted, HasNoEmpties, IsWritable, LeadsTo, all_slots_not_moved, all_entries, struct_blocks, tree_on_disk, used_blocks, fits_same, IsStepBeside, last_site, threaded, no_move_from, each_right, number_count, count_append, count_here, once_from_distinct, HasNoMove, gstate_assoc, gstate_cons, gstate_left, gstate_moved, gstate_right, sync_bit_delta, with_sync_inverted, turned_is, shown_before, shown_behind, pair_itself, Site, begin_of, dirs_at, thread_at, IsSite, IsPutBeside, IsWritableChange, beside_taken, taken_before, within_at, pairs_behind, ends_joined, KeepsOutsideBoth, KeptThread, SameGeometryAs, HasOldPair, IsThreadedIn, LossLeavesThreadedIn, ChangesThreadBlocks, complete_after, thread_pair_at, map_using}
 use Rattle.lfs_model.proofs.Beside.{beside_shape, other_entries, own_entries}
 use Rattle.lfs_model.proofs.Devices.{content_same}
 use Rattle.lfs_model.proofs.Pairs.{put_at}
-use Rattle.lfs_thread.specs.Steps.{IsFreshPairThreadedInOnDisk, KeepsSuperblockEntryFirstInLog, fresh_pair_with_tail}
-use Rattle.lfs_operations.specs.Changing.{AreTwoFreeBlocks, map_with_two_blocks_in_flight}
-use Rattle.lfs_operations.specs.Making.{changes_threading_new_pair}
-use Rattle.lfs_operations.specs.Ready.{IsImageReadyForChange}
+use Rattle.lfs_thread.specs.ThreadSteps.{ThreadedInOnDisk, KeepsSuperblockFirst, fresh_with_tail}
+use Rattle.lfs_operations.specs.Changing.{AreTwoFree, map_taking_two}
+use Rattle.lfs_operations.specs.Making.{threading_changes}
+use Rattle.lfs_operations.specs.Ready.{IsReadyImage}
 use Rattle.lfs_operations.proofs.MakingCounts.{used_count_now}
 use Rattle.lfs_operations.proofs.Threads.{at_is, fresh_distinct, fresh_range, pair_is, placed_still, same_four, shape_same, two_now}
 use Rattle.lfs_operations.proofs.Owning.{count_pairs, length_now, used_more}
@@ -23,7 +23,7 @@ pub record IsEnd (t : KeptThread) (last : ℕ) (chain before left after : List P
 
 -- it names the fresh pair, which has its tail
 abbrev pub naming_pair : Pair → ℕ × ℕ → Pair
-naming_pair x fresh = record { at = x.at; content = record { slots = x.content.slots; tail = Some (record { hard = false; to = fresh }); move = gstate_with_inverted_sync_bit x.content.move } }
+naming_pair x fresh = record { at = x.at; content = record { slots = x.content.slots; tail = Some (record { hard = false; to = fresh }); move = with_sync_inverted x.content.move } }
 
 abbrev pub fresh_pair : Pair → ℕ × ℕ → Pair
 fresh_pair x fresh = record { at = fresh; content = record { slots = []; tail = x.content.tail; move = zero_gstate } }
@@ -39,21 +39,21 @@ IsThreaded disk chain before left after x fresh = IsPutBeside disk (last_site ch
 pub record HasThreaded (t : KeptThread) (chain before left after : List Pair) (x : Pair) (fresh : ℕ × ℕ) (new : KeptThread) : Type 0 where
   pub step : IsThreading t.disk new.disk chain before left after x fresh
   pub pairs : new.pairs ≡ thread_at (last_site chain before left after) (naming_pair x fresh ∷ fresh_pair x fresh ∷ [])
-  pub used : AreExactlyTheUsedBlocks new.map (used_blocks new.disk new.pairs)
-  pub map : new.map ≡ block_map_with_used_pair (map_with_two_blocks_in_flight t.map fresh) fresh
+  pub used : AreUsed new.map (used_blocks new.disk new.pairs)
+  pub map : new.map ≡ map_using (map_taking_two t.map fresh) fresh
   pub size : length new.map ≡ block_count new.disk
 
-have_at : (b : Bool) (xs : List Pair) (x : Pair) (ys : List Pair) → AreNoEmptyPairsAfterHardTails b (xs ++ x ∷ ys) → ends_in_hard_tail b xs ≡ true → x.content.slots ≢ []
+have_at : (b : Bool) (xs : List Pair) (x : Pair) (ys : List Pair) → HasNoEmpties b (xs ++ x ∷ ys) → ends_joined b xs ≡ true → x.content.slots ≢ []
 have_at b [] x ys h f = h.0 f
 have_at b (z ∷ xs) x ys h f = have_at (is_hard_tail z.content.tail) xs x ys h.1 f
 
-module _ (t : KeptThread) (ready : IsImageReadyForChange t) (last : ℕ) (chain before left after : List Pair) (x : Pair) (e : IsEnd t last chain before left after x) (fresh : ℕ × ℕ) (two : AreTwoFreeBlocks t.map fresh)
-    (made : complete_content_after_changes t last (changes_threading_new_pair t last fresh) ≡ Some (naming_pair x fresh).content) where
+module _ (t : KeptThread) (ready : IsReadyImage t) (last : ℕ) (chain before left after : List Pair) (x : Pair) (e : IsEnd t last chain before left after x) (fresh : ℕ × ℕ) (two : AreTwoFree t.map fresh)
+    (made : complete_after t last (threading_changes t last fresh) ≡ Some (naming_pair x fresh).content) where
   abbrev w : Site
   w = last_site chain before left after
 
   abbrev held : KeptThread
-  held = with_map t (map_with_two_blocks_in_flight t.map fresh)
+  held = with_map t (map_taking_two t.map fresh)
 
   abbrev y : Pair
   y = naming_pair x fresh
@@ -61,37 +61,37 @@ module _ (t : KeptThread) (ready : IsImageReadyForChange t) (last : ℕ) (chain 
   abbrev f : Pair
   f = fresh_pair x fresh
 
-  behind_is : fresh_pair_with_tail t last fresh ≡ f
+  behind_is : fresh_with_tail t last fresh ≡ f
   behind_is = ap (λ (z : Pair). fresh_pair z fresh) (pair_is t last w x e.there e.place)
 
-  accepted_there : IsAcceptedImage t.disk (thread_at w (x ∷ []))
-  accepted_there = subst (IsAcceptedImage t.disk) e.there ready.accepted
+  accepted_there : IsAccepted t.disk (thread_at w (x ∷ []))
+  accepted_there = subst (IsAccepted t.disk) e.there ready.accepted
 
-  writable_there : IsWritableImage t.disk (thread_at w (x ∷ []))
-  writable_there = subst (IsWritableImage t.disk) e.there ready.writable
+  writable_there : IsWritable t.disk (thread_at w (x ∷ []))
+  writable_there = subst (IsWritable t.disk) e.there ready.writable
 
-  pub settled_there : gstate_of_pairs (thread_at (last_site chain before left after) (x ∷ [])) ≡ zero_gstate
-  settled_there = ap gstate_of_pairs (sym e.there) ∙ ready.settled
+  pub settled_there : pairs_gstate (thread_at (last_site chain before left after) (x ∷ [])) ≡ zero_gstate
+  settled_there = ap pairs_gstate (sym e.there) ∙ ready.settled
 
-  held_there : content_of_pair_at t.disk x.at ≡ Some x.content
-  held_there = (each_right (λ (z : Pair). content_of_pair_at t.disk z.at ≡ Some z.content) (before ++ left) (x ∷ after)
-      (each_right (λ (z : Pair). content_of_pair_at t.disk z.at ≡ Some z.content) chain ((before ++ left) ++ (x ∷ after))
-      (recursion_from_All (λ (z : Pair). content_of_pair_at t.disk z.at ≡ Some z.content) (thread_at w (x ∷ [])) accepted_there.thread.contents))).0
+  held_there : content_at t.disk x.at ≡ Some x.content
+  held_there = (each_right (λ (z : Pair). content_at t.disk z.at ≡ Some z.content) (before ++ left) (x ∷ after)
+      (each_right (λ (z : Pair). content_at t.disk z.at ≡ Some z.content) chain ((before ++ left) ++ (x ∷ after))
+      (recursion_from_All (λ (z : Pair). content_at t.disk z.at ≡ Some z.content) (thread_at w (x ∷ [])) accepted_there.thread.contents))).0
 
   distinct : IsDistinct nat_eq (fresh.0 ∷ fresh.1 ∷ used_blocks t.disk (thread_at w (x ∷ [])))
   distinct = fresh_distinct t last w x e.there e.place ready.used ready.accepted.owned_once fresh two
 
   -- ---- the global state
 
-  turned_delta : gstate_of_pairs (y ∷ f ∷ []) ≡ gstate_xor sync_bit_delta (gstate_of_pairs (x ∷ []))
+  turned_delta : pairs_gstate (y ∷ f ∷ []) ≡ gstate_xor sync_bit_delta (pairs_gstate (x ∷ []))
   turned_delta =
-      gstate_cons y (f ∷ []) ∙ ap (gstate_xor (gstate_with_inverted_sync_bit x.content.move)) (gstate_cons f [] ∙ gstate_left (gstate_of_pairs []))
-      ∙ ap (λ (z : Gstate). gstate_xor z (gstate_of_pairs [])) (sym (turned_is x.content.move)) ∙ gstate_assoc sync_bit_delta x.content.move (gstate_of_pairs []) ∙ ap (gstate_xor sync_bit_delta) (sym (gstate_cons x []))
+      gstate_cons y (f ∷ []) ∙ ap (gstate_xor (with_sync_inverted x.content.move)) (gstate_cons f [] ∙ gstate_left (pairs_gstate []))
+      ∙ ap (λ (z : Gstate). gstate_xor z (pairs_gstate [])) (sym (turned_is x.content.move)) ∙ gstate_assoc sync_bit_delta x.content.move (pairs_gstate []) ∙ ap (gstate_xor sync_bit_delta) (sym (gstate_cons x []))
 
-  pub state_now : gstate_of_pairs (thread_at (last_site chain before left after) (naming_pair x fresh ∷ fresh_pair x fresh ∷ [])) ≡ sync_bit_delta
+  pub state_now : pairs_gstate (thread_at (last_site chain before left after) (naming_pair x fresh ∷ fresh_pair x fresh ∷ [])) ≡ sync_bit_delta
   state_now =
-      ap gstate_of_pairs (sym (append_assoc chain (before ++ left) (y ∷ f ∷ after))) ∙ gstate_moved sync_bit_delta (chain ++ (before ++ left)) (x ∷ []) (y ∷ f ∷ []) after turned_delta
-      ∙ ap (λ z. gstate_xor sync_bit_delta (gstate_of_pairs z)) (append_assoc chain (before ++ left) (x ∷ after)) ∙ ap (gstate_xor sync_bit_delta) settled_there ∙ gstate_right sync_bit_delta
+      ap pairs_gstate (sym (append_assoc chain (before ++ left) (y ∷ f ∷ after))) ∙ gstate_moved sync_bit_delta (chain ++ (before ++ left)) (x ∷ []) (y ∷ f ∷ []) after turned_delta
+      ∙ ap (λ z. gstate_xor sync_bit_delta (pairs_gstate z)) (append_assoc chain (before ++ left) (x ∷ after)) ∙ ap (gstate_xor sync_bit_delta) settled_there ∙ gstate_right sync_bit_delta
 
   -- ---- the step
 
@@ -103,7 +103,7 @@ module _ (t : KeptThread) (ready : IsImageReadyForChange t) (last : ℕ) (chain 
     cut = fits_same t.disk x (record { at = x.at; content = record { slots = x.content.slots ++ []; tail = x.content.tail; move = x.content.move } }) (append-nil x.content.slots) (within_at t.disk w x [] writable_there).pair;
     fit = tt;
     filled = λ hard none. have_at false (before ++ left) x after
-        (subst (AreNoEmptyPairsAfterHardTails false) (pairs_behind chain (dirs_at w (x ∷ [])) e.site.chain) writable_there.no_empty_pair) hard (sym (append-nil x.content.slots) ∙ none);
+        (subst (HasNoEmpties false) (pairs_behind chain (dirs_at w (x ∷ [])) e.site.chain) writable_there.no_empty_pair) hard (sym (append-nil x.content.slots) ∙ none);
     run = refl;
     empty = refl;
     tail = refl;
@@ -126,117 +126,117 @@ module _ (t : KeptThread) (ready : IsImageReadyForChange t) (last : ℕ) (chain 
     splice = record { front = λ k. refl; entries = tt; lists = tt; blocks = λ b. omega arith };
   }
 
-  placed_from : (disk : Disk) → HasSameGeometry t.disk disk → KeepsBlocksOutsideBothPairs (thread_pair_at_index t last).at fresh t.disk.blocks disk.blocks → content_of_pair_at disk x.at ≡ Some y.content → content_of_pair_at disk fresh ≡ Some f.content
-      → KeepsSuperblockEntryFirstInLog t.disk (thread_pair_at_index t last).at y.content disk → IsPlaced t.disk disk x y (f ∷ []) (fresh.0 ∷ fresh.1 ∷ [])
+  placed_from : (disk : Disk) → SameGeometryAs t.disk disk → KeepsOutsideBoth (thread_pair_at t last).at fresh t.disk.blocks disk.blocks → content_at disk x.at ≡ Some y.content → content_at disk fresh ≡ Some f.content
+      → KeepsSuperblockFirst t.disk (thread_pair_at t last).at y.content disk → IsPlaced t.disk disk x y (f ∷ []) (fresh.0 ∷ fresh.1 ∷ [])
   placed_from disk shape others here behind first = record {
     geometry = shape_same t last w x e.there e.place shape;
     same = same_four t last w x e.there e.place disk fresh others;
     contents = (here, (behind, tt));
-    first = λ h b. subst (λ at. BeginsWithLogEntry (current_block_of_pair_at disk at) superblock_name_log_entry) (at_is t last w x e.there e.place)
-        (first (subst (λ at. BeginsWithLogEntry (current_block_of_pair_at t.disk at) superblock_name_log_entry) (sym (at_is t last w x e.there e.place)) b) (h.kind, h.name));
+    first = λ h b. subst (λ at. BeginsWith (current_block disk at) superblock_entry) (at_is t last w x e.there e.place)
+        (first (subst (λ at. BeginsWith (current_block t.disk at) superblock_entry) (sym (at_is t last w x e.there e.place)) b) (h.kind, h.name));
   }
 
-  made_same : (c : PairContent) → complete_content_after_changes t last (changes_threading_new_pair t last fresh) ≡ Some c → c ≡ y.content
+  made_same : (c : PairContent) → complete_after t last (threading_changes t last fresh) ≡ Some c → c ≡ y.content
   made_same c m = same_Some c y.content (sym m ∙ made)
 
   -- what is made takes no more than what the pair held
-  pub fits_now : (c : PairContent) → complete_content_after_changes t last (changes_threading_new_pair t last fresh) ≡ Some c → IsContentFittingPair t.disk.block_size t.disk.page c
-  fits_now c m = subst (IsContentFittingPair t.disk.block_size t.disk.page) (sym (made_same c m)) (fits_same t.disk x y refl (within_at t.disk w x [] writable_there).pair)
+  pub fits_now : (c : PairContent) → complete_after t last (threading_changes t last fresh) ≡ Some c → FitsInPair t.disk.block_size t.disk.page c
+  fits_now c m = subst (FitsInPair t.disk.block_size t.disk.page) (sym (made_same c m)) (fits_same t.disk x y refl (within_at t.disk w x [] writable_there).pair)
 
   -- only the blocks of the fresh pair may differ: the image shows the tree that it showed
-  pub left_beside : (blocks : Blocks) (tree : Tree) → AreBlocksEqualExceptThese (blocks_of_pair_address fresh) t.disk.blocks blocks → HasTreeBeforeOrAfterOperation (disk_with_blocks blocks t.disk) (tree_on_disk t.disk t.pairs) tree
+  pub left_beside : (blocks : Blocks) (tree : Tree) → SameExceptThese (address_blocks fresh) t.disk.blocks blocks → HasEither (with_blocks blocks t.disk) (tree_on_disk t.disk t.pairs) tree
   left_beside blocks tree others =
-      left_still t.disk blocks (thread_at w (x ∷ [])) accepted_there writable_there (device t.disk (disk_with_blocks blocks t.disk) w x x [] (fresh.0 ∷ fresh.1 ∷ []) accepted_there distinct placed) (inl (ap (tree_on_disk t.disk) (sym e.there)))
+      left_still t.disk blocks (thread_at w (x ∷ [])) accepted_there writable_there (device t.disk (with_blocks blocks t.disk) w x x [] (fresh.0 ∷ fresh.1 ∷ []) accepted_there distinct placed) (inl (ap (tree_on_disk t.disk) (sym e.there)))
     where
       -- a block that is used is the same
-      same_used : (b : ℕ) → 1 ≤ occurrence_count_of_number b (blocks_of_pairs (x ∷ [])) → block_bytes_on_disk (disk_with_blocks blocks t.disk) b ≡ block_bytes_on_disk t.disk b
+      same_used : (b : ℕ) → 1 ≤ number_count b (blocks_of_pairs (x ∷ [])) → disk_block (with_blocks blocks t.disk) b ≡ disk_block t.disk b
       same_used b some = others.others b (all_apart (fresh.0 ∷ fresh.1 ∷ []) b (
           let n = once_from_distinct (fresh.0 ∷ fresh.1 ∷ used_blocks t.disk (thread_at w (x ∷ []))) distinct b in
-          let k = count_append b (blocks_of_pairs (thread_at w (x ∷ []))) (flat_map (λ s. skip_list_blocks_of_struct t.disk s.struct) (all_slots_not_moved (thread_at w (x ∷ [])))) in
+          let k = count_append b (blocks_of_pairs (thread_at w (x ∷ []))) (flat_map (λ s. struct_blocks t.disk s.struct) (all_slots_not_moved (thread_at w (x ∷ [])))) in
           let i = count_pairs b w (x ∷ []) in
           omega arith))
 
-      first_same : block_bytes_on_disk (disk_with_blocks blocks t.disk) x.at.0 ≡ block_bytes_on_disk t.disk x.at.0
+      first_same : disk_block (with_blocks blocks t.disk) x.at.0 ≡ disk_block t.disk x.at.0
       first_same = same_used x.at.0 (let h = count_here x.at.0 (x.at.1 ∷ []) in omega arith)
 
-      second_same : block_bytes_on_disk (disk_with_blocks blocks t.disk) x.at.1 ≡ block_bytes_on_disk t.disk x.at.1
+      second_same : disk_block (with_blocks blocks t.disk) x.at.1 ≡ disk_block t.disk x.at.1
       second_same = same_used x.at.1 (let h = count_here x.at.1 [] in omega arith)
 
-      placed : IsPlaced t.disk (disk_with_blocks blocks t.disk) x x [] (fresh.0 ∷ fresh.1 ∷ [])
+      placed : IsPlaced t.disk (with_blocks blocks t.disk) x x [] (fresh.0 ∷ fresh.1 ∷ [])
       placed = record {
         geometry = record { block_size = refl; page = refl; order = refl; profile = refl; count = others.count };
         same = λ b none. others.others b (all_apart (fresh.0 ∷ fresh.1 ∷ []) b (omega arith));
-        contents = (content_same t.disk (disk_with_blocks blocks t.disk) x.at first_same second_same ∙ held_there, tt);
-        first = λ h b. subst (λ o. BeginsWithLogEntry o superblock_name_log_entry) (sym (ap₂ current_block_of_two first_same second_same)) b;
+        contents = (content_same t.disk (with_blocks blocks t.disk) x.at first_same second_same ∙ held_there, tt);
+        first = λ h b. subst (λ o. BeginsWith o superblock_entry) (sym (ap₂ current_of_two first_same second_same)) b;
       }
 
   -- ---- it was done
 
-  pub has_threaded : (new : KeptThread) → IsFreshPairThreadedIn (with_map t (map_with_two_blocks_in_flight t.map fresh)) last fresh (changes_threading_new_pair t last fresh) new → ThreadChangesOnlyTheseBlocks (blocks_of_two_pair_addresses (thread_pair_at_index t last).at fresh) (with_map t (map_with_two_blocks_in_flight t.map fresh)) new
+  pub has_threaded : (new : KeptThread) → IsThreadedIn (with_map t (map_taking_two t.map fresh)) last fresh (threading_changes t last fresh) new → ChangesThreadBlocks (addresses_blocks (thread_pair_at t last).at fresh) (with_map t (map_taking_two t.map fresh)) new
       → HasThreaded t chain before left after x fresh new
   has_threaded new is writes =
       let same = made_same is.content is.made in
       let pairs : new.pairs ≡ thread_at w (y ∷ f ∷ [])
-      = is.pairs ∙ two_now t last w x e.there e.place (record { at = (thread_pair_at_index t last).at; content = is.content }) (fresh_pair_with_tail t last fresh)
-      ∙ ap (λ (g : Pair). thread_at w (record { at = (thread_pair_at_index t last).at; content = is.content } ∷ g ∷ [])) behind_is
-      ∙ ap (λ (c : PairContent). thread_at w (record { at = (thread_pair_at_index t last).at; content = c } ∷ f ∷ [])) same
+      = is.pairs ∙ two_now t last w x e.there e.place (record { at = (thread_pair_at t last).at; content = is.content }) (fresh_with_tail t last fresh)
+      ∙ ap (λ (g : Pair). thread_at w (record { at = (thread_pair_at t last).at; content = is.content } ∷ g ∷ [])) behind_is
+      ∙ ap (λ (c : PairContent). thread_at w (record { at = (thread_pair_at t last).at; content = c } ∷ f ∷ [])) same
       ∙ ap (λ (at : ℕ × ℕ). thread_at w (record { at = at; content = y.content } ∷ f ∷ [])) (at_is t last w x e.there e.place) in
-      let contents = recursion_from_All (λ (z : Pair). content_of_pair_at new.disk z.at ≡ Some z.content) (thread_at w (y ∷ f ∷ []))
-      (subst (All (λ (z : Pair). content_of_pair_at new.disk z.at ≡ Some z.content)) pairs is.thread.contents) in
-      let here = each_right (λ (z : Pair). content_of_pair_at new.disk z.at ≡ Some z.content) (before ++ left) (y ∷ f ∷ after)
-      (each_right (λ (z : Pair). content_of_pair_at new.disk z.at ≡ Some z.content) chain ((before ++ left) ++ (y ∷ f ∷ after)) contents) in
-      let shape : HasSameGeometry t.disk new.disk = record { block_size = writes.shape.block_size; page = writes.shape.page; order = writes.shape.order; profile = writes.shape.profile; count = writes.shape.count } in
-      let step = step_from new.disk (placed_from new.disk shape writes.others here.0 here.1.0 (subst (λ (c : PairContent). KeepsSuperblockEntryFirstInLog t.disk (thread_pair_at_index t last).at c new.disk) same is.first)) in
+      let contents = recursion_from_All (λ (z : Pair). content_at new.disk z.at ≡ Some z.content) (thread_at w (y ∷ f ∷ []))
+      (subst (All (λ (z : Pair). content_at new.disk z.at ≡ Some z.content)) pairs is.thread.contents) in
+      let here = each_right (λ (z : Pair). content_at new.disk z.at ≡ Some z.content) (before ++ left) (y ∷ f ∷ after)
+      (each_right (λ (z : Pair). content_at new.disk z.at ≡ Some z.content) chain ((before ++ left) ++ (y ∷ f ∷ after)) contents) in
+      let shape : SameGeometryAs t.disk new.disk = record { block_size = writes.shape.block_size; page = writes.shape.page; order = writes.shape.order; profile = writes.shape.profile; count = writes.shape.count } in
+      let step = step_from new.disk (placed_from new.disk shape writes.others here.0 here.1.0 (subst (λ (c : PairContent). KeepsSuperblockFirst t.disk (thread_pair_at t last).at c new.disk) same is.first)) in
       record {
         step = step;
         pairs = pairs;
-        used = subst (λ z. AreExactlyTheUsedBlocks new.map (used_blocks new.disk z)) (sym pairs)
-            (subst (λ m. AreExactlyTheUsedBlocks m (used_blocks new.disk (thread_at w (y ∷ f ∷ [])))) (sym is.map)
+        used = subst (λ z. AreUsed new.map (used_blocks new.disk z)) (sym pairs)
+            (subst (λ m. AreUsed m (used_blocks new.disk (thread_at w (y ∷ f ∷ [])))) (sym is.map)
             (used_more t.map fresh two (used_blocks t.disk (thread_at w (x ∷ []))) (used_blocks new.disk (thread_at w (y ∷ f ∷ [])))
             (λ b. used_count_now t.disk new.disk w x y (f ∷ []) x.content.slots [] [] step.no_move step.still_none step.device refl (sym (append-nil x.content.slots)) refl (λ b. refl) b)
-            (subst (λ z. AreExactlyTheUsedBlocks t.map (used_blocks t.disk z)) e.there ready.used)));
+            (subst (λ z. AreUsed t.map (used_blocks t.disk z)) e.there ready.used)));
         map = is.map;
         size = ap length is.map ∙ length_now t.map fresh two ∙ ready.size ∙ sym shape.count;
       }
 
   -- ---- what it shows
 
-  module _ (P : Path) (a : ℕ × ℕ) (leads : IsPathToDirectory (thread_at (last_site chain before left after) (x ∷ [])) P a) (same : same_pair (begin_of (last_site chain before left after) (x ∷ [])) a ≡ true) where
-    pub sync_now : (gstate_of_pairs (thread_at (last_site chain before left after) (naming_pair x fresh ∷ ([] ++ fresh_pair x fresh ∷ [])))).sync ≡ true
+  module _ (P : Path) (a : ℕ × ℕ) (leads : LeadsTo (thread_at (last_site chain before left after) (x ∷ [])) P a) (same : same_pair (begin_of (last_site chain before left after) (x ∷ [])) a ≡ true) where
+    pub sync_now : (pairs_gstate (thread_at (last_site chain before left after) (naming_pair x fresh ∷ ([] ++ fresh_pair x fresh ∷ [])))).sync ≡ true
     sync_now = ap (λ (z : Gstate). z.sync) state_now
 
     pub first_taken : (disk : Disk) → IsThreading t.disk disk chain before left after x fresh
-        → IsWritableImageAfterTreeChange t.disk (thread_at (last_site chain before left after) (x ∷ [])) disk (thread_at (last_site chain before left after) (naming_pair x fresh ∷ ([] ++ fresh_pair x fresh ∷ []))) (λ z. z) (λ d. d)
+        → IsWritableChange t.disk (thread_at (last_site chain before left after) (x ∷ [])) disk (thread_at (last_site chain before left after) (naming_pair x fresh ∷ ([] ++ fresh_pair x fresh ∷ []))) (λ z. z) (λ d. d)
     first_taken disk step = beside_taken t.disk disk chain before left after x y [] f x.content.slots [] [] [] put_there (fresh.0 ∷ fresh.1 ∷ []) [] (λ z. z) (λ d. d) step P a leads same
         (threaded t.disk disk chain before left after x [] y [] f (fresh.0 ∷ fresh.1 ∷ []) x.content.slots [] step P a leads same sync_now)
 
     -- the directory has the entries that it had
     pub entries_still : (disk : Disk) → IsThreading t.disk disk chain before left after x fresh
-        → entries_by_directory_in_thread (thread_at (last_site chain before left after) (naming_pair x fresh ∷ ([] ++ fresh_pair x fresh ∷ []))) a ≡ entries_by_directory_in_thread (thread_at (last_site chain before left after) (x ∷ [])) a
+        → all_entries (thread_at (last_site chain before left after) (naming_pair x fresh ∷ ([] ++ fresh_pair x fresh ∷ []))) a ≡ all_entries (thread_at (last_site chain before left after) (x ∷ [])) a
     entries_still disk step =
         other_entries t.disk disk chain before left after x [] y [] f (fresh.0 ∷ fresh.1 ∷ []) [] x.content.slots [] [] [] step P a leads same a
-        ∙ put_at (entries_by_directory_in_thread (thread_at w (x ∷ []))) a (shown_before w x.content.slots ++ ([] ++ shown_behind w [])) a (pair_itself a)
+        ∙ put_at (all_entries (thread_at w (x ∷ []))) a (shown_before w x.content.slots ++ ([] ++ shown_behind w [])) a (pair_itself a)
         ∙ sym (own_entries t.disk disk chain before left after x [] y [] f (fresh.0 ∷ fresh.1 ∷ []) [] x.content.slots [] [] [] step P a leads same)
 
     -- a stop leaves the tree from before it
-    pub left_threading : (left_blocks : Blocks) (tree : Tree) → PowerLossLeavesPairOldOrThreadedIn (with_map t (map_with_two_blocks_in_flight t.map fresh)) last fresh (changes_threading_new_pair t last fresh) left_blocks
-        → HasTreeBeforeOrAfterOperation (disk_with_blocks left_blocks t.disk) (tree_on_disk t.disk t.pairs) tree
+    pub left_threading : (left_blocks : Blocks) (tree : Tree) → LossLeavesThreadedIn (with_map t (map_taking_two t.map fresh)) last fresh (threading_changes t last fresh) left_blocks
+        → HasEither (with_blocks left_blocks t.disk) (tree_on_disk t.disk t.pairs) tree
     left_threading blocks tree is = go is.content
       where
         disk : Disk
-        disk = disk_with_blocks blocks t.disk
+        disk = with_blocks blocks t.disk
 
-        shape : HasSameGeometry t.disk (disk_with_blocks blocks t.disk)
+        shape : SameGeometryAs t.disk (with_blocks blocks t.disk)
         shape = record { block_size = refl; page = refl; order = refl; profile = refl; count = is.others.count }
 
-        go : HasPairOldContentOnDisk held last (disk_with_blocks blocks t.disk) ⊎ IsFreshPairThreadedInOnDisk held last fresh (changes_threading_new_pair t last fresh) (disk_with_blocks blocks t.disk) → HasTreeBeforeOrAfterOperation (disk_with_blocks blocks t.disk) (tree_on_disk t.disk t.pairs) tree
+        go : HasOldPair held last (with_blocks blocks t.disk) ⊎ ThreadedInOnDisk held last fresh (threading_changes t last fresh) (with_blocks blocks t.disk) → HasEither (with_blocks blocks t.disk) (tree_on_disk t.disk t.pairs) tree
         go (inl b) = left_still t.disk blocks (thread_at w (x ∷ [])) accepted_there writable_there
-            (device t.disk (disk_with_blocks blocks t.disk) w x x [] (fresh.0 ∷ fresh.1 ∷ []) accepted_there distinct (placed_still t last w x e.there e.place (disk_with_blocks blocks t.disk) fresh shape is.others (record { holds = b.holds; first = b.first })))
+            (device t.disk (with_blocks blocks t.disk) w x x [] (fresh.0 ∷ fresh.1 ∷ []) accepted_there distinct (placed_still t last w x e.there e.place (with_blocks blocks t.disk) fresh shape is.others (record { holds = b.holds; first = b.first })))
             (inl (ap (tree_on_disk t.disk) (sym e.there)))
         go (inr j) =
             let at = at_is t last w x e.there e.place in
             let c = made_same j.content j.made in
-            let step = step_from (disk_with_blocks blocks t.disk) (placed_from (disk_with_blocks blocks t.disk) shape is.others (ap (content_of_pair_at (disk_with_blocks blocks t.disk)) (sym at) ∙ j.holds ∙ ap (λ (z : PairContent). Some z) c)
-            (j.behind ∙ ap (λ (z : Pair). Some z.content) behind_is) (subst (λ (z : PairContent). KeepsSuperblockEntryFirstInLog t.disk (thread_pair_at_index t last).at z (disk_with_blocks blocks t.disk)) c j.first)) in
-            subst (λ z. HasTreeBeforeOrAfterOperation (disk_with_blocks blocks t.disk) (tree_on_disk t.disk z) tree) (sym e.there)
-            (taken_before t.disk (thread_at w (x ∷ [])) (disk_with_blocks blocks t.disk) (thread_at w (y ∷ ([] ++ f ∷ []))) (λ d. d) tree (first_taken (disk_with_blocks blocks t.disk) step))
+            let step = step_from (with_blocks blocks t.disk) (placed_from (with_blocks blocks t.disk) shape is.others (ap (content_at (with_blocks blocks t.disk)) (sym at) ∙ j.holds ∙ ap (λ (z : PairContent). Some z) c)
+            (j.behind ∙ ap (λ (z : Pair). Some z.content) behind_is) (subst (λ (z : PairContent). KeepsSuperblockFirst t.disk (thread_pair_at t last).at z (with_blocks blocks t.disk)) c j.first)) in
+            subst (λ z. HasEither (with_blocks blocks t.disk) (tree_on_disk t.disk z) tree) (sym e.there)
+            (taken_before t.disk (thread_at w (x ∷ [])) (with_blocks blocks t.disk) (thread_at w (y ∷ ([] ++ f ∷ []))) (λ d. d) tree (first_taken (with_blocks blocks t.disk) step))

@@ -1,21 +1,21 @@
 -- A rename across pairs, of two steps: where the old pair stands between them, and what the operation comes to.
 use Rattle.std.proofs.Common.{ℕ, ◌≡◌, ◌+◌, ◌<◌, ◌⊎◌, inl, inr, Bool, true, false, List, [], ◌∷◌, ◌++◌, length, Option, Some, None, refl, sym, ap, subst, ◌∙◌, arith, append_assoc, length-append}
 use Rattle.std.specs.Prelude.{is_some}
-use Rattle.lfs_operations.proofs.Common.{Disk, Name, Slot, gstate_xor, zero_gstate, pair_with_slots, slot_of_path, Pair, gstate_of_pairs, is_hard_tail, pair_count_before_root, Path, last_name_of_path, tree_after_rename, Session, path_of_bytes_or_root, IsAcceptedImage, IsWritableImage, tree_on_disk, ArePairsWithSameAddressesAndSlots, Became, IsImageAfterTreeChange, IsImageAfterCompletedOperation, onward_all, IsNoDirectory, target_slots, Site, thread_at, IsWritableImageAfterTreeChange, OldStays, two, from_old, ends_in_hard_tail}
-use Rattle.lfs_model.specs.Operations as ops
-use Rattle.lfs_model.proofs.Laws.{DirectoryAddressByPath}
+use Rattle.lfs_operations.proofs.Common.{Disk, Name, Slot, gstate_xor, zero_gstate, pair_with_slots, slot_of, Pair, pairs_gstate, is_hard_tail, pair_count_before_root, Path, last_name, tree_renaming, Session, path_or_root, IsAccepted, IsWritable, tree_on_disk, SameSlots, Became, IsChangedImage, IsCompletion, onward_all, IsNoDirectory, target_slots, Site, thread_at, IsWritableChange, OldStays, two, from_old, ends_joined}
+use Rattle.lfs_model.specs.session.Operations as ops
+use Rattle.lfs_model.proofs.Laws.{PathAddresses}
 use Rattle.lfs_model.proofs.RenamedAcross.{IsRenameAcross, across_completed}
 use Rattle.lfs_operations.proofs.MovPlaces.{InTurn, ahead, behind}
 use Rattle.lfs_operations.proofs.MovSet.{HasTurned, IsSetting, turns}
-use Rattle.lfs_operations.specs.MoveEnds.{gstate_naming_moved_slot}
+use Rattle.lfs_operations.specs.MoveEnds.{gstate_naming}
 use Rattle.lfs_operations.proofs.RmdirPlaces.{flag_from}
 
-pub flag_append : (b : Bool) (xs ys : List Pair) → ends_in_hard_tail b (xs ++ ys) ≡ ends_in_hard_tail (ends_in_hard_tail b xs) ys
+pub flag_append : (b : Bool) (xs ys : List Pair) → ends_joined b (xs ++ ys) ≡ ends_joined (ends_joined b xs) ys
 flag_append b [] ys = refl
 flag_append b (x ∷ xs) ys = flag_append (is_hard_tail x.content.tail) xs ys
 
 -- a hard tail leads on from what a pair became where one leads on from the pair
-pub flag_became : (disk : Disk) (p d q : Pair) (more : List Pair) (b : Bool) → Became disk p d q more → ends_in_hard_tail b (q ∷ more) ≡ ends_in_hard_tail b (p ∷ [])
+pub flag_became : (disk : Disk) (p d q : Pair) (more : List Pair) (b : Bool) → Became disk p d q more → ends_joined b (q ∷ more) ≡ ends_joined b (p ∷ [])
 flag_became disk p d q [] b h = ap is_hard_tail h.0
 flag_became disk p d q (f ∷ []) b h = ap is_hard_tail h.1
 flag_became disk p d q (f ∷ g ∷ more) b h = absurd h
@@ -33,8 +33,8 @@ pub record Arranged (disk : Disk) (wo : Site) (o : Pair) (w : Site) (p q : Pair)
   pub cut : (zs : List Pair) → two b front zs mid (q ∷ more) back ≡ pre ++ (zs ++ post)
   pub number : ((length (wo.before ++ wo.left) < length (w.before ++ w.left)) × (length pre ≡ length (wo.before ++ wo.left)))
       ⊎ ((length (w.before ++ w.left) < length (wo.before ++ wo.left)) × (length pre ≡ length (wo.before ++ wo.left) + length more))
-  pub from : is_some (from_old b front mid p) ≡ ends_in_hard_tail false (wo.before ++ wo.left)
-  pub led : ends_in_hard_tail false pre ≡ ends_in_hard_tail false (wo.before ++ wo.left)
+  pub from : is_some (from_old b front mid p) ≡ ends_joined false (wo.before ++ wo.left)
+  pub led : ends_joined false pre ≡ ends_joined false (wo.before ++ wo.left)
 
 pub arranged : (disk : Disk) (wo : Site) (o : Pair) (w : Site) (p d q : Pair) (more : List Pair) → Became disk p d q more
     → InTurn (w.before ++ w.left) p (w.right ++ w.after) (wo.before ++ wo.left) o (wo.right ++ wo.after) → Arranged disk wo o w p q more
@@ -72,10 +72,10 @@ arranged disk wo o w p d q more became (behind mid e f) =
         (let g = ap length f in let h = length-append front (p ∷ mid) in omega arith),
         (let g = ap length f in let h = length-append front (p ∷ mid) in let i = length-append front (q ∷ more ++ mid) in let j = length-append (q ∷ more) mid in omega arith),
       );
-      from = flag_from (onward_all (onward_all None front) (p ∷ [])) mid ∙ ap (λ b. ends_in_hard_tail b mid) (flag_from (onward_all None front) (p ∷ []))
-          ∙ sym (ap (ends_in_hard_tail false) f ∙ flag_append false front (p ∷ mid));
-      led = flag_append false front (q ∷ more ++ mid) ∙ flag_append (ends_in_hard_tail false front) (q ∷ more) mid ∙ ap (λ b. ends_in_hard_tail b mid) (flag_became disk p d q more (ends_in_hard_tail false front) became)
-          ∙ sym (ap (ends_in_hard_tail false) f ∙ flag_append false front (p ∷ mid));
+      from = flag_from (onward_all (onward_all None front) (p ∷ [])) mid ∙ ap (λ b. ends_joined b mid) (flag_from (onward_all None front) (p ∷ []))
+          ∙ sym (ap (ends_joined false) f ∙ flag_append false front (p ∷ mid));
+      led = flag_append false front (q ∷ more ++ mid) ∙ flag_append (ends_joined false front) (q ∷ more) mid ∙ ap (λ b. ends_joined b mid) (flag_became disk p d q more (ends_joined false front) became)
+          ∙ sym (ap (ends_joined false) f ∙ flag_append false front (p ∷ mid));
     }
   where
     cut_at : (xs ys zs us vs : List Pair) → xs ++ (ys ++ (zs ++ (us ++ vs))) ≡ (xs ++ (ys ++ zs)) ++ (us ++ vs)
@@ -83,27 +83,27 @@ arranged disk wo o w p d q more became (behind mid e f) =
 
 module _ (disk middle new : Disk) (wo : Site) (o : Pair) (lo : List Slot) (u : Slot) (ro : List Slot) (w : Site) (p : Pair) (l : List Slot) (target : Option Slot) (v : Slot) (r : List Slot)
     (k : IsSetting disk wo o lo u ro w p l (target_slots target) v r) (q : Pair) (more : List Pair)
-    (sync : Bool) (x : HasTurned disk w p (l ++ v ∷ r) (gstate_xor (gstate_naming_moved_slot sync o.at (length lo)) p.content.move) middle q more) where
+    (sync : Bool) (x : HasTurned disk w p (l ++ v ∷ r) (gstate_xor (gstate_naming sync o.at (length lo)) p.content.move) middle q more) where
   abbrev pub arrangement : Arranged disk wo o w p q more
   arrangement = arranged disk wo o w p (pair_with_slots (l ++ v ∷ r) p) q more x.became (turns disk wo o lo u ro w p l (target_slots target) v r k)
 
   -- the whole operation; of the old pair os is left
-  module _ (name : Name) (same_slot : v ≡ record u { name = name }) (old_path new_path : Path) (walk : DirectoryAddressByPath → DirectoryAddressByPath)
-      (first : IsImageAfterTreeChange disk (thread_at w (p ∷ [])) middle (thread_at w (q ∷ more)) (tree_after_rename old_path new_path) walk)
+  module _ (name : Name) (same_slot : v ≡ record u { name = name }) (old_path new_path : Path) (walk : PathAddresses → PathAddresses)
+      (first : IsChangedImage disk (thread_at w (p ∷ [])) middle (thread_at w (q ∷ more)) (tree_renaming old_path new_path) walk)
       (os rs : List Pair) (stays : OldStays (from_old arrangement.b arrangement.front arrangement.mid p) o (lo ++ ro) os)
-      (alike : ArePairsWithSameAddressesAndSlots (w.chain ++ (arrangement.pre ++ (os ++ arrangement.post))) rs)
-      (second : IsWritableImageAfterTreeChange middle (thread_at w (q ∷ more)) new rs (λ t. t) (λ d. d)) (state : gstate_of_pairs rs ≡ zero_gstate)
-      (from_slot : slot_of_path (thread_at w (p ∷ [])) old_path ≡ Some u) (to_slot : slot_of_path (thread_at w (p ∷ [])) new_path ≡ target) (to_name : last_name_of_path new_path ≡ name)
+      (alike : SameSlots (w.chain ++ (arrangement.pre ++ (os ++ arrangement.post))) rs)
+      (second : IsWritableChange middle (thread_at w (q ∷ more)) new rs (λ t. t) (λ d. d)) (state : pairs_gstate rs ≡ zero_gstate)
+      (from_slot : slot_of (thread_at w (p ∷ [])) old_path ≡ Some u) (to_slot : slot_of (thread_at w (p ∷ [])) new_path ≡ target) (to_name : last_name new_path ≡ name)
       (file : IsNoDirectory target) where
     is_across : IsRenameAcross disk middle new (thread_at w (q ∷ more)) rs arrangement.b w.chain arrangement.front arrangement.mid arrangement.back o p q os more lo u ro l target r old_path new_path name
     is_across = record {
       is_chain = sym (ap pair_count_before_root arrangement.old_is) ∙ k.site.chain;
-      accepted = subst (IsAcceptedImage disk) arrangement.old_is k.accepted;
-      writable = subst (IsWritableImage disk) arrangement.old_is k.writable;
-      settled = sym (ap gstate_of_pairs arrangement.old_is) ∙ k.settled;
+      accepted = subst (IsAccepted disk) arrangement.old_is k.accepted;
+      writable = subst (IsWritable disk) arrangement.old_is k.writable;
+      settled = sym (ap pairs_gstate arrangement.old_is) ∙ k.settled;
       still = state;
       walk = walk;
-      first = subst (λ z. IsImageAfterTreeChange disk z middle (thread_at w (q ∷ more)) (tree_after_rename old_path new_path) walk) arrangement.old_is first;
+      first = subst (λ z. IsChangedImage disk z middle (thread_at w (q ∷ more)) (tree_renaming old_path new_path) walk) arrangement.old_is first;
       second = second.follows;
       still_writable = second.writable;
       held = k.held;
@@ -112,15 +112,15 @@ module _ (disk middle new : Disk) (wo : Site) (o : Pair) (lo : List Slot) (u : S
       is = x.is ∙ ap (λ z. l ++ z ∷ r) same_slot;
       became = subst (λ z. Became disk p (pair_with_slots (l ++ z ∷ r) p) q more) same_slot x.became;
       stays = stays;
-      alike = subst (λ z. ArePairsWithSameAddressesAndSlots (w.chain ++ z) rs) (sym (arrangement.cut os)) alike;
-      from_slot = sym (ap (λ z. slot_of_path z old_path) arrangement.old_is) ∙ from_slot;
-      to_slot = sym (ap (λ z. slot_of_path z new_path) arrangement.old_is) ∙ to_slot;
+      alike = subst (λ z. SameSlots (w.chain ++ z) rs) (sym (arrangement.cut os)) alike;
+      from_slot = sym (ap (λ z. slot_of z old_path) arrangement.old_is) ∙ from_slot;
+      to_slot = sym (ap (λ z. slot_of z new_path) arrangement.old_is) ∙ to_slot;
       to_name = to_name;
       file = file;
     }
 
-    pub completed : (s : Session) (old_bytes new_bytes : List ℕ) → s.tree ≡ tree_on_disk disk (thread_at w (p ∷ [])) → path_of_bytes_or_root old_bytes ≡ old_path → path_of_bytes_or_root new_bytes ≡ new_path
-        → IsImageAfterCompletedOperation disk (thread_at w (p ∷ [])) s (ops.Rename old_bytes new_bytes) new rs
-    completed s old_bytes new_bytes tree old_as new_as = subst (λ z. IsImageAfterCompletedOperation disk z s (ops.Rename old_bytes new_bytes) new rs) (sym arrangement.old_is)
+    pub completed : (s : Session) (old_bytes new_bytes : List ℕ) → s.tree ≡ tree_on_disk disk (thread_at w (p ∷ [])) → path_or_root old_bytes ≡ old_path → path_or_root new_bytes ≡ new_path
+        → IsCompletion disk (thread_at w (p ∷ [])) s (ops.Rename old_bytes new_bytes) new rs
+    completed s old_bytes new_bytes tree old_as new_as = subst (λ z. IsCompletion disk z s (ops.Rename old_bytes new_bytes) new rs) (sym arrangement.old_is)
         (across_completed disk middle new (thread_at w (q ∷ more)) rs arrangement.b w.chain arrangement.front arrangement.mid arrangement.back o p q os more lo u ro l target r old_path new_path name is_across
         s old_bytes new_bytes (tree ∙ ap (tree_on_disk disk) arrangement.old_is) old_as new_as)

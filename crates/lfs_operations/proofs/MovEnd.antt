@@ -1,6 +1,6 @@
 -- A set move ends: the slot that it hides goes.
 use Rattle.std.proofs.Common.{ℕ, ◌≡◌, ◌≢◌, ◌+◌, true, false, cond, nat_eq, ◌&&◌, List, [], ◌∷◌, ◌++◌, length, refl, sym, ap, ap₂, subst, ◌∙◌, arith, flat_map, append_assoc, append-nil, remove}
-use Rattle.lfs_operations.proofs.Common.{IsDistinct, flat_map-append, recursion_from_All, Disk, Slot, Gstate, is_superblock, same_pair, gstate_xor, pair_with_slots, pairs_without_moved_slot, Pair, blocks_of_pairs, gstate_of_pairs, starts_with_superblock, slots_not_moved, is_hard_tail, pair_count_before_root, directories_in_thread, used_blocks, all_slots_not_moved, gstate_kind_of_set_move, IsAcceptedImage, IsWritableImage, became_front, became_shape, slots_files, chain_now, Each, each_append, each_left, each_right, each_weaker, occurrence_count_of_number, count_append, HasSameFileBlocksOfStructOnDisks, HasNoMove, gstate_cons, gstate_right, flip_false, remove_here, pair_back, IsMoveEnd, move_ends, site_gstate_moved, unmoved_elsewhere, end_change, avoids_front, avoids_behind, Site, thread_at, IsSite, slots_of_pairs_in_order, file_blocks_of_slots, unmoved_in, IsWritableImageAfterTreeChange, IsPut, ends_in_hard_tail, addresses_of_first_pairs_of_directories}
+use Rattle.lfs_operations.proofs.Common.{IsDistinct, flat_map-append, recursion_from_All, Disk, Slot, Gstate, is_superblock, same_pair, gstate_xor, pair_with_slots, pairs_without_moved, Pair, blocks_of_pairs, pairs_gstate, starts_superblock, slots_not_moved, is_hard_tail, pair_count_before_root, all_directories, used_blocks, all_slots_not_moved, set_move_kind, IsAccepted, IsWritable, became_front, became_shape, slots_files, chain_now, Each, each_append, each_left, each_right, each_weaker, number_count, count_append, SameFileBlocks, HasNoMove, gstate_cons, gstate_right, flip_false, remove_here, pair_back, IsMoveEnd, move_ends, site_gstate_moved, unmoved_elsewhere, end_change, avoids_front, avoids_behind, Site, thread_at, IsSite, all_slots, file_blocks, unmoved_in, IsWritableChange, IsPut, ends_joined, first_pair_addresses}
 use Rattle.std.specs.Int.Bits.{xor_self}
 use Rattle.lfs_model.proofs.StepsTaken.{end_taken}
 use Rattle.lfs_operations.specs.MoveEnds.{gstate_without_sync}
@@ -18,12 +18,12 @@ move_out g = λ j. record { sync = g.sync; kind = xor_self g.kind j; id = xor_se
 -- where no file is visible but those that were: those that it used, with the pair's new blocks in place of the old
 module _ (disk new : Disk) (w : Site) (p : Pair) (mids : List Pair) (q : Pair) (l : List Slot) (u : Slot) (r : List Slot) (k : IsMoveEnd disk new w p mids q [] l u r) where
   abbrev G : Gstate
-  G = gstate_of_pairs (thread_at w (p ∷ mids))
+  G = pairs_gstate (thread_at w (p ∷ mids))
 
   abbrev Apart : Pair → Type 0
-  Apart s = same_pair (gstate_of_pairs (thread_at w (p ∷ mids))).pair s.at ≡ false
+  Apart s = same_pair (pairs_gstate (thread_at w (p ∷ mids))).pair s.at ≡ false
 
-  hidden_none : (ss : List Pair) → Each Apart ss → flat_map (slots_not_moved G) ss ≡ slots_of_pairs_in_order ss
+  hidden_none : (ss : List Pair) → Each Apart ss → flat_map (slots_not_moved G) ss ≡ all_slots ss
   hidden_none [] h = refl
   hidden_none (s ∷ ss) h = ap₂ (λ x y. x ++ y) (unmoved_elsewhere G s h.0) (hidden_none ss h.1)
 
@@ -45,50 +45,50 @@ module _ (disk new : Disk) (w : Site) (p : Pair) (mids : List Pair) (q : Pair) (
   end_chain = chain_now disk new w.chain (w.before ++ w.left) p mids q [] (w.right ++ w.after) [] k.site.chain k.accepted (end_change disk new w p mids q [] l u r k)
 
   visible_same : all_slots_not_moved (thread_at w (q ∷ [])) ≡ all_slots_not_moved (thread_at w (p ∷ mids))
-  visible_same = unmoved_in (gstate_of_pairs (thread_at w (q ∷ []))) k.still_none (thread_at w (q ∷ [])) ∙ slots_three (λ s. s.content.slots) (q ∷ [])
-      ∙ ap₂ (λ a z. a ++ (slots_of_pairs_in_order (w.before ++ w.left) ++ z)) (sym (hidden_none w.chain far_chain))
+  visible_same = unmoved_in (pairs_gstate (thread_at w (q ∷ []))) k.still_none (thread_at w (q ∷ [])) ∙ slots_three (λ s. s.content.slots) (q ∷ [])
+      ∙ ap₂ (λ a z. a ++ (all_slots (w.before ++ w.left) ++ z)) (sym (hidden_none w.chain far_chain))
       (ap₂ (λ a z. a ++ z) (k.is ∙ sym k.hidden) (sym (hidden_none (w.right ++ w.after) far_after)))
       ∙ ap (λ z. flat_map (slots_not_moved G) w.chain ++ (z ++ (flat_map (slots_not_moved G) (p ∷ mids) ++ flat_map (slots_not_moved G) (w.right ++ w.after)))) (sym (hidden_none (w.before ++ w.left) far_before))
       ∙ sym (slots_three (slots_not_moved G) (p ∷ mids))
 
-  pub end_count : (b : ℕ) → occurrence_count_of_number b (used_blocks new (thread_at w (q ∷ []))) + occurrence_count_of_number b (blocks_of_pairs (p ∷ mids)) ≡ occurrence_count_of_number b (used_blocks disk (thread_at w (p ∷ mids))) + occurrence_count_of_number b (blocks_of_pairs (q ∷ []))
+  pub end_count : (b : ℕ) → number_count b (used_blocks new (thread_at w (q ∷ []))) + number_count b (blocks_of_pairs (p ∷ mids)) ≡ number_count b (used_blocks disk (thread_at w (p ∷ mids))) + number_count b (blocks_of_pairs (q ∷ []))
   end_count b =
-      let a1 = count_append b (blocks_of_pairs (thread_at w (q ∷ []))) (file_blocks_of_slots new (all_slots_not_moved (thread_at w (q ∷ [])))) in
-      let a2 = count_append b (blocks_of_pairs (thread_at w (p ∷ mids))) (file_blocks_of_slots disk (all_slots_not_moved (thread_at w (p ∷ mids)))) in
+      let a1 = count_append b (blocks_of_pairs (thread_at w (q ∷ []))) (file_blocks new (all_slots_not_moved (thread_at w (q ∷ [])))) in
+      let a2 = count_append b (blocks_of_pairs (thread_at w (p ∷ mids))) (file_blocks disk (all_slots_not_moved (thread_at w (p ∷ mids)))) in
       let b1 = count_pairs b w (q ∷ []) in
       let b2 = count_pairs b w (p ∷ mids) in
-      let same = ap (occurrence_count_of_number b) (slots_files disk new (all_slots_not_moved (thread_at w (p ∷ mids))) k.device.geometry
-      (recursion_from_All (λ (s : Slot). HasSameFileBlocksOfStructOnDisks disk new s.struct) (all_slots_not_moved (thread_at w (p ∷ mids))) k.device.files)) in
-      let f = ap (λ z. occurrence_count_of_number b (file_blocks_of_slots new z)) visible_same in
+      let same = ap (number_count b) (slots_files disk new (all_slots_not_moved (thread_at w (p ∷ mids))) k.device.geometry
+      (recursion_from_All (λ (s : Slot). SameFileBlocks disk new s.struct) (all_slots_not_moved (thread_at w (p ∷ mids))) k.device.files)) in
+      let f = ap (λ z. number_count b (file_blocks new z)) visible_same in
       omega arith
 
 -- so a recovery may go on, where the pair stays
-pub end_kin : (disk new : Disk) (w : Site) (p q : Pair) (l : List Slot) (u : Slot) (r : List Slot) → IsMoveEnd disk new w p [] q [] l u r → is_hard_tail q.content.tail ≡ is_hard_tail p.content.tail → AreKin (pairs_without_moved_slot (thread_at w (p ∷ []))) (thread_at w (q ∷ []))
-end_kin disk new w p q l u r k hard = subst (λ x. AreKin x (thread_at w (q ∷ []))) (sym (hidden_append (gstate_of_pairs (thread_at w (p ∷ []))) w.chain ((w.before ++ w.left) ++ p ∷ (w.right ++ w.after)) ∙ ap (λ x. hidden (gstate_of_pairs (thread_at w (p ∷ []))) w.chain ++ x) (hidden_append (gstate_of_pairs (thread_at w (p ∷ []))) (w.before ++ w.left) (p ∷ (w.right ++ w.after)))))
-    (kin_append (hidden (gstate_of_pairs (thread_at w (p ∷ []))) w.chain) (hidden (gstate_of_pairs (thread_at w (p ∷ []))) (w.before ++ w.left) ++ hidden (gstate_of_pairs (thread_at w (p ∷ []))) (p ∷ (w.right ++ w.after))) w.chain ((w.before ++ w.left) ++ q ∷ (w.right ++ w.after)) (hidden_far (gstate_of_pairs (thread_at w (p ∷ []))) w.chain (far_chain disk new w p [] q l u r k))
-    (kin_append (hidden (gstate_of_pairs (thread_at w (p ∷ []))) (w.before ++ w.left)) (hidden (gstate_of_pairs (thread_at w (p ∷ []))) (p ∷ (w.right ++ w.after))) (w.before ++ w.left) (q ∷ (w.right ++ w.after)) (hidden_far (gstate_of_pairs (thread_at w (p ∷ []))) (w.before ++ w.left) (far_before disk new w p [] q l u r k))
-    (record { at = k.shape.at; slots = sym (append-nil q.content.slots) ∙ k.is ∙ sym k.hidden ∙ append-nil (slots_not_moved (gstate_of_pairs (thread_at w (p ∷ []))) p); hard = hard }, hidden_far (gstate_of_pairs (thread_at w (p ∷ []))) (w.right ++ w.after) (far_after disk new w p [] q l u r k))))
+pub end_kin : (disk new : Disk) (w : Site) (p q : Pair) (l : List Slot) (u : Slot) (r : List Slot) → IsMoveEnd disk new w p [] q [] l u r → is_hard_tail q.content.tail ≡ is_hard_tail p.content.tail → AreKin (pairs_without_moved (thread_at w (p ∷ []))) (thread_at w (q ∷ []))
+end_kin disk new w p q l u r k hard = subst (λ x. AreKin x (thread_at w (q ∷ []))) (sym (hidden_append (pairs_gstate (thread_at w (p ∷ []))) w.chain ((w.before ++ w.left) ++ p ∷ (w.right ++ w.after)) ∙ ap (λ x. hidden (pairs_gstate (thread_at w (p ∷ []))) w.chain ++ x) (hidden_append (pairs_gstate (thread_at w (p ∷ []))) (w.before ++ w.left) (p ∷ (w.right ++ w.after)))))
+    (kin_append (hidden (pairs_gstate (thread_at w (p ∷ []))) w.chain) (hidden (pairs_gstate (thread_at w (p ∷ []))) (w.before ++ w.left) ++ hidden (pairs_gstate (thread_at w (p ∷ []))) (p ∷ (w.right ++ w.after))) w.chain ((w.before ++ w.left) ++ q ∷ (w.right ++ w.after)) (hidden_far (pairs_gstate (thread_at w (p ∷ []))) w.chain (far_chain disk new w p [] q l u r k))
+    (kin_append (hidden (pairs_gstate (thread_at w (p ∷ []))) (w.before ++ w.left)) (hidden (pairs_gstate (thread_at w (p ∷ []))) (p ∷ (w.right ++ w.after))) (w.before ++ w.left) (q ∷ (w.right ++ w.after)) (hidden_far (pairs_gstate (thread_at w (p ∷ []))) (w.before ++ w.left) (far_before disk new w p [] q l u r k))
+    (record { at = k.shape.at; slots = sym (append-nil q.content.slots) ∙ k.is ∙ sym k.hidden ∙ append-nil (slots_not_moved (pairs_gstate (thread_at w (p ∷ []))) p); hard = hard }, hidden_far (pairs_gstate (thread_at w (p ∷ []))) (w.right ++ w.after) (far_after disk new w p [] q l u r k))))
 
 -- ---- the slot goes
 
 -- The move hides the slot u of the pair at the site, which keeps another where a hard tail leads to it.
 pub record IsEnding (disk : Disk) (w : Site) (p : Pair) (l : List Slot) (u : Slot) (r : List Slot) : Type 0 where
-  pub accepted : IsAcceptedImage disk (thread_at w (p ∷ []))
-  pub writable : IsWritableImage disk (thread_at w (p ∷ []))
+  pub accepted : IsAccepted disk (thread_at w (p ∷ []))
+  pub writable : IsWritable disk (thread_at w (p ∷ []))
   pub site : IsSite w (p ∷ [])
-  pub kind : (gstate_of_pairs (thread_at w (p ∷ []))).kind ≡ gstate_kind_of_set_move
-  pub pair : same_pair (gstate_of_pairs (thread_at w (p ∷ []))).pair p.at ≡ true
-  pub id : (gstate_of_pairs (thread_at w (p ∷ []))).id ≡ length l
+  pub kind : (pairs_gstate (thread_at w (p ∷ []))).kind ≡ set_move_kind
+  pub pair : same_pair (pairs_gstate (thread_at w (p ∷ []))).pair p.at ≡ true
+  pub id : (pairs_gstate (thread_at w (p ∷ []))).id ≡ length l
   pub held : p.content.slots ≡ l ++ u ∷ r
   pub other : is_superblock u ≡ false
-  pub filled : ends_in_hard_tail false (w.before ++ w.left) ≡ true → l ++ r ≢ []
+  pub filled : ends_joined false (w.before ++ w.left) ≡ true → l ++ r ≢ []
 
 module _ (disk : Disk) (w : Site) (p : Pair) (l : List Slot) (u : Slot) (r : List Slot) (k : IsEnding disk w p l u r) where
   abbrev ps : List Pair
   ps = thread_at w (p ∷ [])
 
   abbrev g : Gstate
-  g = gstate_of_pairs ps
+  g = pairs_gstate ps
 
   abbrev ahead : List Pair
   ahead = w.before ++ w.left
@@ -97,7 +97,7 @@ module _ (disk : Disk) (w : Site) (p : Pair) (l : List Slot) (u : Slot) (r : Lis
   back = w.right ++ w.after
 
   abbrev Far : Pair → Type 0
-  Far s = same_pair (gstate_of_pairs (thread_at w (p ∷ []))).pair s.at ≡ false
+  Far s = same_pair (pairs_gstate (thread_at w (p ∷ []))).pair s.at ≡ false
 
   grouped : thread_at w (p ∷ []) ≡ (w.chain ++ ahead) ++ p ∷ back
   grouped = sym (append_assoc w.chain ahead (p ∷ back))
@@ -105,8 +105,8 @@ module _ (disk : Disk) (w : Site) (p : Pair) (l : List Slot) (u : Slot) (r : Lis
   distinct_there : IsDistinct nat_eq (blocks_of_pairs ((w.chain ++ ahead) ++ p ∷ back))
   distinct_there = subst (λ z. IsDistinct nat_eq (blocks_of_pairs z)) grouped k.accepted.thread.distinct
 
-  flipped : (ss : List Pair) → Each (λ s. same_pair s.at (gstate_of_pairs (thread_at w (p ∷ []))).pair ≡ false) ss → Each Far ss
-  flipped ss h = each_weaker (λ s. same_pair s.at (gstate_of_pairs (thread_at w (p ∷ []))).pair ≡ false) Far (λ s e. flip_false s.at g.pair e) ss h
+  flipped : (ss : List Pair) → Each (λ s. same_pair s.at (pairs_gstate (thread_at w (p ∷ []))).pair ≡ false) ss → Each Far ss
+  flipped ss h = each_weaker (λ s. same_pair s.at (pairs_gstate (thread_at w (p ∷ []))).pair ≡ false) Far (λ s e. flip_false s.at g.pair e) ss h
 
   far_front : Each Far (w.chain ++ ahead)
   far_front = flipped (w.chain ++ ahead) (avoids_front (w.chain ++ ahead) p back g.pair distinct_there (pair_back g.pair p.at k.pair))
@@ -117,21 +117,21 @@ module _ (disk : Disk) (w : Site) (p : Pair) (l : List Slot) (u : Slot) (r : Lis
   hides : slots_not_moved g p ≡ l ++ r
   hides = ap₂ (λ k b. cond (nat_eq k 0x4ff && b) (remove p.content.slots g.id) p.content.slots) k.kind k.pair ∙ ap₂ (λ s i. remove s i) k.held k.id ∙ remove_here l r u
 
-  module _ (new : Disk) (q : Pair) (x : HasTurned disk w p (l ++ r) (gstate_xor (gstate_without_sync (gstate_of_pairs (thread_at w (p ∷ [])))) p.content.move) new q []) where
+  module _ (new : Disk) (q : Pair) (x : HasTurned disk w p (l ++ r) (gstate_xor (gstate_without_sync (pairs_gstate (thread_at w (p ∷ [])))) p.content.move) new q []) where
     abbrev qs : List Pair
     qs = thread_at w (q ∷ [])
 
-    pub ended_state : gstate_of_pairs qs ≡ gstate_without_move (gstate_of_pairs ps)
+    pub ended_state : pairs_gstate qs ≡ gstate_without_move (pairs_gstate ps)
     ended_state = site_gstate_moved (gstate_without_sync g) w (p ∷ []) (q ∷ [])
         (x.delta ∙ ap (gstate_xor (gstate_without_sync g)) (sym (gstate_cons p [] ∙ gstate_right p.content.move)))
         ∙ move_out g
 
-    still_none : HasNoMove (gstate_of_pairs qs)
+    still_none : HasNoMove (pairs_gstate qs)
     still_none = record { kind = ap (λ (z : Gstate). z.kind) ended_state; id = ap (λ (z : Gstate). z.id) ended_state; pair = ap (λ (z : Gstate). z.pair) ended_state }
 
-    front_kept : (l : List Slot) → (slots : List Slot) → slots ≡ l ++ u ∷ r → starts_with_superblock slots ≡ true → starts_with_superblock (l ++ r) ≡ true
-    front_kept [] slots e h = absurd (let z = sym h ∙ ap starts_with_superblock e ∙ k.other in cc)
-    front_kept (s ∷ l) slots e h = sym (ap starts_with_superblock e) ∙ h
+    front_kept : (l : List Slot) → (slots : List Slot) → slots ≡ l ++ u ∷ r → starts_superblock slots ≡ true → starts_superblock (l ++ r) ≡ true
+    front_kept [] slots e h = absurd (let z = sym h ∙ ap starts_superblock e ∙ k.other in cc)
+    front_kept (s ∷ l) slots e h = sym (ap starts_superblock e) ∙ h
 
     pub end_step : IsMoveEnd disk new w p [] q [] l u r
     end_step = record {
@@ -150,22 +150,22 @@ module _ (disk : Disk) (w : Site) (p : Pair) (l : List Slot) (u : Slot) (r : Lis
     end_put : IsPut disk w p q [] l (u ∷ []) [] r
     end_put = record { writable = k.writable; was = k.held; is = x.is; became = x.became; fit = tt; filled = k.filled }
 
-    pub ended : IsWritableImageAfterTreeChange disk (thread_at w (p ∷ [])) new (thread_at w (q ∷ [])) (λ t. t) (λ d. d)
+    pub ended : IsWritableChange disk (thread_at w (p ∷ [])) new (thread_at w (q ∷ [])) (λ t. t) (λ d. d)
     ended = end_taken disk new w p q [] l u r (λ t. t) (λ d. d) end_put end_step
         (move_ends disk new w p [] q [] l u r end_step (λ e. k.accepted.reached (sym (ap (λ (z : Gstate). z.sync) ended_state) ∙ e)))
 
     -- the directories begin where they did
-    pub ended_firsts : addresses_of_first_pairs_of_directories (directories_in_thread qs) ≡ addresses_of_first_pairs_of_directories (directories_in_thread ps)
+    pub ended_firsts : first_pair_addresses (all_directories qs) ≡ first_pair_addresses (all_directories ps)
     ended_firsts = end_firsts disk new w p [] q [] l u r end_step
 
     pub ended_chain : pair_count_before_root qs ≡ length w.chain
     ended_chain = end_chain disk new w p [] q l u r end_step
 
-    pub ended_kin : AreKin (pairs_without_moved_slot (thread_at w (p ∷ []))) (thread_at w (q ∷ []))
+    pub ended_kin : AreKin (pairs_without_moved (thread_at w (p ∷ []))) (thread_at w (q ∷ []))
     ended_kin = end_kin disk new w p q l u r end_step (ap is_hard_tail x.became.0)
 
-    pub ended_count : (b : ℕ) → occurrence_count_of_number b (used_blocks new qs) ≡ occurrence_count_of_number b (used_blocks disk ps)
+    pub ended_count : (b : ℕ) → number_count b (used_blocks new qs) ≡ number_count b (used_blocks disk ps)
     ended_count b =
         let e = end_count disk new w p [] q l u r end_step b in
-        let at = ap (λ (a : ℕ × ℕ). occurrence_count_of_number b (a.0 ∷ a.1 ∷ [])) x.at in
+        let at = ap (λ (a : ℕ × ℕ). number_count b (a.0 ∷ a.1 ∷ [])) x.at in
         omega arith

@@ -1,8 +1,8 @@
 -- The end of a set move where the pair goes with the slot, as a step of the thread.
 use Rattle.std.proofs.Common.{ℕ, ◌≡◌, ◌≢◌, ◌⊎◌, inl, inr, ◌-◌, true, false, List, [], ◌∷◌, ◌++◌, length, refl, sym, ap, ap₂, subst, ◌∙◌, arith, append-nil, length-append, remove, subst₂}
-use Rattle.lfs_operations.proofs.Common.{Disk, DeviceCallEvent, AreMoveStateFieldsWithinBitWidths, SurvivesPowerLossInCallsSince, PairContent, Gstate, Slot, same_pair, Pair, gstate_of_pairs, is_hard_tail, pair_count_before_root, IsAcceptedImage, IsWritableImage, directories_in_thread, tree_on_disk, used_blocks, ArePairsWithSameAddressesAndSlots, alike_append, alike_itself, occurrence_count_of_number, IsTrueAfterAnyPowerLossSince-weaker, HasSite, site_of_number, addresses_of_first_pairs_of_directories, IsTrueOfSomeElement, Site, among_left, among_parts, among_right, thread_at, IsWritableImageAfterTreeChange, ends_in_hard_tail, PowerLossLeavesSuchBlocksAfterCleanErases, KeptThread, IsPairWrittenOnDisk, empty_pair_at_anchor, thread_pair_at_index, block_map_with_freed_pair, HasNoMove}
-use Rattle.lfs_operations.specs.Dropping.{CanDropPairAt, IsNextPairDropped, IsLeftByStoppedPairDrop, content_after_next_pair_drop}
-use Rattle.lfs_operations.specs.MoveEnds.{CanEndMoveAt, HasEndedMoveAt, is_pair_named_by_hard_tail}
+use Rattle.lfs_operations.proofs.Common.{Disk, CallEvent, MoveStateFits, SurvivesLossSince, PairContent, Gstate, Slot, same_pair, Pair, pairs_gstate, is_hard_tail, pair_count_before_root, IsAccepted, IsWritable, all_directories, tree_on_disk, used_blocks, SameSlots, alike_append, alike_itself, number_count, HoldsAtLosses-weaker, HasSite, site_of_number, first_pair_addresses, HoldsOfSome, Site, among_left, among_parts, among_right, thread_at, IsWritableChange, ends_joined, LossLeavesCleanly, KeptThread, IsPairWritten, empty_anchor, thread_pair_at, map_freeing, HasNoMove}
+use Rattle.lfs_operations.specs.Dropping.{CanDropAt, IsPairDropped, LeftByDrop, content_after_drop}
+use Rattle.lfs_operations.specs.MoveEnds.{CanEndAt, HasEndedAt, follows_hard_tail_of}
 use Rattle.lfs_operations.proofs.Dropped.{IsToBeDropped, can_drop_pair, device_left, grouped, is, left_dropped, pairs_left, slots_left, state_left, tail_left}
 use Rattle.lfs_operations.proofs.DroppedTails.{remove_next}
 use Rattle.lfs_operations.proofs.MovEnding.{get_from, led_is}
@@ -13,10 +13,10 @@ use Rattle.lfs_operations.proofs.RemovedWhole.{only_slot, over_hard, StandsBehin
 use Rattle.lfs_operations.specs.EndingMove.{gstate_without_move}
 use Rattle.lfs_operations.proofs.RecoverBefore.{go_alike}
 
-sync_state : (g : Gstate) → AreMoveStateFieldsWithinBitWidths (gstate_without_move g)
+sync_state : (g : Gstate) → MoveStateFits (gstate_without_move g)
 sync_state g = record { kind = omega arith; id = omega arith; pair = (omega arith, omega arith) }
 
-module _ (t : KeptThread) (index id : ℕ) (can : CanEndMoveAt t index id true) where
+module _ (t : KeptThread) (index id : ℕ) (can : CanEndAt t index id true) where
   abbrev h : HasSite t.pairs index
   h = site_of_number t.disk t.pairs index can.accepted can.begins can.below
 
@@ -29,8 +29,8 @@ module _ (t : KeptThread) (index id : ℕ) (can : CanEndMoveAt t index id true) 
   abbrev u : Slot
   u = can.stands.slot
 
-  here : thread_pair_at_index t index ≡ o
-  here = get_from t.pairs index o empty_pair_at_anchor h.there
+  here : thread_pair_at t index ≡ o
+  here = get_from t.pairs index o empty_anchor h.there
 
   held : o.content.slots ≡ u ∷ []
   held =
@@ -48,11 +48,11 @@ module _ (t : KeptThread) (index id : ℕ) (can : CanEndMoveAt t index id true) 
 
   -- ---- the pair in front
 
-  led : ends_in_hard_tail false (v.before ++ v.left) ≡ true
-  led = sym (ap (λ z. is_pair_named_by_hard_tail z index) h.is ∙ led_is v o index h.is_site.chain h.number) ∙ (can.alone refl).0
+  led : ends_joined false (v.before ++ v.left) ≡ true
+  led = sym (ap (λ z. follows_hard_tail_of z index) h.is ∙ led_is v o index h.is_site.chain h.number) ∙ (can.alone refl).0
 
   some_left : v.left ≢ []
-  some_left none = absurd (let z = sym led ∙ ap (λ z. ends_in_hard_tail false (v.before ++ z)) none ∙ ap (ends_in_hard_tail false) (append-nil v.before) ∙ flag_ends v.before h.is_site.ends in cc)
+  some_left none = absurd (let z = sym led ∙ ap (λ z. ends_joined false (v.before ++ z)) none ∙ ap (ends_joined false) (append-nil v.before) ∙ flag_ends v.before h.is_site.ends in cc)
 
   before_it : StandsBehind t.pairs v o index
   before_it = stands_behind t.pairs v o index h.is h.is_site (sym h.number ∙ length-append v.chain (v.before ++ v.left)) some_left
@@ -66,47 +66,47 @@ module _ (t : KeptThread) (index id : ℕ) (can : CanEndMoveAt t index id true) 
   there : t.pairs ≡ thread_at w (x ∷ o ∷ [])
   there = before_it.there
 
-  dropping : IsToBeDropped t index (gstate_without_move (gstate_of_pairs t.pairs)) w x o
-  dropping = record { accepted = can.accepted; writable = can.writable; storable = sync_state (gstate_of_pairs t.pairs); there = there; number = before_it.number }
+  dropping : IsToBeDropped t index (gstate_without_move (pairs_gstate t.pairs)) w x o
+  dropping = record { accepted = can.accepted; writable = can.writable; storable = sync_state (pairs_gstate t.pairs); there = there; number = before_it.number }
 
-  pub can_drop_moved : CanDropPairAt t index (gstate_without_move (gstate_of_pairs t.pairs))
+  pub can_drop_moved : CanDropAt t index (gstate_without_move (pairs_gstate t.pairs))
   can_drop_moved = can_drop_pair dropping
 
   -- ---- what it leaves
 
   abbrev c : PairContent
-  c = content_after_next_pair_drop t (index - 1) (gstate_without_move (gstate_of_pairs t.pairs))
+  c = content_after_drop t (index - 1) (gstate_without_move (pairs_gstate t.pairs))
 
   abbrev q : Pair
   q = record { at = x.at; content = c }
 
   ending : IsEndingWhole t.disk w x o u
   ending = record {
-    accepted = subst (IsAcceptedImage t.disk) there can.accepted;
-    writable = subst (IsWritableImage t.disk) there can.writable;
+    accepted = subst (IsAccepted t.disk) there can.accepted;
+    writable = subst (IsWritable t.disk) there can.writable;
     site = before_it.site;
-    kind = sym (ap (λ z. (gstate_of_pairs z).kind) there) ∙ can.kind;
-    pair = ap₂ (λ z (y : Pair). same_pair (gstate_of_pairs z).pair y.at) (sym there) (sym here) ∙ can.named;
-    id = sym (ap (λ z. (gstate_of_pairs z).id) there) ∙ can.id_is ∙ first;
+    kind = sym (ap (λ z. (pairs_gstate z).kind) there) ∙ can.kind;
+    pair = ap₂ (λ z (y : Pair). same_pair (pairs_gstate z).pair y.at) (sym there) (sym here) ∙ can.named;
+    id = sym (ap (λ z. (pairs_gstate z).id) there) ∙ can.id_is ∙ first;
     held = held;
     other = can.stands.entry;
   }
 
-  over_on : (disk : Disk) → IsPairWrittenOnDisk t (index - 1) c disk → HasTakenOver t.disk w x o disk q
+  over_on : (disk : Disk) → IsPairWritten t (index - 1) c disk → HasTakenOver t.disk w x o disk q
   over_on disk written = record {
     at = refl;
     slots = slots_left dropping;
     tail = tail_left dropping ∙ over_hard x.content.tail o.content.tail before_it.hard;
-    state = state_left dropping ∙ ap (λ z. gstate_without_move (gstate_of_pairs z)) there;
+    state = state_left dropping ∙ ap (λ z. gstate_without_move (pairs_gstate z)) there;
     device = device_left dropping disk written;
   }
 
-  goes_on : (disk : Disk) → IsPairWrittenOnDisk t (index - 1) c disk → IsWritableImageAfterTreeChange t.disk (thread_at w (x ∷ o ∷ [])) disk (thread_at w (q ∷ [])) (λ t. t) (λ d. d)
+  goes_on : (disk : Disk) → IsPairWritten t (index - 1) c disk → IsWritableChange t.disk (thread_at w (x ∷ o ∷ [])) disk (thread_at w (q ∷ [])) (λ t. t) (λ d. d)
   goes_on disk written = whole_ended t.disk w x o u ending disk q (over_on disk written)
 
   -- the others stay
-  still_there : (z : Pair) → z.content.slots ≡ [] → is_hard_tail z.content.tail ≡ false → IsTrueOfSomeElement (λ y. y ≡ z) t.pairs → IsTrueOfSomeElement (λ y. y ≡ z) (thread_at w (q ∷ []))
-  still_there z none soft among = subst (IsTrueOfSomeElement (λ y. y ≡ z)) (sym (grouped dropping (q ∷ []))) (go (among_parts (λ y. y ≡ z) ahead (x ∷ o ∷ back) (subst (IsTrueOfSomeElement (λ y. y ≡ z)) (is dropping) among)))
+  still_there : (z : Pair) → z.content.slots ≡ [] → is_hard_tail z.content.tail ≡ false → HoldsOfSome (λ y. y ≡ z) t.pairs → HoldsOfSome (λ y. y ≡ z) (thread_at w (q ∷ []))
+  still_there z none soft among = subst (HoldsOfSome (λ y. y ≡ z)) (sym (grouped dropping (q ∷ []))) (go (among_parts (λ y. y ≡ z) ahead (x ∷ o ∷ back) (subst (HoldsOfSome (λ y. y ≡ z)) (is dropping) among)))
     where
       ahead : List Pair
       ahead = w.chain ++ (w.before ++ w.left)
@@ -114,45 +114,45 @@ module _ (t : KeptThread) (index id : ℕ) (can : CanEndMoveAt t index id true) 
       back : List Pair
       back = w.right ++ w.after
 
-      behind : IsTrueOfSomeElement (λ y. y ≡ z) (x ∷ o ∷ back) → IsTrueOfSomeElement (λ y. y ≡ z) (q ∷ back)
+      behind : HoldsOfSome (λ y. y ≡ z) (x ∷ o ∷ back) → HoldsOfSome (λ y. y ≡ z) (q ∷ back)
       behind (inl e) = absurd (let k = sym before_it.hard ∙ ap (λ (y : Pair). is_hard_tail y.content.tail) e ∙ soft in cc)
       behind (inr (inl e)) = absurd (let k = sym held ∙ ap (λ (y : Pair). y.content.slots) e ∙ none in cc)
       behind (inr (inr a)) = inr a
 
-      go : IsTrueOfSomeElement (λ y. y ≡ z) ahead ⊎ IsTrueOfSomeElement (λ y. y ≡ z) (x ∷ o ∷ back) → IsTrueOfSomeElement (λ y. y ≡ z) (ahead ++ q ∷ back)
+      go : HoldsOfSome (λ y. y ≡ z) ahead ⊎ HoldsOfSome (λ y. y ≡ z) (x ∷ o ∷ back) → HoldsOfSome (λ y. y ≡ z) (ahead ++ q ∷ back)
       go (inl a) = among_left (λ y. y ≡ z) ahead (q ∷ back) a
       go (inr a) = among_right (λ y. y ≡ z) ahead (q ∷ back) (behind a)
 
-  pub has_gone : (new : KeptThread) → IsNextPairDropped t (index - 1) (gstate_without_move (gstate_of_pairs t.pairs)) new → HasEndedMoveAt t index id true new
+  pub has_gone : (new : KeptThread) → IsPairDropped t (index - 1) (gstate_without_move (pairs_gstate t.pairs)) new → HasEndedAt t index id true new
   has_gone new d =
       let ahead = w.chain ++ (w.before ++ w.left) in
       let back = w.right ++ w.after in
       let pairs = pairs_left dropping new d in
       let over = over_on new.disk d.written in
-      let all = subst₂ (λ z qs. IsWritableImageAfterTreeChange t.disk z new.disk qs (λ t. t) (λ d. d)) (sym there) (sym pairs) (goes_on new.disk d.written) in
+      let all = subst₂ (λ z qs. IsWritableChange t.disk z new.disk qs (λ t. t) (λ d. d)) (sym there) (sym pairs) (goes_on new.disk d.written) in
       let root = ap pair_count_before_root pairs ∙ whole_chain t.disk w x o u ending new.disk q over ∙ sym (ap pair_count_before_root there ∙ before_it.site.chain) in
       let left : remove t.pairs index ≡ ahead ++ x ∷ back = ap₂ (λ (z : List Pair) (i : ℕ). remove z i) (is dropping) (sym before_it.number) ∙ remove_next ahead x o back in
       record {
         taken = all;
         state = d.gstate;
-        alike = subst (λ z. ArePairsWithSameAddressesAndSlots z new.pairs) (sym left) (subst (ArePairsWithSameAddressesAndSlots (ahead ++ x ∷ back)) (sym (pairs ∙ grouped dropping (q ∷ [])))
+        alike = subst (λ z. SameSlots z new.pairs) (sym left) (subst (SameSlots (ahead ++ x ∷ back)) (sym (pairs ∙ grouped dropping (q ∷ [])))
             (alike_append ahead (x ∷ back) ahead (q ∷ back) (alike_itself ahead) (refl, slots_left dropping, alike_itself back)));
-        map = d.map ∙ ap (λ (i : ℕ). block_map_with_freed_pair t.map (thread_pair_at_index t i).at) (let e = before_it.number in omega arith);
+        map = d.map ∙ ap (λ (i : ℕ). map_freeing t.map (thread_pair_at t i).at) (let e = before_it.number in omega arith);
         blocks = λ b.
             let e = whole_count t.disk w x o u ending new.disk q over b in
-            let f = ap (λ z. occurrence_count_of_number b (used_blocks new.disk z)) pairs in
-            let g = ap (λ z. occurrence_count_of_number b (used_blocks t.disk z)) there in
-            let k = ap (λ (z : Pair). occurrence_count_of_number b (z.at.0 ∷ z.at.1 ∷ [])) here in
+            let f = ap (λ z. number_count b (used_blocks new.disk z)) pairs in
+            let g = ap (λ z. number_count b (used_blocks t.disk z)) there in
+            let k = ap (λ (z : Pair). number_count b (z.at.0 ∷ z.at.1 ∷ [])) here in
             omega arith;
         shape = d.written.shape;
-        begins = ap (λ z. addresses_of_first_pairs_of_directories (directories_in_thread z)) pairs ∙ whole_firsts t.disk w x o u ending new.disk q over ∙ ap (λ z. addresses_of_first_pairs_of_directories (directories_in_thread z)) (sym there);
+        begins = ap (λ z. first_pair_addresses (all_directories z)) pairs ∙ whole_firsts t.disk w x o u ending new.disk q over ∙ ap (λ z. first_pair_addresses (all_directories z)) (sym there);
         root = root;
         leads_on = whole_leads t.disk w x o u ending new.disk q over t new (go_alike t new all.follows d.written.shape) (subst HasNoMove (sym d.gstate) (record { kind = refl; id = refl; pair = refl })) root there pairs before_it.hard;
-        kept = λ z none soft among. subst (IsTrueOfSomeElement (λ y. y ≡ z)) (sym pairs) (still_there z none soft among);
+        kept = λ z none soft among. subst (HoldsOfSome (λ y. y ≡ z)) (sym pairs) (still_there z none soft among);
       }
 
   -- ---- at a stop
 
-  pub goes_survives : (new : List DeviceCallEvent) → PowerLossLeavesSuchBlocksAfterCleanErases t.history new (IsLeftByStoppedPairDrop t (index - 1) (gstate_without_move (gstate_of_pairs t.pairs))) → SurvivesPowerLossInCallsSince t.disk t.history new (tree_on_disk t.disk t.pairs) (tree_on_disk t.disk t.pairs)
-  goes_survives new stops clean = IsTrueAfterAnyPowerLossSince-weaker
+  pub goes_survives : (new : List CallEvent) → LossLeavesCleanly t.history new (LeftByDrop t (index - 1) (gstate_without_move (pairs_gstate t.pairs))) → SurvivesLossSince t.disk t.history new (tree_on_disk t.disk t.pairs) (tree_on_disk t.disk t.pairs)
+  goes_survives new stops clean = HoldsAtLosses-weaker
       (left_dropped dropping (inl refl) (λ disk written. left_after (goes_on disk written) (inl (ap (tree_on_disk t.disk) (sym there))))) (stops clean)

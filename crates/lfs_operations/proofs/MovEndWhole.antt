@@ -1,21 +1,21 @@
 -- A set move ends where the slot that it hides is all that its pair holds: the pair goes with it, and the one in front of it takes over its tail.
 use Rattle.std.proofs.Common.{ℕ, ◌≡◌, ◌+◌, true, false, cond, nat_eq, ◌&&◌, List, [], ◌∷◌, ◌++◌, sym, ap, ap₂, subst, ◌∙◌, arith, flat_map, append_assoc, remove, length, length-append}
-use Rattle.lfs_operations.proofs.Common.{IsDistinct, Disk, Slot, Gstate, is_superblock, same_pair, Pair, blocks_of_pairs, gstate_of_pairs, starts_with_superblock, slots_not_moved, is_hard_tail, pair_count_before_root, IsAcceptedImage, IsWritableImage, directories_in_thread, used_blocks, gstate_kind_of_set_move, Each, each_append, each_left, each_right, each_weaker, occurrence_count_of_number, HasNoMove, flip_false, pair_back, IsMoveEnd, move_ends, unmoved_elsewhere, avoids_behind, avoids_front, Site, thread_at, IsSite, drop_shape, IsDevice, IsWritableImageAfterTreeChange, addresses_of_first_pairs_of_directories, IsDirectoryUnreachedOrRemoved, pair_with_slots, pairs_without_moved_slot, KeptThread}
-use Rattle.lfs_model.specs.Operations as ops
+use Rattle.lfs_operations.proofs.Common.{IsDistinct, Disk, Slot, Gstate, is_superblock, same_pair, Pair, blocks_of_pairs, pairs_gstate, starts_superblock, slots_not_moved, is_hard_tail, pair_count_before_root, IsAccepted, IsWritable, all_directories, used_blocks, set_move_kind, Each, each_append, each_left, each_right, each_weaker, number_count, HasNoMove, flip_false, pair_back, IsMoveEnd, move_ends, unmoved_elsewhere, avoids_behind, avoids_front, Site, thread_at, IsSite, drop_shape, IsDevice, IsWritableChange, first_pair_addresses, IsDirectoryGone, pair_with_slots, pairs_without_moved, KeptThread}
+use Rattle.lfs_model.specs.session.Operations as ops
 use Rattle.lfs_model.proofs.StepsTaken.{end_drop_taken}
 use Rattle.lfs_operations.proofs.MovFirsts.{end_firsts}
-use Rattle.lfs_operations.specs.EndingMove.{gstate_without_move, IsEachRecoveryOfNewAllowedForOld}
+use Rattle.lfs_operations.specs.EndingMove.{gstate_without_move, RecoveriesAreAllowed}
 use Rattle.lfs_operations.proofs.MovEnd.{end_count, end_chain}
 use Rattle.lfs_operations.proofs.RecoverBefore.{GoAlike, hidden, hidden_append, hidden_far, hidden_length, laid_out_gap}
 
 -- At the site stand p and o behind it, joined by a hard tail, and the move hides o's only slot u.
 pub record IsEndingWhole (disk : Disk) (w : Site) (p o : Pair) (u : Slot) : Type 0 where
-  pub accepted : IsAcceptedImage disk (thread_at w (p ∷ o ∷ []))
-  pub writable : IsWritableImage disk (thread_at w (p ∷ o ∷ []))
+  pub accepted : IsAccepted disk (thread_at w (p ∷ o ∷ []))
+  pub writable : IsWritable disk (thread_at w (p ∷ o ∷ []))
   pub site : IsSite w (p ∷ o ∷ [])
-  pub kind : (gstate_of_pairs (thread_at w (p ∷ o ∷ []))).kind ≡ gstate_kind_of_set_move
-  pub pair : same_pair (gstate_of_pairs (thread_at w (p ∷ o ∷ []))).pair o.at ≡ true
-  pub id : (gstate_of_pairs (thread_at w (p ∷ o ∷ []))).id ≡ 0
+  pub kind : (pairs_gstate (thread_at w (p ∷ o ∷ []))).kind ≡ set_move_kind
+  pub pair : same_pair (pairs_gstate (thread_at w (p ∷ o ∷ []))).pair o.at ≡ true
+  pub id : (pairs_gstate (thread_at w (p ∷ o ∷ []))).id ≡ 0
   pub held : o.content.slots ≡ u ∷ []
   pub other : is_superblock u ≡ false
 
@@ -24,12 +24,12 @@ pub record HasTakenOver (disk : Disk) (w : Site) (p o : Pair) (new : Disk) (q : 
   pub at : q.at ≡ p.at
   pub slots : q.content.slots ≡ p.content.slots
   pub tail : q.content.tail ≡ o.content.tail
-  pub state : gstate_of_pairs (thread_at w (q ∷ [])) ≡ gstate_without_move (gstate_of_pairs (thread_at w (p ∷ o ∷ [])))
+  pub state : pairs_gstate (thread_at w (q ∷ [])) ≡ gstate_without_move (pairs_gstate (thread_at w (p ∷ o ∷ [])))
   pub device : IsDevice disk new (thread_at w (p ∷ o ∷ [])) (thread_at w (q ∷ []))
 
 module _ (disk : Disk) (w : Site) (p o : Pair) (u : Slot) (k : IsEndingWhole disk w p o u) where
   abbrev g : Gstate
-  g = gstate_of_pairs (thread_at w (p ∷ o ∷ []))
+  g = pairs_gstate (thread_at w (p ∷ o ∷ []))
 
   abbrev ahead : List Pair
   ahead = w.before ++ w.left
@@ -38,7 +38,7 @@ module _ (disk : Disk) (w : Site) (p o : Pair) (u : Slot) (k : IsEndingWhole dis
   back = w.right ++ w.after
 
   abbrev Far : Pair → Type 0
-  Far s = same_pair (gstate_of_pairs (thread_at w (p ∷ o ∷ []))).pair s.at ≡ false
+  Far s = same_pair (pairs_gstate (thread_at w (p ∷ o ∷ []))).pair s.at ≡ false
 
   grouped : thread_at w (p ∷ o ∷ []) ≡ ((w.chain ++ ahead) ++ p ∷ []) ++ o ∷ back
   grouped = sym (append_assoc w.chain ahead (p ∷ o ∷ back)) ∙ sym (append_assoc (w.chain ++ ahead) (p ∷ []) (o ∷ back))
@@ -46,8 +46,8 @@ module _ (disk : Disk) (w : Site) (p o : Pair) (u : Slot) (k : IsEndingWhole dis
   distinct_there : IsDistinct nat_eq (blocks_of_pairs (((w.chain ++ ahead) ++ p ∷ []) ++ o ∷ back))
   distinct_there = subst (λ z. IsDistinct nat_eq (blocks_of_pairs z)) grouped k.accepted.thread.distinct
 
-  flipped : (ss : List Pair) → Each (λ s. same_pair s.at (gstate_of_pairs (thread_at w (p ∷ o ∷ []))).pair ≡ false) ss → Each Far ss
-  flipped ss h = each_weaker (λ s. same_pair s.at (gstate_of_pairs (thread_at w (p ∷ o ∷ []))).pair ≡ false) Far (λ s e. flip_false s.at g.pair e) ss h
+  flipped : (ss : List Pair) → Each (λ s. same_pair s.at (pairs_gstate (thread_at w (p ∷ o ∷ []))).pair ≡ false) ss → Each Far ss
+  flipped ss h = each_weaker (λ s. same_pair s.at (pairs_gstate (thread_at w (p ∷ o ∷ []))).pair ≡ false) Far (λ s e. flip_false s.at g.pair e) ss h
 
   far_front : Each Far ((w.chain ++ ahead) ++ p ∷ [])
   far_front = flipped ((w.chain ++ ahead) ++ p ∷ []) (avoids_front ((w.chain ++ ahead) ++ p ∷ []) o back g.pair distinct_there (pair_back g.pair o.at k.pair))
@@ -68,7 +68,7 @@ module _ (disk : Disk) (w : Site) (p o : Pair) (u : Slot) (k : IsEndingWhole dis
   hidden_two = ap₂ (λ x y. x ++ (y ++ [])) (unmoved_elsewhere g p far_p) hides
 
   module _ (new : Disk) (q : Pair) (x : HasTakenOver disk w p o new q) where
-    still_none : HasNoMove (gstate_of_pairs (thread_at w (q ∷ [])))
+    still_none : HasNoMove (pairs_gstate (thread_at w (q ∷ [])))
     still_none = record { kind = ap (λ (z : Gstate). z.kind) x.state; id = ap (λ (z : Gstate). z.id) x.state; pair = ap (λ (z : Gstate). z.pair) x.state }
 
     pub whole_step : IsMoveEnd disk new w p (o ∷ []) q [] p.content.slots u []
@@ -77,7 +77,7 @@ module _ (disk : Disk) (w : Site) (p o : Pair) (u : Slot) (k : IsEndingWhole dis
       site = k.site;
       still_none = still_none;
       device = x.device;
-      shape = drop_shape p o q x.at x.tail (λ e. ap starts_with_superblock x.slots ∙ e);
+      shape = drop_shape p o q x.at x.tail (λ e. ap starts_superblock x.slots ∙ e);
       was = ap (λ z. p.content.slots ++ (z ++ [])) k.held;
       is = ap (λ z. z ++ []) x.slots;
       other = k.other;
@@ -85,30 +85,30 @@ module _ (disk : Disk) (w : Site) (p o : Pair) (u : Slot) (k : IsEndingWhole dis
       elsewhere = each_append Far w.chain (ahead ++ back) (each_left Far w.chain ahead far_ahead) (each_append Far ahead back (each_right Far w.chain ahead far_ahead) far_back);
     }
 
-    pub whole_ended : IsWritableImageAfterTreeChange disk (thread_at w (p ∷ o ∷ [])) new (thread_at w (q ∷ [])) (λ t. t) (λ d. d)
+    pub whole_ended : IsWritableChange disk (thread_at w (p ∷ o ∷ [])) new (thread_at w (q ∷ [])) (λ t. t) (λ d. d)
     whole_ended = end_drop_taken disk w p o q (record { writable = k.writable; tail = x.tail; slots = x.slots }) new p.content.slots u [] (λ t. t) (λ d. d) whole_step
         (move_ends disk new w p (o ∷ []) q [] p.content.slots u [] whole_step (λ e. k.accepted.reached (sym (ap (λ (z : Gstate). z.sync) x.state) ∙ e)))
 
     -- the directories begin where they did
-    pub whole_firsts : addresses_of_first_pairs_of_directories (directories_in_thread (thread_at w (q ∷ []))) ≡ addresses_of_first_pairs_of_directories (directories_in_thread (thread_at w (p ∷ o ∷ [])))
+    pub whole_firsts : first_pair_addresses (all_directories (thread_at w (q ∷ []))) ≡ first_pair_addresses (all_directories (thread_at w (p ∷ o ∷ [])))
     whole_firsts = end_firsts disk new w p (o ∷ []) q [] p.content.slots u [] whole_step
 
     pub whole_chain : pair_count_before_root (thread_at w (q ∷ [])) ≡ length w.chain
     whole_chain = end_chain disk new w p (o ∷ []) q p.content.slots u [] whole_step
 
     -- a recovery may go on
-    pub whole_leads : (old next : KeptThread) → GoAlike old.disk next.disk (IsDirectoryUnreachedOrRemoved old.pairs ops.Recover) (IsDirectoryUnreachedOrRemoved next.pairs ops.Recover) → HasNoMove (gstate_of_pairs next.pairs) → pair_count_before_root next.pairs ≡ pair_count_before_root old.pairs
-        → old.pairs ≡ thread_at w (p ∷ o ∷ []) → next.pairs ≡ thread_at w (q ∷ []) → is_hard_tail p.content.tail ≡ true → IsEachRecoveryOfNewAllowedForOld old next
+    pub whole_leads : (old next : KeptThread) → GoAlike old.disk next.disk (IsDirectoryGone old.pairs ops.Recover) (IsDirectoryGone next.pairs ops.Recover) → HasNoMove (pairs_gstate next.pairs) → pair_count_before_root next.pairs ≡ pair_count_before_root old.pairs
+        → old.pairs ≡ thread_at w (p ∷ o ∷ []) → next.pairs ≡ thread_at w (q ∷ []) → is_hard_tail p.content.tail ≡ true → RecoveriesAreAllowed old next
     whole_leads old next alike none root was is hard = laid_out_gap old next alike none root
         (hidden g (w.chain ++ ahead)) (pair_with_slots (slots_not_moved g p) p) (pair_with_slots (slots_not_moved g o) o) (hidden g back) (w.chain ++ ahead) q back
-        (ap (λ z. pairs_without_moved_slot z) was ∙ ap (hidden g) (sym (append_assoc w.chain ahead (p ∷ o ∷ back))) ∙ hidden_append g (w.chain ++ ahead) (p ∷ o ∷ back))
+        (ap (λ z. pairs_without_moved z) was ∙ ap (hidden g) (sym (append_assoc w.chain ahead (p ∷ o ∷ back))) ∙ hidden_append g (w.chain ++ ahead) (p ∷ o ∷ back))
         (is ∙ sym (append_assoc w.chain ahead (q ∷ back)))
         (let c = ap pair_count_before_root was ∙ k.site.chain in let l = hidden_length g (w.chain ++ ahead) in let a = length-append w.chain ahead in omega arith)
         (hidden_far g (w.chain ++ ahead) far_ahead) (record { at = x.at; slots = x.slots ∙ sym (unmoved_elsewhere g p far_p); led = hard; tail = ap is_hard_tail x.tail; none = hides }) (hidden_far g back far_back)
 
     -- the blocks that the image used, without the pair's
-    pub whole_count : (b : ℕ) → occurrence_count_of_number b (used_blocks new (thread_at w (q ∷ []))) + occurrence_count_of_number b (blocks_of_pairs (o ∷ [])) ≡ occurrence_count_of_number b (used_blocks disk (thread_at w (p ∷ o ∷ [])))
+    pub whole_count : (b : ℕ) → number_count b (used_blocks new (thread_at w (q ∷ []))) + number_count b (blocks_of_pairs (o ∷ [])) ≡ number_count b (used_blocks disk (thread_at w (p ∷ o ∷ [])))
     whole_count b =
         let e = end_count disk new w p (o ∷ []) q p.content.slots u [] whole_step b in
-        let at = ap (λ (a : ℕ × ℕ). occurrence_count_of_number b (a.0 ∷ a.1 ∷ [])) x.at in
+        let at = ap (λ (a : ℕ × ℕ). number_count b (a.0 ∷ a.1 ∷ [])) x.at in
         omega arith

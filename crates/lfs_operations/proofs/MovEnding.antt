@@ -1,8 +1,8 @@
 -- The end of a set move, as a step of the thread.
 use Rattle.std.proofs.Common.{ℕ, zero, suc, ◌≡◌, ◌≢◌, ◌-◌, ◌<◌, ◌⊎◌, inl, inr, true, false, take, List, [], ◌∷◌, Option, ◌++◌, length, Some, refl, sym, ap, ap₂, subst, ◌∙◌, arith, length-append, remove, get_or, slice_get, sum_by, subst₂}
 use Rattle.std.specs.Option.{option_and_then}
-use Rattle.lfs_operations.proofs.Common.{xor_lt, same_Some, recursion_from_All, sum_by-append, sum_by-cons, Blocks, Delete, PutMove, raw_pair_content_after_changes, RawPairContent, content_of_pair_at, raw_content_of_pair_at, pair_content_if_slots_complete, Disk, DeviceCallEvent, Are32BitPairAddresses, AreMoveStateFieldsWithinBitWidths, HasTreeBeforeOrAfterOperation as IsLeftOf, SurvivesPowerLossInCallsSince, disk_with_blocks, Slot, IsContentFittingPair, Gstate, Tail, gstate_xor, same_pair, slot_size, Pair, gstate_of_pairs, pair_address_named_by_tail, pair_count_before_root, IsAcceptedImage, IsWritableImage, directories_in_thread, tree_on_disk, used_blocks, ArePairsWithSameAddressesAndSlots, alike_itself, IsCompleted, complete_length, complete_remove, completed_parts, completed_from, Each, each_right, occurrence_count_of_number, deletes, does_first, does_nothing, puts_move, IsTrueAfterAnyPowerLossSince-weaker, HasSite, site_of_number, addresses_of_first_pairs_of_directories, remove_here, IsTrueOfSomeElement, Site, among_left, among_parts, among_right, dirs_at, thread_at, IsWritableImageAfterTreeChange, pairs_behind, ends_in_hard_tail, PowerLossLeavesSuchBlocksAfterCleanErases, KeptThread, CanChangePair, IsPairChanged, PowerLossLeavesPairOldOrChanged, IsCommitRefused, SlotsBeginWithSuperblock, complete_content_after_changes, empty_pair_at_anchor, thread_pair_at_index, thread_pairs_with_content_replaced_at_index, pairs_without_moved_slot, HasNoMove}
-use Rattle.lfs_operations.specs.MoveEnds.{CanEndMoveAt, HasEndedMoveAt, content_after_move_ends, end_move_changes, is_pair_named_by_hard_tail, gstate_without_sync, delta_without_move}
+use Rattle.lfs_operations.proofs.Common.{xor_lt, same_Some, recursion_from_All, sum_by-append, sum_by-cons, Blocks, Delete, PutMove, changed_content_of, RawContent, content_at, raw_content, complete_content, Disk, CallEvent, AreWords, MoveStateFits, HasEither as IsLeftOf, SurvivesLossSince, with_blocks, Slot, FitsInPair, Gstate, Tail, gstate_xor, same_pair, slot_size, Pair, pairs_gstate, tail_address_of, pair_count_before_root, IsAccepted, IsWritable, all_directories, tree_on_disk, used_blocks, SameSlots, alike_itself, IsCompleted, complete_length, complete_remove, completed_parts, completed_from, Each, each_right, number_count, deletes, does_first, does_nothing, puts_move, HoldsAtLosses-weaker, HasSite, site_of_number, first_pair_addresses, remove_here, HoldsOfSome, Site, among_left, among_parts, among_right, dirs_at, thread_at, IsWritableChange, pairs_behind, ends_joined, LossLeavesCleanly, KeptThread, CanChangePair, IsPairCommitted, LossLeavesPairChanged, RefusesCommit, BeginWithSuperblock, complete_after, empty_anchor, thread_pair_at, pairs_with, pairs_without_moved, HasNoMove}
+use Rattle.lfs_operations.specs.MoveEnds.{CanEndAt, HasEndedAt, content_move_ended, ending_changes, follows_hard_tail_of, gstate_without_sync, delta_without_move}
 use Rattle.lfs_operations.proofs.Held.{CompletesTo, completes_to}
 use Rattle.lfs_operations.proofs.MovEnd.{IsEnding, ended, ended_count, ended_firsts, ended_state, ended_chain, ended_kin}
 use Rattle.lfs_operations.proofs.MovSet.{HasTurned}
@@ -17,12 +17,12 @@ get_from [] i p d e = absurd (cc)
 get_from (x ∷ xs) zero p d e = same_Some x p e
 get_from (x ∷ xs) (suc i) p d e = get_from xs i p d e
 
-pub led_is : (w : Site) (p : Pair) (i : ℕ) → pair_count_before_root (thread_at w (p ∷ [])) ≡ length w.chain → length (w.chain ++ (w.before ++ w.left)) ≡ i → is_pair_named_by_hard_tail (thread_at w (p ∷ [])) i ≡ ends_in_hard_tail false (w.before ++ w.left)
+pub led_is : (w : Site) (p : Pair) (i : ℕ) → pair_count_before_root (thread_at w (p ∷ [])) ≡ length w.chain → length (w.chain ++ (w.before ++ w.left)) ≡ i → follows_hard_tail_of (thread_at w (p ∷ [])) i ≡ ends_joined false (w.before ++ w.left)
 led_is w p i chain number =
-    ap₂ (λ n z. ends_in_hard_tail false (take (i - n) z)) chain (pairs_behind w.chain (dirs_at w (p ∷ [])) chain)
-    ∙ ap (ends_in_hard_tail false) (take_front (w.before ++ w.left) (p ∷ [] ++ (w.right ++ w.after)) (i - length w.chain) (let l = length-append w.chain (w.before ++ w.left) in omega arith))
+    ap₂ (λ n z. ends_joined false (take (i - n) z)) chain (pairs_behind w.chain (dirs_at w (p ∷ [])) chain)
+    ∙ ap (ends_joined false) (take_front (w.before ++ w.left) (p ∷ [] ++ (w.right ++ w.after)) (i - length w.chain) (let l = length-append w.chain (w.before ++ w.left) in omega arith))
 
-module _ (t : KeptThread) (pair id : ℕ) (can : CanEndMoveAt t pair id false) (address : Are32BitPairAddresses (delta_without_move t pair).pair) where
+module _ (t : KeptThread) (pair id : ℕ) (can : CanEndAt t pair id false) (address : AreWords (delta_without_move t pair).pair) where
   abbrev h : HasSite t.pairs pair
   h = site_of_number t.disk t.pairs pair can.accepted can.begins can.below
 
@@ -32,8 +32,8 @@ module _ (t : KeptThread) (pair id : ℕ) (can : CanEndMoveAt t pair id false) (
   abbrev p : Pair
   p = h.pair
 
-  here : thread_pair_at_index t pair ≡ p
-  here = get_from t.pairs pair p empty_pair_at_anchor h.there
+  here : thread_pair_at t pair ≡ p
+  here = get_from t.pairs pair p empty_anchor h.there
 
   abbrev l : List Slot
   l = can.stands.left
@@ -55,12 +55,12 @@ module _ (t : KeptThread) (pair id : ℕ) (can : CanEndMoveAt t pair id false) (
   at_site : (P : Pair → Type 0) → Each P t.pairs → P p
   at_site P e = (each_right P (w.before ++ w.left) (p ∷ [] ++ (w.right ++ w.after)) (each_right P w.chain (dirs_at w (p ∷ [])) (subst (Each P) h.is e))).0
 
-  c : CompletesTo (raw_content_of_pair_at t.disk (thread_pair_at_index t pair).at) p.content
-  c = completes_to (raw_content_of_pair_at t.disk (thread_pair_at_index t pair).at) p.content (ap (λ (z : Pair). content_of_pair_at t.disk z.at) here
-      ∙ at_site (λ x. content_of_pair_at t.disk x.at ≡ Some x.content) (recursion_from_All (λ (x : Pair). content_of_pair_at t.disk x.at ≡ Some x.content) t.pairs can.accepted.thread.contents))
+  c : CompletesTo (raw_content t.disk (thread_pair_at t pair).at) p.content
+  c = completes_to (raw_content t.disk (thread_pair_at t pair).at) p.content (ap (λ (z : Pair). content_at t.disk z.at) here
+      ∙ at_site (λ x. content_at t.disk x.at ≡ Some x.content) (recursion_from_All (λ (x : Pair). content_at t.disk x.at ≡ Some x.content) t.pairs can.accepted.thread.contents))
 
-  fits_there : IsContentFittingPair t.disk.block_size t.disk.page p.content
-  fits_there = at_site (λ x. IsContentFittingPair t.disk.block_size t.disk.page x.content) (recursion_from_All (λ (x : Pair). IsContentFittingPair t.disk.block_size t.disk.page x.content) t.pairs can.writable.pairs)
+  fits_there : FitsInPair t.disk.block_size t.disk.page p.content
+  fits_there = at_site (λ x. FitsInPair t.disk.block_size t.disk.page x.content) (recursion_from_All (λ (x : Pair). FitsInPair t.disk.block_size t.disk.page x.content) t.pairs can.writable.pairs)
 
   within : id < length p.content.slots
   within = let e = ap length held in let k = length-append l (u ∷ r) in let n = can.stands.number in omega arith
@@ -68,27 +68,27 @@ module _ (t : KeptThread) (pair id : ℕ) (can : CanEndMoveAt t pair id false) (
   parts : IsCompleted c.raw p.content
   parts = completed_parts c.raw p.content c.complete
 
-  delta_is : AreMoveStateFieldsWithinBitWidths p.content.move
-  delta_is = subst AreMoveStateFieldsWithinBitWidths (sym parts.move) (can.logged c.raw c.is).move
+  delta_is : MoveStateFits p.content.move
+  delta_is = subst MoveStateFits (sym parts.move) (can.logged c.raw c.is).move
 
-  is_state : AreMoveStateFieldsWithinBitWidths move
+  is_state : MoveStateFits move
   is_state =
       let few = fits_there.count in
       let m = within in
       let own = ap (λ (z : Pair). z.content.move) here in
       record {
-        kind = xor_lt 11 (gstate_of_pairs t.pairs).kind (thread_pair_at_index t pair).content.move.kind (let e = can.kind in omega arith) (let k = delta_is.kind in let e = ap (λ (z : Gstate). z.kind) own in omega arith);
-        id = xor_lt 10 (gstate_of_pairs t.pairs).id (thread_pair_at_index t pair).content.move.id (let e = can.id_is in omega arith) (let k = delta_is.id in let e = ap (λ (z : Gstate). z.id) own in omega arith);
+        kind = xor_lt 11 (pairs_gstate t.pairs).kind (thread_pair_at t pair).content.move.kind (let e = can.kind in omega arith) (let k = delta_is.kind in let e = ap (λ (z : Gstate). z.kind) own in omega arith);
+        id = xor_lt 10 (pairs_gstate t.pairs).id (thread_pair_at t pair).content.move.id (let e = can.id_is in omega arith) (let k = delta_is.id in let e = ap (λ (z : Gstate). z.id) own in omega arith);
         pair = address;
       }
 
-  abbrev raw_mid : RawPairContent
+  abbrev raw_mid : RawContent
   raw_mid = record c.raw { slots = remove c.raw.slots id }
 
-  abbrev raw_now : RawPairContent
+  abbrev raw_now : RawContent
   raw_now = record c.raw { slots = remove c.raw.slots id; move = delta_without_move t pair }
 
-  changed_now : raw_pair_content_after_changes c.raw (end_move_changes t pair id) ≡ Some raw_now
+  changed_now : changed_content_of c.raw (ending_changes t pair id) ≡ Some raw_now
   changed_now =
       let few = fits_there.count in
       let n = complete_length c.raw.slots p.content.slots parts.slots in
@@ -99,23 +99,23 @@ module _ (t : KeptThread) (pair id : ℕ) (can : CanEndMoveAt t pair id false) (
   slots_now : remove p.content.slots id ≡ l ++ r
   slots_now = ap₂ (λ (z : List Slot) (i : ℕ). remove z i) held (sym can.stands.number) ∙ remove_here l r u
 
-  made : complete_content_after_changes t pair (end_move_changes t pair id) ≡ Some (content_with p (l ++ r) move)
+  made : complete_after t pair (ending_changes t pair id) ≡ Some (content_with p (l ++ r) move)
   made =
-      ap (λ o. option_and_then pair_content_if_slots_complete (option_and_then (λ (x : RawPairContent). raw_pair_content_after_changes x (end_move_changes t pair id)) o)) c.is
-      ∙ ap (λ o. option_and_then pair_content_if_slots_complete o) changed_now
+      ap (λ o. option_and_then complete_content (option_and_then (λ (x : RawContent). changed_content_of x (ending_changes t pair id)) o)) c.is
+      ∙ ap (λ o. option_and_then complete_content o) changed_now
       ∙ completed_from raw_now (remove p.content.slots id) (complete_remove c.raw.slots p.content.slots id parts.slots)
       ∙ ap₂ (λ s (z : Option Tail). Some (record { slots = s; tail = z; move = move })) slots_now (sym parts.tail)
 
-  pub can_end : CanChangePair t pair (end_move_changes t pair id)
+  pub can_end : CanChangePair t pair (ending_changes t pair id)
   can_end = record {
     below = can.below;
     content = content_with p (l ++ r) move;
     made = made;
-    next = ap (λ (z : Pair). pair_address_named_by_tail z.content.tail) (sym here);
+    next = ap (λ (z : Pair). tail_address_of z.content.tail) (sym here);
   }
 
   -- what is left fits
-  still_fits : IsContentFittingPair t.disk.block_size t.disk.page (content_with p (l ++ r) move)
+  still_fits : FitsInPair t.disk.block_size t.disk.page (content_with p (l ++ r) move)
   still_fits =
       let f = fits_there in
       let a = ap (sum_by slot_size) held in
@@ -129,28 +129,28 @@ module _ (t : KeptThread) (pair id : ℕ) (can : CanEndMoveAt t pair id false) (
       let n = f.count in
       record { size = omega arith; count = omega arith }
 
-  pub end_not_refused : (new : KeptThread) → IsCommitRefused t pair (end_move_changes t pair id) new → ⊥
-  end_not_refused new is = is.too_large (subst (IsContentFittingPair t.disk.block_size t.disk.page) (sym (same_Some is.content (content_with p (l ++ r) move) (sym is.made ∙ made))) still_fits)
+  pub end_not_refused : (new : KeptThread) → RefusesCommit t pair (ending_changes t pair id) new → ⊥
+  end_not_refused new is = is.too_large (subst (FitsInPair t.disk.block_size t.disk.page) (sym (same_Some is.content (content_with p (l ++ r) move) (sym is.made ∙ made))) still_fits)
 
   -- ---- in the image
 
-  first_kept : (l : List Slot) → SlotsBeginWithSuperblock (l ++ u ∷ r) → SlotsBeginWithSuperblock (l ++ r)
+  first_kept : (l : List Slot) → BeginWithSuperblock (l ++ u ∷ r) → BeginWithSuperblock (l ++ r)
   first_kept [] e = absurd (let z = sym can.stands.entry ∙ e.0 in cc)
   first_kept (s ∷ l) e = e
 
-  turn : IsTurn t pair (end_move_changes t pair id) w p (l ++ r) move
+  turn : IsTurn t pair (ending_changes t pair id) w p (l ++ r) move
   turn = record {
     accepted = can.accepted;
     there = h.is;
     place = sym h.number ∙ length-append w.chain (w.before ++ w.left);
     site = h.is_site;
     made = made;
-    first = λ e. first_kept l (subst SlotsBeginWithSuperblock held (e.kind, e.name));
+    first = λ e. first_kept l (subst BeginWithSuperblock held (e.kind, e.name));
   }
 
-  filled : ends_in_hard_tail false (w.before ++ w.left) ≡ true → l ++ r ≢ []
+  filled : ends_joined false (w.before ++ w.left) ≡ true → l ++ r ≢ []
   filled hard none =
-      let led = ap (λ z. is_pair_named_by_hard_tail z pair) h.is ∙ led_is w p pair h.is_site.chain h.number ∙ hard in
+      let led = ap (λ z. follows_hard_tail_of z pair) h.is ∙ led_is w p pair h.is_site.chain h.number ∙ hard in
       let many = can.stays refl led in
       let e = ap length can.stands.held in
       let i = length-append l (u ∷ r) in
@@ -160,83 +160,83 @@ module _ (t : KeptThread) (pair id : ℕ) (can : CanEndMoveAt t pair id false) (
 
   ending : IsEnding t.disk w p l u r
   ending = record {
-    accepted = subst (IsAcceptedImage t.disk) h.is can.accepted;
-    writable = subst (IsWritableImage t.disk) h.is can.writable;
+    accepted = subst (IsAccepted t.disk) h.is can.accepted;
+    writable = subst (IsWritable t.disk) h.is can.writable;
     site = h.is_site;
-    kind = sym (ap (λ z. (gstate_of_pairs z).kind) h.is) ∙ can.kind;
-    pair = ap₂ (λ z (x : Pair). same_pair (gstate_of_pairs z).pair x.at) (sym h.is) (sym here) ∙ can.named;
-    id = sym (ap (λ z. (gstate_of_pairs z).id) h.is) ∙ can.id_is ∙ sym can.stands.number;
+    kind = sym (ap (λ z. (pairs_gstate z).kind) h.is) ∙ can.kind;
+    pair = ap₂ (λ z (x : Pair). same_pair (pairs_gstate z).pair x.at) (sym h.is) (sym here) ∙ can.named;
+    id = sym (ap (λ z. (pairs_gstate z).id) h.is) ∙ can.id_is ∙ sym can.stands.number;
     held = held;
     other = can.stands.entry;
     filled = filled;
   }
 
   abbrev end_delta : Gstate
-  end_delta = gstate_xor (gstate_without_sync (gstate_of_pairs (thread_at w (p ∷ [])))) p.content.move
+  end_delta = gstate_xor (gstate_without_sync (pairs_gstate (thread_at w (p ∷ [])))) p.content.move
 
   move_is : move ≡ end_delta
-  move_is = ap₂ (λ z (x : Pair). gstate_xor (gstate_without_sync (gstate_of_pairs z)) x.content.move) h.is here
+  move_is = ap₂ (λ z (x : Pair). gstate_xor (gstate_without_sync (pairs_gstate z)) x.content.move) h.is here
 
   -- the pair alone, with the other slots
   abbrev pub q_of : Pair
   q_of = record { at = p.at; content = content_with p (l ++ r) move }
 
-  pub turned_alone : (disk : Disk) → HasTurned t.disk w p (l ++ r) move disk q_of [] → IsWritableImageAfterTreeChange t.disk (thread_at w (p ∷ [])) disk (thread_at w (q_of ∷ [])) (λ t. t) (λ d. d)
+  pub turned_alone : (disk : Disk) → HasTurned t.disk w p (l ++ r) move disk q_of [] → IsWritableChange t.disk (thread_at w (p ∷ [])) disk (thread_at w (q_of ∷ [])) (λ t. t) (λ d. d)
   turned_alone disk x = ended t.disk w p l u r ending disk q_of (subst (λ m. HasTurned t.disk w p (l ++ r) m disk q_of []) move_is x)
 
   -- the others stay
-  still_there : (z : Pair) → z.content.slots ≡ [] → IsTrueOfSomeElement (λ y. y ≡ z) (thread_at w (p ∷ [])) → IsTrueOfSomeElement (λ y. y ≡ z) (thread_at w (q_of ∷ []))
+  still_there : (z : Pair) → z.content.slots ≡ [] → HoldsOfSome (λ y. y ≡ z) (thread_at w (p ∷ [])) → HoldsOfSome (λ y. y ≡ z) (thread_at w (q_of ∷ []))
   still_there z none among = past (among_parts (λ y. y ≡ z) w.chain (dirs_at w (p ∷ [])) among)
     where
       has_none : (xs : List Slot) → xs ++ u ∷ r ≡ [] → ⊥
       has_none [] e = absurd (cc)
       has_none (s ∷ xs) e = absurd (cc)
 
-      behind : IsTrueOfSomeElement (λ y. y ≡ z) (p ∷ (w.right ++ w.after)) → IsTrueOfSomeElement (λ y. y ≡ z) (q_of ∷ (w.right ++ w.after))
+      behind : HoldsOfSome (λ y. y ≡ z) (p ∷ (w.right ++ w.after)) → HoldsOfSome (λ y. y ≡ z) (q_of ∷ (w.right ++ w.after))
       behind (inl is) = absurd (has_none l (sym held ∙ ap (λ (y : Pair). y.content.slots) is ∙ none))
       behind (inr a) = inr a
 
-      within_dirs : IsTrueOfSomeElement (λ y. y ≡ z) (w.before ++ w.left) ⊎ IsTrueOfSomeElement (λ y. y ≡ z) (p ∷ (w.right ++ w.after)) → IsTrueOfSomeElement (λ y. y ≡ z) (thread_at w (q_of ∷ []))
+      within_dirs : HoldsOfSome (λ y. y ≡ z) (w.before ++ w.left) ⊎ HoldsOfSome (λ y. y ≡ z) (p ∷ (w.right ++ w.after)) → HoldsOfSome (λ y. y ≡ z) (thread_at w (q_of ∷ []))
       within_dirs (inl a) = among_right (λ y. y ≡ z) w.chain (dirs_at w (q_of ∷ [])) (among_left (λ y. y ≡ z) (w.before ++ w.left) (q_of ∷ (w.right ++ w.after)) a)
       within_dirs (inr a) = among_right (λ y. y ≡ z) w.chain (dirs_at w (q_of ∷ [])) (among_right (λ y. y ≡ z) (w.before ++ w.left) (q_of ∷ (w.right ++ w.after)) (behind a))
 
-      past : IsTrueOfSomeElement (λ y. y ≡ z) w.chain ⊎ IsTrueOfSomeElement (λ y. y ≡ z) (dirs_at w (p ∷ [])) → IsTrueOfSomeElement (λ y. y ≡ z) (thread_at w (q_of ∷ []))
+      past : HoldsOfSome (λ y. y ≡ z) w.chain ⊎ HoldsOfSome (λ y. y ≡ z) (dirs_at w (p ∷ [])) → HoldsOfSome (λ y. y ≡ z) (thread_at w (q_of ∷ []))
       past (inl a) = among_left (λ y. y ≡ z) w.chain (dirs_at w (q_of ∷ [])) a
       past (inr a) = within_dirs (among_parts (λ y. y ≡ z) (w.before ++ w.left) (p ∷ (w.right ++ w.after)) a)
 
-  pub has_ended : (new : KeptThread) → IsPairChanged t pair (end_move_changes t pair id) new → HasEndedMoveAt t pair id false new
-  has_ended new is = go (changed_one t pair (end_move_changes t pair id) w p (l ++ r) move turn new is)
+  pub has_ended : (new : KeptThread) → IsPairCommitted t pair (ending_changes t pair id) new → HasEndedAt t pair id false new
+  has_ended new is = go (changed_one t pair (ending_changes t pair id) w p (l ++ r) move turn new is)
     where
-      go : ChangedOne t pair w p (l ++ r) move new → HasEndedMoveAt t pair id false new
+      go : ChangedOne t pair w p (l ++ r) move new → HasEndedAt t pair id false new
       go x =
-          let all = subst₂ (λ z qs. IsWritableImageAfterTreeChange t.disk z new.disk qs (λ t. t) (λ d. d)) (sym h.is) (sym x.pairs) (turned_alone new.disk x.turned) in
+          let all = subst₂ (λ z qs. IsWritableChange t.disk z new.disk qs (λ t. t) (λ d. d)) (sym h.is) (sym x.pairs) (turned_alone new.disk x.turned) in
           let y = subst (λ m. HasTurned t.disk w p (l ++ r) m new.disk q_of []) move_is x.turned in
-          let state : gstate_of_pairs new.pairs ≡ gstate_without_move (gstate_of_pairs t.pairs) = ap gstate_of_pairs x.pairs ∙ ended_state t.disk w p l u r ending new.disk q_of y ∙ ap (λ z. gstate_without_move (gstate_of_pairs z)) (sym h.is) in
+          let state : pairs_gstate new.pairs ≡ gstate_without_move (pairs_gstate t.pairs) = ap pairs_gstate x.pairs ∙ ended_state t.disk w p l u r ending new.disk q_of y ∙ ap (λ z. gstate_without_move (pairs_gstate z)) (sym h.is) in
           let root = ap pair_count_before_root x.pairs ∙ ended_chain t.disk w p l u r ending new.disk q_of y ∙ sym (ap pair_count_before_root h.is ∙ h.is_site.chain) in
           record {
             taken = all;
             state = state;
-            alike = subst (ArePairsWithSameAddressesAndSlots (thread_pairs_with_content_replaced_at_index t pair (content_after_move_ends t pair id))) (sym (x.is ∙ ap (λ d. thread_pairs_with_content_replaced_at_index t pair d) (ap₂ (λ s (z : Pair). record { slots = s; tail = z.content.tail; move = move })
-                (sym slots_now ∙ ap (λ (z : Pair). remove z.content.slots id) (sym here)) (sym here)))) (alike_itself (thread_pairs_with_content_replaced_at_index t pair (content_after_move_ends t pair id)));
+            alike = subst (SameSlots (pairs_with t pair (content_move_ended t pair id))) (sym (x.is ∙ ap (λ d. pairs_with t pair d) (ap₂ (λ s (z : Pair). record { slots = s; tail = z.content.tail; move = move })
+                (sym slots_now ∙ ap (λ (z : Pair). remove z.content.slots id) (sym here)) (sym here)))) (alike_itself (pairs_with t pair (content_move_ended t pair id)));
             map = x.map;
-            blocks = λ b. (let e = ap (λ z. occurrence_count_of_number b (used_blocks new.disk z)) x.pairs ∙ ended_count t.disk w p l u r ending new.disk q_of y b ∙ ap (λ z. occurrence_count_of_number b (used_blocks t.disk z)) (sym h.is) in omega arith);
+            blocks = λ b. (let e = ap (λ z. number_count b (used_blocks new.disk z)) x.pairs ∙ ended_count t.disk w p l u r ending new.disk q_of y b ∙ ap (λ z. number_count b (used_blocks t.disk z)) (sym h.is) in omega arith);
             shape = x.shape;
-            begins = ap (λ z. addresses_of_first_pairs_of_directories (directories_in_thread z)) x.pairs ∙ ended_firsts t.disk w p l u r ending new.disk q_of y ∙ ap (λ z. addresses_of_first_pairs_of_directories (directories_in_thread z)) (sym h.is);
+            begins = ap (λ z. first_pair_addresses (all_directories z)) x.pairs ∙ ended_firsts t.disk w p l u r ending new.disk q_of y ∙ ap (λ z. first_pair_addresses (all_directories z)) (sym h.is);
             root = root;
             leads_on = laid_out_kin t new (go_alike t new all.follows x.shape) (subst HasNoMove (sym state) (record { kind = refl; id = refl; pair = refl })) root
-                (subst (λ z. AreKin (pairs_without_moved_slot z) new.pairs) (sym h.is) (subst (AreKin (pairs_without_moved_slot (thread_at w (p ∷ [])))) (sym x.pairs) (ended_kin t.disk w p l u r ending new.disk q_of y)));
-            kept = λ z none soft among. subst (IsTrueOfSomeElement (λ y. y ≡ z)) (sym x.pairs) (still_there z none (subst (IsTrueOfSomeElement (λ y. y ≡ z)) h.is among));
+                (subst (λ z. AreKin (pairs_without_moved z) new.pairs) (sym h.is) (subst (AreKin (pairs_without_moved (thread_at w (p ∷ [])))) (sym x.pairs) (ended_kin t.disk w p l u r ending new.disk q_of y)));
+            kept = λ z none soft among. subst (HoldsOfSome (λ y. y ≡ z)) (sym x.pairs) (still_there z none (subst (HoldsOfSome (λ y. y ≡ z)) h.is among));
           }
 
   -- ---- at a stop
 
-  left_tree : (left : Blocks) → PowerLossLeavesPairOldOrChanged t pair (end_move_changes t pair id) left → IsLeftOf (disk_with_blocks left t.disk) (tree_on_disk t.disk t.pairs) (tree_on_disk t.disk t.pairs)
-  left_tree left is = go (left_alone t pair (end_move_changes t pair id) w p (l ++ r) move turn left is)
+  left_tree : (left : Blocks) → LossLeavesPairChanged t pair (ending_changes t pair id) left → IsLeftOf (with_blocks left t.disk) (tree_on_disk t.disk t.pairs) (tree_on_disk t.disk t.pairs)
+  left_tree left is = go (left_alone t pair (ending_changes t pair id) w p (l ++ r) move turn left is)
     where
-      go : Stays t pair (end_move_changes t pair id) w p (l ++ r) move turn (disk_with_blocks left t.disk) ⊎ HasTurned t.disk w p (l ++ r) move (disk_with_blocks left t.disk) q_of []
-          → IsLeftOf (disk_with_blocks left t.disk) (tree_on_disk t.disk t.pairs) (tree_on_disk t.disk t.pairs)
-      go (inl d) = left_still t.disk left (thread_at w (p ∷ [])) (subst (IsAcceptedImage t.disk) h.is can.accepted) (subst (IsWritableImage t.disk) h.is can.writable) d (inl (ap (tree_on_disk t.disk) (sym h.is)))
-      go (inr x) = left_after (turned_alone (disk_with_blocks left t.disk) x) (inl (ap (tree_on_disk t.disk) (sym h.is)))
+      go : Stays t pair (ending_changes t pair id) w p (l ++ r) move turn (with_blocks left t.disk) ⊎ HasTurned t.disk w p (l ++ r) move (with_blocks left t.disk) q_of []
+          → IsLeftOf (with_blocks left t.disk) (tree_on_disk t.disk t.pairs) (tree_on_disk t.disk t.pairs)
+      go (inl d) = left_still t.disk left (thread_at w (p ∷ [])) (subst (IsAccepted t.disk) h.is can.accepted) (subst (IsWritable t.disk) h.is can.writable) d (inl (ap (tree_on_disk t.disk) (sym h.is)))
+      go (inr x) = left_after (turned_alone (with_blocks left t.disk) x) (inl (ap (tree_on_disk t.disk) (sym h.is)))
 
-  pub end_survives : (new : List DeviceCallEvent) → PowerLossLeavesSuchBlocksAfterCleanErases t.history new (PowerLossLeavesPairOldOrChanged t pair (end_move_changes t pair id)) → SurvivesPowerLossInCallsSince t.disk t.history new (tree_on_disk t.disk t.pairs) (tree_on_disk t.disk t.pairs)
-  end_survives new stops clean = IsTrueAfterAnyPowerLossSince-weaker left_tree (stops clean)
+  pub end_survives : (new : List CallEvent) → LossLeavesCleanly t.history new (LossLeavesPairChanged t pair (ending_changes t pair id)) → SurvivesLossSince t.disk t.history new (tree_on_disk t.disk t.pairs) (tree_on_disk t.disk t.pairs)
+  end_survives new stops clean = HoldsAtLosses-weaker left_tree (stops clean)

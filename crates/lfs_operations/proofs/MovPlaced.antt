@@ -1,10 +1,10 @@
 -- An entry that goes to a place in another pair, by a move that is set first.
 use Rattle.std.proofs.Common.{◌≢◌, nat_eq, Bool, ℕ, ◌≡◌, ◌+◌, ◌<◌, ◌⊎◌, inl, inr, true, false, List, [], ◌∷◌, ◌++◌, length, Some, refl, sym, ap, subst, ◌∙◌, arith, append-nil, Option}
-use Rattle.lfs_operations.proofs.Common.{IsDistinct, PairContentChange, Disk, IsPairAtAddress, Name, is_valid_name, Slot, gstate_xor, same_pair, Pair, blocks_of_pairs, gstate_of_pairs, starts_with_superblock, pair_count_before_root, Path, tree_after_rename, IsEntryWithinWritableLimits, IsWritableImage, IsAcceptedImage, IsFileOrDirectoryEntry, slot_of_path, IsImageAfterTreeChange, no_move_from, Each, each_right, last_is, is_site, number_is, same, site, slot_of_stands, thread_is, Site, begin_of, thread_at, IsSite, ends_in_hard_tail, KeptThread, SlotsBeginWithSuperblock, complete_content_after_changes, thread_pair_at_index, IsNoDirectory, target_slots}
-use Rattle.lfs_operations.specs.Editing.{CanEditEntryOfPair}
-use Rattle.lfs_operations.specs.MoveEnds.{gstate_naming_moved_slot}
-use Rattle.lfs_operations.specs.Ready.{IsRawPairContentWellFormed}
-use Rattle.lfs_operations.specs.Removing.{is_pair_dropped_with_slot}
+use Rattle.lfs_operations.proofs.Common.{IsDistinct, PairChange, Disk, IsPairAt, Name, is_valid_name, Slot, gstate_xor, same_pair, Pair, blocks_of_pairs, pairs_gstate, starts_superblock, pair_count_before_root, Path, tree_renaming, IsWritableEntry, IsWritable, IsAccepted, IsTreeEntry, slot_of, IsChangedImage, no_move_from, Each, each_right, last_is, is_site, number_is, same, site, slot_of_stands, thread_is, Site, begin_of, thread_at, IsSite, ends_joined, KeptThread, BeginWithSuperblock, complete_after, thread_pair_at, IsNoDirectory, target_slots}
+use Rattle.lfs_operations.specs.Editing.{CanEditIn}
+use Rattle.lfs_operations.specs.MoveEnds.{gstate_naming}
+use Rattle.lfs_operations.specs.Ready.{IsRawFormed}
+use Rattle.lfs_operations.specs.Removing.{drops_with_its_slot}
 use Rattle.lfs_operations.proofs.Held.{IsEntryIfOther, each_pair, here, other_entries}
 use Rattle.lfs_operations.proofs.MovSet.{HasTurned, IsSetting, chain_same, walk_by}
 use Rattle.lfs_operations.proofs.MovStep.{IsFirst}
@@ -13,20 +13,20 @@ use Rattle.lfs_operations.proofs.Removed.{alone, flag_ends, stays_there}
 use Rattle.lfs_operations.proofs.RemovedWhole.{flag_whole, stands_whole}
 
 -- The entry may have the name at the place in the pair p at the site w, where the target stands, if there is one.
-pub record IsPlaceInOtherPair (t : KeptThread) (old_pair old_id new_pair : ℕ) (can : CanEditEntryOfPair t old_pair old_id) (w : Site) (p : Pair) (l : List Slot) (target : Option Slot) (r : List Slot) (name : Name) : Type 0 where
+pub record IsPlaceInOtherPair (t : KeptThread) (old_pair old_id new_pair : ℕ) (can : CanEditIn t old_pair old_id) (w : Site) (p : Pair) (l : List Slot) (target : Option Slot) (r : List Slot) (name : Name) : Type 0 where
   pub there : t.pairs ≡ thread_at w (p ∷ [])
   pub number : new_pair ≡ length w.chain + length (w.before ++ w.left)
   pub site : IsSite w (p ∷ [])
   pub apart : old_pair ≢ new_pair
   pub was : p.content.slots ≡ l ++ (target_slots target ++ r)
-  pub front : l ≡ [] → starts_with_superblock (target_slots target ++ r) ≡ false
+  pub front : l ≡ [] → starts_superblock (target_slots target ++ r) ≡ false
   pub named : is_valid_name name ≡ true
-  pub fits : IsEntryWithinWritableLimits t.disk.profile t.disk.block_size t.disk.page (record can.stands.stands.slot { name = name })
+  pub fits : IsWritableEntry t.disk.profile t.disk.block_size t.disk.page (record can.stands.stands.slot { name = name })
 
-module _ (t : KeptThread) (old_pair old_id first new_pair : ℕ) (can : CanEditEntryOfPair t old_pair old_id) (begins_old : can.first ≡ first)
+module _ (t : KeptThread) (old_pair old_id first new_pair : ℕ) (can : CanEditIn t old_pair old_id) (begins_old : can.first ≡ first)
     (w : Site) (p : Pair) (l : List Slot) (target : Option Slot) (r : List Slot) (name : Name) (k : IsPlaceInOtherPair t old_pair old_id new_pair can w p l target r name) where
   abbrev goes : Bool
-  goes = is_pair_dropped_with_slot t old_pair first
+  goes = drops_with_its_slot t old_pair first
 
   abbrev q : Pair
   q = can.stands.pair
@@ -49,7 +49,7 @@ module _ (t : KeptThread) (old_pair old_id first new_pair : ℕ) (can : CanEditE
   there_old : t.pairs ≡ thread_at wo (q ∷ [])
   there_old = thread_is t.disk t.pairs can.path can.at can.ready.accepted can.leads can.first old_pair q can.stands.rest can.stands.place can.begins
 
-  entry : IsFileOrDirectoryEntry s
+  entry : IsTreeEntry s
   entry =
       let here = each_pair t can.ready can.first old_pair q can.stands.rest can.stands.place (λ x. Each IsEntryIfOther x.content.slots) (other_entries t.disk t.pairs can.ready.accepted) in
       (each_right IsEntryIfOther lo (s ∷ ro) (subst (Each IsEntryIfOther) can.stands.stands.held here)).0 can.stands.stands.entry
@@ -61,9 +61,9 @@ module _ (t : KeptThread) (old_pair old_id first new_pair : ℕ) (can : CanEditE
   setting =
       let old_site = is_site t.disk t.pairs can.path can.at can.ready.accepted can.leads can.first old_pair q can.stands.rest can.stands.place can.begins in
       record {
-        accepted = subst (IsAcceptedImage t.disk) k.there can.ready.accepted;
-        writable = subst (IsWritableImage t.disk) k.there can.ready.writable;
-        settled = ap gstate_of_pairs (sym k.there) ∙ can.ready.settled;
+        accepted = subst (IsAccepted t.disk) k.there can.ready.accepted;
+        writable = subst (IsWritable t.disk) k.there can.ready.writable;
+        settled = ap pairs_gstate (sym k.there) ∙ can.ready.settled;
         site = k.site;
         there = sym there_old ∙ k.there;
         old_site = old_site;
@@ -81,36 +81,36 @@ module _ (t : KeptThread) (old_pair old_id first new_pair : ℕ) (can : CanEditE
         fit = ((λ e. absurd (let z = sym can.stands.stands.entry ∙ e in cc)), (λ e. k.fits));
       }
 
-  first_kept : (l olds : List Slot) → (l ≡ [] → starts_with_superblock (olds ++ r) ≡ false) → SlotsBeginWithSuperblock (l ++ (olds ++ r)) → SlotsBeginWithSuperblock (l ++ v ∷ r)
+  first_kept : (l olds : List Slot) → (l ≡ [] → starts_superblock (olds ++ r) ≡ false) → BeginWithSuperblock (l ++ (olds ++ r)) → BeginWithSuperblock (l ++ v ∷ r)
   first_kept [] olds f e = absurd (let z = sym (f refl) ∙ e.0 in cc)
   first_kept (x ∷ l) olds f e = e
 
   pub same_begin : same_pair (begin_of wo (q ∷ [])) can.at ≡ true
   same_begin = same t.disk t.pairs can.path can.at can.ready.accepted can.leads can.first old_pair q can.stands.rest can.stands.place can.begins
 
-  led_first : old_pair ≡ can.first → ends_in_hard_tail false (wo.before ++ wo.left) ≡ false
+  led_first : old_pair ≡ can.first → ends_joined false (wo.before ++ wo.left) ≡ false
   led_first e =
       let none_before = alone wo.chain wo.before wo.left (wo.right ++ wo.after) q can.at can.first (subst (λ z. IsDistinct nat_eq (blocks_of_pairs z)) there_old can.ready.accepted.thread.distinct) same_begin
-      (subst (λ z. IsPairAtAddress z can.at can.first) there_old can.begins) (sym e ∙ old_number) in
-      ap (λ z. ends_in_hard_tail false (wo.before ++ z)) none_before ∙ ap (ends_in_hard_tail false) (append-nil wo.before) ∙ flag_ends wo.before setting.old_site.ends
+      (subst (λ z. IsPairAt z can.at can.first) there_old can.begins) (sym e ∙ old_number) in
+      ap (λ z. ends_joined false (wo.before ++ z)) none_before ∙ ap (ends_joined false) (append-nil wo.before) ∙ flag_ends wo.before setting.old_site.ends
 
-  stays : goes ≡ false → ends_in_hard_tail false (wo.before ++ wo.left) ≡ true → 1 < length q.content.slots
+  stays : goes ≡ false → ends_joined false (wo.before ++ wo.left) ≡ true → 1 < length q.content.slots
   stays remains hard = go (stays_there t old_pair old_id first can begins_old remains)
     where
-      go : (old_pair ≡ can.first) ⊎ (1 < length (thread_pair_at_index t old_pair).content.slots) → 1 < length q.content.slots
+      go : (old_pair ≡ can.first) ⊎ (1 < length (thread_pair_at t old_pair).content.slots) → 1 < length q.content.slots
       go (inl e) = absurd (let z = sym hard ∙ led_first e in cc)
       go (inr many) = subst (λ (z : Pair). 1 < length z.content.slots) (here t can.ready can.first old_pair q can.stands.rest can.stands.place) many
 
-  goes_alone : goes ≡ true → (ends_in_hard_tail false (wo.before ++ wo.left) ≡ true) × (length q.content.slots ≡ 1)
+  goes_alone : goes ≡ true → (ends_joined false (wo.before ++ wo.left) ≡ true) × (length q.content.slots ≡ 1)
   goes_alone whole =
       let k = stands_whole t old_pair old_id first can begins_old whole in
       (flag_whole t old_pair old_id first can begins_old whole, ap length k.held)
 
-  pub first_of : (sync : Bool) (changes : List PairContentChange) (path : Path)
-      → complete_content_after_changes t new_pair changes ≡ Some (content_with p (l ++ v ∷ r) (gstate_xor (gstate_naming_moved_slot sync q.at (length lo)) p.content.move))
-      → ((disk : Disk) (x : Pair) (more : List Pair) → HasTurned t.disk w p (l ++ v ∷ r) (gstate_xor (gstate_naming_moved_slot sync q.at (length lo)) p.content.move) disk x more
-      → IsImageAfterTreeChange t.disk (thread_at w (p ∷ [])) disk (thread_at w (x ∷ more)) (tree_after_rename (can.path ++ can.name ∷ []) (path ++ name ∷ [])) (walk_by (can.path ++ can.name ∷ []) (path ++ name ∷ [])))
-      → slot_of_path t.pairs (path ++ name ∷ []) ≡ target → (sync ≡ false → IsNoDirectory target)
+  pub first_of : (sync : Bool) (changes : List PairChange) (path : Path)
+      → complete_after t new_pair changes ≡ Some (content_with p (l ++ v ∷ r) (gstate_xor (gstate_naming sync q.at (length lo)) p.content.move))
+      → ((disk : Disk) (x : Pair) (more : List Pair) → HasTurned t.disk w p (l ++ v ∷ r) (gstate_xor (gstate_naming sync q.at (length lo)) p.content.move) disk x more
+      → IsChangedImage t.disk (thread_at w (p ∷ [])) disk (thread_at w (x ∷ more)) (tree_renaming (can.path ++ can.name ∷ []) (path ++ name ∷ [])) (walk_by (can.path ++ can.name ∷ []) (path ++ name ∷ [])))
+      → slot_of t.pairs (path ++ name ∷ []) ≡ target → (sync ≡ false → IsNoDirectory target)
       → IsFirst t sync old_pair goes new_pair changes wo q lo s ro w p l target v r (can.path ++ can.name ∷ []) (path ++ name ∷ []) name
   first_of sync changes path made follows to_slot file = record {
     ready = can.ready;
@@ -120,20 +120,20 @@ module _ (t : KeptThread) (old_pair old_id first new_pair : ℕ) (can : CanEditE
       place = k.number;
       site = k.site;
       made = made;
-      first = λ h. first_kept l (target_slots target) k.front (subst SlotsBeginWithSuperblock k.was (h.kind, h.name));
+      first = λ h. first_kept l (target_slots target) k.front (subst BeginWithSuperblock k.was (h.kind, h.name));
     };
     setting = setting;
     chain = chain_same t.disk wo q lo s ro w p l (target_slots target) v r setting;
     old_place = old_number;
     old_is = ap (λ (z : Pair). z.at) (here t can.ready can.first old_pair q can.stands.rest can.stands.place);
-    logged = subst (λ (z : Pair). IsRawPairContentWellFormed t.disk z.at) (here t can.ready can.first old_pair q can.stands.rest can.stands.place) can.logged;
+    logged = subst (λ (z : Pair). IsRawFormed t.disk z.at) (here t can.ready can.first old_pair q can.stands.rest can.stands.place) can.logged;
     same_slot = refl;
     follows = follows;
     stays = stays;
     alone = goes_alone;
-    from_slot = subst (λ z. slot_of_path z (can.path ++ can.name ∷ []) ≡ Some s) k.there
+    from_slot = subst (λ z. slot_of z (can.path ++ can.name ∷ []) ≡ Some s) k.there
         (slot_of_stands t.disk t.pairs can.path can.at can.ready.accepted can.leads can.first old_pair old_id can.name (no_move_from t.pairs can.ready.settled) can.stands can.begins);
-    to_slot = subst (λ z. slot_of_path z (path ++ name ∷ []) ≡ target) k.there to_slot;
+    to_slot = subst (λ z. slot_of z (path ++ name ∷ []) ≡ target) k.there to_slot;
     to_name = last_is path name;
     file = file;
   }

@@ -1,9 +1,9 @@
 -- Two pairs of one thread: a slot of the one comes into the other, and a set move hides it where it stood.
 use Rattle.std.proofs.Common.{ℕ, zero, suc, ◌≡◌, ◌≢◌, Bool, true, false, cond, not, nat_eq, ◌&&◌, List, [], ◌∷◌, ◌++◌, length, take, drop, refl, sym, ap, ap₂, subst, ◌∙◌, arith, flat_map, append_assoc, append-nil, remove, Less}
-use Rattle.lfs_operations.proofs.Common.{filter-append, Disk, Name, Slot, Gstate, is_superblock, same_pair, Pair, gstate_of_pairs, slots_not_moved, entries_not_moved, directories_of_pairs, Path, EntriesByDirectory, directories_in_thread, entries_by_directory_in_thread, IsPathToDirectory, Each, each_append, each_left, each_right, each_weaker, each_always, each_pieces, each_joined, unmoved_all, site_shows, SameVisible, IsRun, shown_before, shown_behind, place_at, remove_here, entry_only, SameAround, IsMoveSet, IsPlace, unmoved_elsewhere, Site, dirs_at, thread_at, begin_of, run_changed, slots_of_pairs_in_order, pairs_behind}
+use Rattle.lfs_operations.proofs.Common.{filter-append, Disk, Name, Slot, Gstate, is_superblock, same_pair, Pair, pairs_gstate, slots_not_moved, unmoved_entries, pair_directories, Path, EntryMap, all_directories, all_entries, LeadsTo, Each, each_append, each_left, each_right, each_weaker, each_always, each_pieces, each_joined, unmoved_all, site_shows, SameVisible, IsRun, shown_before, shown_behind, place_at, remove_here, entry_only, SameAround, IsMoveSet, IsPlace, unmoved_elsewhere, Site, dirs_at, thread_at, begin_of, run_changed, all_slots, pairs_behind}
 use Rattle.lfs_model.specs.declared.order.NameOrder.{NameOrder}
-use Rattle.lfs_model.specs.Names.{name_cmp}
-use Rattle.lfs_model.specs.Thread.{entries_of_directory}
+use Rattle.lfs_model.specs.format.Names.{name_cmp}
+use Rattle.lfs_model.specs.format.Thread.{directory_slots}
 use Rattle.lfs_model.proofs.Indexes.{place_between}
 use Rattle.lfs_model.proofs.Listings.{Apart, distinct_apart, distinct_right}
 use Rattle.lfs_model.proofs.Moves.{shown_place, shown_of}
@@ -11,7 +11,7 @@ use Rattle.lfs_model.proofs.MoveSets.{site_own, site_entries}
 use Rattle.lfs_model.proofs.Pairs.{put}
 use Rattle.lfs_model.proofs.Rests.{hidden_visible}
 use Rattle.lfs_model.proofs.Sites.{shown_at}
-use Rattle.lfs_model.proofs.Splices.{slots_without_superblock, visible_in}
+use Rattle.lfs_model.proofs.Splices.{entry_slots, visible_in}
 
 -- ---- lists
 
@@ -72,24 +72,24 @@ each_unmoved Q g p h = go (nat_eq g.kind 0x4ff && same_pair g.pair p.at)
 abbrev IfOther : (Slot → Type 0) → Slot → Type 0
 IfOther F s = is_superblock s ≡ false → F s
 
-from_entries : (F : Slot → Type 0) (ss : List Slot) → Each F (slots_without_superblock ss) → Each (IfOther F) ss
+from_entries : (F : Slot → Type 0) (ss : List Slot) → Each F (entry_slots ss) → Each (IfOther F) ss
 from_entries F [] h = tt
 from_entries F (s ∷ ss) h = go (is_superblock s) refl h (λ k. from_entries F ss k)
   where
-    go : (b : Bool) → is_superblock s ≡ b → Each F (cond (not b) (s ∷ slots_without_superblock ss) (slots_without_superblock ss)) → (Each F (slots_without_superblock ss) → Each (IfOther F) ss) → Each (IfOther F) (s ∷ ss)
+    go : (b : Bool) → is_superblock s ≡ b → Each F (cond (not b) (s ∷ entry_slots ss) (entry_slots ss)) → (Each F (entry_slots ss) → Each (IfOther F) ss) → Each (IfOther F) (s ∷ ss)
     go true e k rest = ((λ f. absurd (let z = sym e ∙ f in cc)), rest k)
     go false e k rest = ((λ f. k.0), rest k.1)
 
-to_entries : (F : Slot → Type 0) (ss : List Slot) → Each (IfOther F) ss → Each F (slots_without_superblock ss)
+to_entries : (F : Slot → Type 0) (ss : List Slot) → Each (IfOther F) ss → Each F (entry_slots ss)
 to_entries F [] h = tt
 to_entries F (s ∷ ss) h = go (is_superblock s) refl (to_entries F ss h.1)
   where
-    go : (b : Bool) → is_superblock s ≡ b → Each F (slots_without_superblock ss) → Each F (cond (not b) (s ∷ slots_without_superblock ss) (slots_without_superblock ss))
+    go : (b : Bool) → is_superblock s ≡ b → Each F (entry_slots ss) → Each F (cond (not b) (s ∷ entry_slots ss) (entry_slots ss))
     go true e rest = rest
     go false e rest = (h.0 e, rest)
 
 -- what holds of the entries of pairs holds of those that are visible
-visible_each : (F : Slot → Type 0) (g : Gstate) (ss : List Pair) → Each (IfOther F) (slots_of_pairs_in_order ss) → Each F (flat_map (entries_not_moved g) ss)
+visible_each : (F : Slot → Type 0) (g : Gstate) (ss : List Pair) → Each (IfOther F) (all_slots ss) → Each F (flat_map (unmoved_entries g) ss)
 visible_each F g ss h = subst (Each F) (sym (hidden_visible g ss)) (to_entries F (flat_map (slots_not_moved g) ss)
     (each_joined (IfOther F) (slots_not_moved g) ss (each_weaker (λ (s : Pair). Each (IfOther F) s.content.slots) (λ s. Each (IfOther F) (slots_not_moved g s)) (λ s k. each_unmoved (IfOther F) g s k) ss
     (each_pieces (IfOther F) (λ (s : Pair). s.content.slots) ss h))))
@@ -128,40 +128,40 @@ greater_parts (x ∷ xs) ys name h = greater_parts xs ys name (record {
 module _ (disk new : Disk) (wo : Site) (o : Pair) (lo : List Slot) (u : Slot) (ro : List Slot)
     (w : Site) (p : Pair) (q : Pair) (more : List Pair) (extra : List ℕ) (l : List Slot) (v : Slot) (r : List Slot)
     (step : IsMoveSet disk new wo o lo u ro w p [] q more extra l [] v r)
-    (P : Path) (b : ℕ × ℕ) (leads : IsPathToDirectory (thread_at w (p ∷ [])) P b) (same_old : same_pair (begin_of wo (o ∷ [])) b ≡ true)
-    (Q : Path) (a : ℕ × ℕ) (arrives : IsPathToDirectory (thread_at w (p ∷ [])) Q a) (same : same_pair (begin_of w (p ∷ [])) a ≡ true) where
+    (P : Path) (b : ℕ × ℕ) (leads : LeadsTo (thread_at w (p ∷ [])) P b) (same_old : same_pair (begin_of wo (o ∷ [])) b ≡ true)
+    (Q : Path) (a : ℕ × ℕ) (arrives : LeadsTo (thread_at w (p ∷ [])) Q a) (same : same_pair (begin_of w (p ∷ [])) a ≡ true) where
   abbrev ps : List Pair
   ps = thread_at w (p ∷ [])
 
   abbrev g : Gstate
-  g = gstate_of_pairs ps
+  g = pairs_gstate ps
 
   abbrev h : Gstate
-  h = gstate_of_pairs (thread_at w (q ∷ more))
+  h = pairs_gstate (thread_at w (q ∷ more))
 
   abbrev dirs : List Pair
   dirs = dirs_at w (p ∷ [])
 
-  abbrev E0 : EntriesByDirectory
-  E0 = entries_by_directory_in_thread ps
+  abbrev E0 : EntryMap
+  E0 = all_entries ps
 
-  were : directories_in_thread ps ≡ directories_of_pairs g dirs
-  were = ap (directories_of_pairs g) (pairs_behind w.chain dirs step.site.chain)
+  were : all_directories ps ≡ pair_directories g dirs
+  were = ap (pair_directories g) (pairs_behind w.chain dirs step.site.chain)
 
-  apart_under : (k : Gstate) → Apart (directories_of_pairs k dirs)
+  apart_under : (k : Gstate) → Apart (pair_directories k dirs)
   apart_under k = distinct_apart k dirs (distinct_right w.chain dirs step.accepted.thread.distinct)
 
   run_now : IsRun (w.left ++ (q ∷ more ++ w.right))
   run_now = run_changed w.left p w.right q (more ++ w.right) (step.shape.run w.right) step.site.run
 
   same_under : (k : Gstate) (ss : List Pair) → SameVisible k k ss
-  same_under k ss = each_always (λ s. entries_not_moved k s ≡ entries_not_moved k s) (λ s. refl) ss
+  same_under k ss = each_always (λ s. unmoved_entries k s ≡ unmoved_entries k s) (λ s. refl) ss
 
   around_itself : SameAround h h w
   around_itself = record { before = same_under h w.before; left = same_under h w.left; right = same_under h w.right; after = same_under h w.after }
 
   abbrev Far : Pair → Type 0
-  Far s = same_pair (gstate_of_pairs (thread_at w (q ∷ more))).pair s.at ≡ false
+  Far s = same_pair (pairs_gstate (thread_at w (q ∷ more))).pair s.at ≡ false
 
   far_front : Each Far (wo.before ++ wo.left)
   far_front = each_left Far (wo.before ++ wo.left) (wo.right ++ wo.after) (each_right Far w.chain ((wo.before ++ wo.left) ++ (wo.right ++ wo.after)) step.elsewhere)
@@ -170,8 +170,8 @@ module _ (disk new : Disk) (wo : Site) (o : Pair) (lo : List Slot) (u : Slot) (r
   far_back = each_right Far (wo.before ++ wo.left) (wo.right ++ wo.after) (each_right Far w.chain ((wo.before ++ wo.left) ++ (wo.right ++ wo.after)) step.elsewhere)
 
   far_same : (ss : List Pair) → Each Far ss → SameVisible g h ss
-  far_same ss k = each_weaker Far (λ s. entries_not_moved h s ≡ entries_not_moved g s)
-      (λ s e. ap slots_without_superblock (unmoved_elsewhere h s e ∙ sym (unmoved_all g step.no_move s))) ss k
+  far_same ss k = each_weaker Far (λ s. unmoved_entries h s ≡ unmoved_entries g s)
+      (λ s e. ap entry_slots (unmoved_elsewhere h s e ∙ sym (unmoved_all g step.no_move s))) ss k
 
   around_old : SameAround g h wo
   around_old = record {
@@ -187,56 +187,56 @@ module _ (disk new : Disk) (wo : Site) (o : Pair) (lo : List Slot) (u : Slot) (r
       ∙ ap₂ (λ s i. remove s i) step.was_there step.id ∙ remove_here lo ro u
 
   showed : E0 b ≡ shown_before wo lo ++ u ∷ shown_behind wo ro
-  showed = ap (λ ds. entries_of_directory ds b) were
-      ∙ subst (λ z. entries_of_directory (directories_of_pairs g z) b ≡ shown_at wo g (o ∷ [])) step.there
+  showed = ap (λ ds. directory_slots ds b) were
+      ∙ subst (λ z. directory_slots (pair_directories g z) b ≡ shown_at wo g (o ∷ [])) step.there
       (site_own g g wo o [] o [] step.ends step.run step.run refl (record { before = same_under g wo.before; left = same_under g wo.left; right = same_under g wo.right; after = same_under g wo.after }) b same_old
-      (subst (λ z. Apart (directories_of_pairs g z)) (sym step.there) (apart_under g)))
+      (subst (λ z. Apart (pair_directories g z)) (sym step.there) (apart_under g)))
       ∙ shown_of g step.no_move wo (o ∷ []) lo (u ∷ []) ro (append-nil o.content.slots ∙ step.was_there)
       ∙ ap (λ s. shown_before wo lo ++ (s ++ shown_behind wo ro)) (entry_only u step.other)
 
-  abbrev E1 : EntriesByDirectory
+  abbrev E1 : EntryMap
   E1 = put E0 b (remove (E0 b) (place_at wo lo))
 
-  hidden_there : flat_map (entries_not_moved g) wo.left ++ (flat_map (entries_not_moved h) (o ∷ []) ++ flat_map (entries_not_moved g) wo.right) ≡ remove (E0 b) (place_at wo lo)
-  hidden_there = ap₂ (λ x y. x ++ (flat_map (entries_not_moved h) (o ∷ []) ++ y)) (visible_in g step.no_move wo.left) (visible_in g step.no_move wo.right)
-      ∙ ap (λ z. slots_without_superblock (slots_of_pairs_in_order wo.left) ++ (z ++ slots_without_superblock (slots_of_pairs_in_order wo.right))) (append-nil (entries_not_moved h o) ∙ ap slots_without_superblock hides)
+  hidden_there : flat_map (unmoved_entries g) wo.left ++ (flat_map (unmoved_entries h) (o ∷ []) ++ flat_map (unmoved_entries g) wo.right) ≡ remove (E0 b) (place_at wo lo)
+  hidden_there = ap₂ (λ x y. x ++ (flat_map (unmoved_entries h) (o ∷ []) ++ y)) (visible_in g step.no_move wo.left) (visible_in g step.no_move wo.right)
+      ∙ ap (λ z. entry_slots (all_slots wo.left) ++ (z ++ entry_slots (all_slots wo.right))) (append-nil (unmoved_entries h o) ∙ ap entry_slots hides)
       ∙ shown_place wo lo [] ro
       ∙ sym (ap (λ s. remove s (place_at wo lo)) showed ∙ remove_here (shown_before wo lo) (shown_behind wo ro) u)
 
-  without : (x : ℕ × ℕ) → entries_of_directory (directories_of_pairs h dirs) x ≡ E1 x
-  without x = subst (λ z. entries_of_directory (directories_of_pairs h z) x ≡ put (entries_of_directory (directories_of_pairs g z)) b (flat_map (entries_not_moved g) wo.left ++ (flat_map (entries_not_moved h) (o ∷ []) ++ flat_map (entries_not_moved g) wo.right)) x) step.there
-      (site_entries g h wo o [] o [] step.ends step.run step.run refl around_old b same_old (subst (λ z. Apart (directories_of_pairs g z)) (sym step.there) (apart_under g)) x)
-      ∙ ap₂ (λ ds s. put (entries_of_directory ds) b s x) (sym were) hidden_there
+  without : (x : ℕ × ℕ) → directory_slots (pair_directories h dirs) x ≡ E1 x
+  without x = subst (λ z. directory_slots (pair_directories h z) x ≡ put (directory_slots (pair_directories g z)) b (flat_map (unmoved_entries g) wo.left ++ (flat_map (unmoved_entries h) (o ∷ []) ++ flat_map (unmoved_entries g) wo.right)) x) step.there
+      (site_entries g h wo o [] o [] step.ends step.run step.run refl around_old b same_old (subst (λ z. Apart (pair_directories g z)) (sym step.there) (apart_under g)) x)
+      ∙ ap₂ (λ ds s. put (directory_slots ds) b s x) (sym were) hidden_there
 
   abbrev shown_front : List Slot
-  shown_front = flat_map (entries_not_moved h) w.left ++ slots_without_superblock l
+  shown_front = flat_map (unmoved_entries h) w.left ++ entry_slots l
 
   abbrev shown_back : List Slot
-  shown_back = slots_without_superblock r ++ flat_map (entries_not_moved h) w.right
+  shown_back = entry_slots r ++ flat_map (unmoved_entries h) w.right
 
-  hidden_none : (ss : List Pair) → Each Far ss → flat_map (slots_not_moved h) ss ≡ slots_of_pairs_in_order ss
+  hidden_none : (ss : List Pair) → Each Far ss → flat_map (slots_not_moved h) ss ≡ all_slots ss
   hidden_none [] k = refl
   hidden_none (s ∷ ss) k = ap₂ (λ x y. x ++ y) (unmoved_elsewhere h s k.0) (hidden_none ss k.1)
 
   there_before : E1 a ≡ shown_front ++ shown_back
   there_before = sym (without a) ∙ site_own h h w p [] q more step.site.ends step.site.run run_now step.shape.at around_itself a same (apart_under h)
-      ∙ ap (λ z. flat_map (entries_not_moved h) w.left ++ (z ++ flat_map (entries_not_moved h) w.right)) (hidden_visible h (p ∷ []) ∙ ap slots_without_superblock (hidden_none (p ∷ []) step.apart ∙ step.was))
-      ∙ ap (λ z. flat_map (entries_not_moved h) w.left ++ (z ++ flat_map (entries_not_moved h) w.right)) (filter-append (λ (s : Slot). not (is_superblock s)) l r)
-      ∙ ap (λ z. flat_map (entries_not_moved h) w.left ++ z) (append_assoc (slots_without_superblock l) (slots_without_superblock r) (flat_map (entries_not_moved h) w.right))
-      ∙ sym (append_assoc (flat_map (entries_not_moved h) w.left) (slots_without_superblock l) (slots_without_superblock r ++ flat_map (entries_not_moved h) w.right))
+      ∙ ap (λ z. flat_map (unmoved_entries h) w.left ++ (z ++ flat_map (unmoved_entries h) w.right)) (hidden_visible h (p ∷ []) ∙ ap entry_slots (hidden_none (p ∷ []) step.apart ∙ step.was))
+      ∙ ap (λ z. flat_map (unmoved_entries h) w.left ++ (z ++ flat_map (unmoved_entries h) w.right)) (filter-append (λ (s : Slot). not (is_superblock s)) l r)
+      ∙ ap (λ z. flat_map (unmoved_entries h) w.left ++ z) (append_assoc (entry_slots l) (entry_slots r) (flat_map (unmoved_entries h) w.right))
+      ∙ sym (append_assoc (flat_map (unmoved_entries h) w.left) (entry_slots l) (entry_slots r ++ flat_map (unmoved_entries h) w.right))
 
   -- a name's place is between the same entries
-  pub hidden_place : (name : Name) → IsPlace disk.order (entries_by_directory_in_thread (thread_at w (p ∷ [])) a) (place_at w l) name
-      → IsPlace disk.order (put (entries_by_directory_in_thread (thread_at w (p ∷ []))) b (remove (entries_by_directory_in_thread (thread_at w (p ∷ [])) b) (place_at wo lo)) a) (length (flat_map (entries_not_moved (gstate_of_pairs (thread_at w (q ∷ more)))) w.left ++ slots_without_superblock l)) name
+  pub hidden_place : (name : Name) → IsPlace disk.order (all_entries (thread_at w (p ∷ [])) a) (place_at w l) name
+      → IsPlace disk.order (put (all_entries (thread_at w (p ∷ []))) b (remove (all_entries (thread_at w (p ∷ [])) b) (place_at wo lo)) a) (length (flat_map (unmoved_entries (pairs_gstate (thread_at w (q ∷ more)))) w.left ++ entry_slots l)) name
   hidden_place name place =
-      let shows : entries_by_directory_in_thread (thread_at w (p ∷ [])) a ≡ shown_before w l ++ shown_behind w r
+      let shows : all_entries (thread_at w (p ∷ [])) a ≡ shown_before w l ++ shown_behind w r
       = site_shows disk w p l [] r a step.accepted step.site step.no_move same (sym (append-nil p.content.slots) ∙ step.was) in
       let here = subst (λ z. IsPlace disk.order z (place_at w l) name) shows place in
-      let less = from_entries (λ s. name_cmp disk.order s.name name ≡ Less) (slots_of_pairs_in_order w.left ++ l) (less_parts (shown_before w l) (shown_behind w r) name here) in
-      let more_than = from_entries (λ s. name_cmp disk.order name s.name ≡ Less) (r ++ slots_of_pairs_in_order w.right) (greater_parts (shown_before w l) (shown_behind w r) name here) in
+      let less = from_entries (λ s. name_cmp disk.order s.name name ≡ Less) (all_slots w.left ++ l) (less_parts (shown_before w l) (shown_behind w r) name here) in
+      let more_than = from_entries (λ s. name_cmp disk.order name s.name ≡ Less) (r ++ all_slots w.right) (greater_parts (shown_before w l) (shown_behind w r) name here) in
       let L : Slot → Type 0 = λ s. name_cmp disk.order s.name name ≡ Less in
       let G : Slot → Type 0 = λ s. name_cmp disk.order name s.name ≡ Less in
       subst (λ z. IsPlace disk.order z (length shown_front) name) (sym there_before) (place_between shown_front shown_back name
-      (each_append L (flat_map (entries_not_moved h) w.left) (slots_without_superblock l) (visible_each L h w.left (each_left (IfOther L) (slots_of_pairs_in_order w.left) l less)) (to_entries L l (each_right (IfOther L) (slots_of_pairs_in_order w.left) l less)))
-      (each_append G (slots_without_superblock r) (flat_map (entries_not_moved h) w.right) (to_entries G r (each_left (IfOther G) r (slots_of_pairs_in_order w.right) more_than))
-      (visible_each G h w.right (each_right (IfOther G) r (slots_of_pairs_in_order w.right) more_than))))
+      (each_append L (flat_map (unmoved_entries h) w.left) (entry_slots l) (visible_each L h w.left (each_left (IfOther L) (all_slots w.left) l less)) (to_entries L l (each_right (IfOther L) (all_slots w.left) l less)))
+      (each_append G (entry_slots r) (flat_map (unmoved_entries h) w.right) (to_entries G r (each_left (IfOther G) r (all_slots w.right) more_than))
+      (visible_each G h w.right (each_right (IfOther G) r (all_slots w.right) more_than))))

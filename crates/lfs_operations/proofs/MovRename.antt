@@ -1,15 +1,15 @@
 -- A rename across pairs, from where the entry stands and where its name belongs.
 use Rattle.std.proofs.Common.{Bool, ℕ, ◌≡◌, ◌-◌, ◌<◌, true, false, List, [], ◌∷◌, ◌++◌, length, None, Some, refl, sym, ap, ap₂, subst, ◌∙◌, arith, length-append, insert}
 use Rattle.std.specs.Option.{option_and_then}
-use Rattle.lfs_operations.proofs.Common.{xor_lt, sum_by-append, PairContentChange, PutMove, raw_pair_content_after_changes, RawPairContent, RawSlot, slots_if_names_and_structs_present, pair_content_if_slots_complete, raw_content_of_pair_at, CanSplitSlotsIntoTwoPairs, Disk, DeviceCallEvent, IsPlaceWhereNameBelongs, IsPairOfDirectory, Are32BitPairAddresses, AreMoveStateFieldsWithinBitWidths, Name, is_valid_name, SurvivesPowerLossInCallsSince, Slot, IsContentFittingPair, Gstate, gstate_xor, slot_size, Pair, pair_address_named_by_tail, Path, tree_after_rename, path_without_prefix, IsEntryWithinWritableLimits, IsPathToDirectory, entries_by_directory_in_thread, tree_on_disk, IsImageAfterTreeChange, no_move_from, IsCompleted, complete_insert, complete_length, completed_from, completed_parts, does_first, puts_move, content_cut, entry_small, nothing_there, insert_here, place_at, IsPlace, is_site, number_is, place_of_belongs, same, site, thread_is, Site, thread_at, logged_changed, pair_content_after_changes, PowerLossLeavesSuchBlocksAfterCleanErases, KeptThread, complete_content_after_changes, thread_pair_at_index}
-use Rattle.lfs_operations.specs.Changing.{IsPairNotKeptUnchanged, CanChangeOrSplitPair, IsLeftByStoppedChangeOrSplit, IsPairChangedOrSplit}
-use Rattle.lfs_operations.specs.Editing.{CanEditEntryOfPair}
-use Rattle.lfs_operations.specs.MoveEnds.{CanEndMoveAt, HasEndedMoveAt, gstate_naming_moved_slot}
-use Rattle.lfs_operations.specs.MovingSteps.{CanEndMoveAfterFirstCommit, IsSlotPutAndMoveEnded, pair_number_after_insertion}
-use Rattle.lfs_operations.specs.MovingAcross.{CanRenameAcrossPairs, IsEntryRenamedAcrossPairs, rename_across_pairs_changes, tree_with_moved_entry}
-use Rattle.lfs_operations.specs.Ready.{IsRawPairContentWellFormed}
-use Rattle.lfs_operations.specs.Removing.{is_pair_dropped_with_slot}
-use Rattle.lfs_operations.specs.RenamingSlots.{NamelessSlot, nameless_slot_at, nameless_slot_of, slot_creation_changes}
+use Rattle.lfs_operations.proofs.Common.{xor_lt, sum_by-append, PairChange, PutMove, changed_content_of, RawContent, RawSlot, complete_slots, complete_content, raw_content, CanSplit, Disk, CallEvent, BelongsAt, IsPairOfDirectory, AreWords, MoveStateFits, Name, is_valid_name, SurvivesLossSince, Slot, FitsInPair, Gstate, gstate_xor, slot_size, Pair, tail_address_of, Path, tree_renaming, without_prefix, IsWritableEntry, LeadsTo, all_entries, tree_on_disk, IsChangedImage, no_move_from, IsCompleted, complete_insert, complete_length, completed_from, completed_parts, does_first, puts_move, content_cut, entry_small, nothing_there, insert_here, place_at, IsPlace, is_site, number_is, place_of_belongs, same, site, thread_is, Site, thread_at, logged_changed, changed_pair, LossLeavesCleanly, KeptThread, complete_after, thread_pair_at}
+use Rattle.lfs_operations.specs.Changing.{IsPairTouched, CanTurn, LeftByTurn, IsTurned}
+use Rattle.lfs_operations.specs.Editing.{CanEditIn}
+use Rattle.lfs_operations.specs.MoveEnds.{CanEndAt, HasEndedAt, gstate_naming}
+use Rattle.lfs_operations.specs.MovingSteps.{CanEndSecond, IsPutEnded, number_after_insertion}
+use Rattle.lfs_operations.specs.MovingAcross.{CanRenameAcross, IsRenamedAcross, across_changes, tree_moved}
+use Rattle.lfs_operations.specs.Ready.{IsRawFormed}
+use Rattle.lfs_operations.specs.Removing.{drops_with_its_slot}
+use Rattle.lfs_operations.specs.RenamingSlots.{NamelessSlot, nameless_at, nameless_of, slot_changes}
 use Rattle.lfs_operations.proofs.AlteredAcross.{moved_alters}
 use Rattle.lfs_operations.proofs.Held.{CompletesTo, below, fits_there, here, raw_there}
 use Rattle.lfs_operations.proofs.MovSet.{HasTurned, set_new, walk_by}
@@ -24,21 +24,21 @@ use Rattle.lfs_operations.proofs.MovPlaced.{IsPlaceInOtherPair, first_of, same_b
 -- what the log says of the entry
 record Source (t : KeptThread) (pair id : ℕ) (u : Slot) : Type 0 where
   raw : RawSlot
-  is : nameless_slot_at t pair id ≡ nameless_slot_of raw
+  is : nameless_at t pair id ≡ nameless_of raw
   of : IsOf raw u
 
-module _ (sync : Bool) (t : KeptThread) (old_pair old_id new_pair : ℕ) (can : CanEditEntryOfPair t old_pair old_id) (address : Are32BitPairAddresses (thread_pair_at_index t old_pair).at)
-    (first : ℕ) (p : Pair) (rest : List Pair) (place : IsPairOfDirectory t.pairs first new_pair p rest) (logged : IsRawPairContentWellFormed t.disk (thread_pair_at_index t new_pair).at) where
+module _ (sync : Bool) (t : KeptThread) (old_pair old_id new_pair : ℕ) (can : CanEditIn t old_pair old_id) (address : AreWords (thread_pair_at t old_pair).at)
+    (first : ℕ) (p : Pair) (rest : List Pair) (place : IsPairOfDirectory t.pairs first new_pair p rest) (logged : IsRawFormed t.disk (thread_pair_at t new_pair).at) where
   abbrev pub o : Pair
   o = can.stands.pair
 
   abbrev pub u : Slot
   u = can.stands.stands.slot
 
-  here_o : thread_pair_at_index t old_pair ≡ o
+  here_o : thread_pair_at t old_pair ≡ o
   here_o = here t can.ready can.first old_pair o can.stands.rest can.stands.place
 
-  here_p : thread_pair_at_index t new_pair ≡ p
+  here_p : thread_pair_at t new_pair ≡ p
   here_p = here t can.ready first new_pair p rest place
 
   source : Source t old_pair old_id u
@@ -48,90 +48,90 @@ module _ (sync : Bool) (t : KeptThread) (old_pair old_id new_pair : ℕ) (can : 
     of = is_slot t old_pair old_id can.ready can.first o can.stands.rest can.stands.place can.logged can.name can.stands.stands;
   }
 
-  abbrev pub c : CompletesTo (raw_content_of_pair_at t.disk (thread_pair_at_index t new_pair).at) p.content
+  abbrev pub c : CompletesTo (raw_content t.disk (thread_pair_at t new_pair).at) p.content
   c = raw_there t can.ready first new_pair p rest place
 
   parts : IsCompleted c.raw p.content
   parts = completed_parts c.raw p.content c.complete
 
   abbrev pub move : Gstate
-  move = gstate_xor (gstate_naming_moved_slot sync (thread_pair_at_index t old_pair).at old_id) (thread_pair_at_index t new_pair).content.move
+  move = gstate_xor (gstate_naming sync (thread_pair_at t old_pair).at old_id) (thread_pair_at t new_pair).content.move
 
   abbrev pub delta : Gstate
-  delta = gstate_xor (gstate_naming_moved_slot sync o.at (length can.stands.stands.left)) p.content.move
+  delta = gstate_xor (gstate_naming sync o.at (length can.stands.stands.left)) p.content.move
 
   pub move_is : move ≡ delta
-  move_is = ap₂ (λ (x : Pair) (i : ℕ). gstate_xor (gstate_naming_moved_slot sync x.at i) (thread_pair_at_index t new_pair).content.move) here_o (sym can.stands.stands.number)
-      ∙ ap (λ (x : Pair). gstate_xor (gstate_naming_moved_slot sync o.at (length can.stands.stands.left)) x.content.move) here_p
+  move_is = ap₂ (λ (x : Pair) (i : ℕ). gstate_xor (gstate_naming sync x.at i) (thread_pair_at t new_pair).content.move) here_o (sym can.stands.stands.number)
+      ∙ ap (λ (x : Pair). gstate_xor (gstate_naming sync o.at (length can.stands.stands.left)) x.content.move) here_p
 
   within : old_id < length o.content.slots
   within = let h = ap length can.stands.stands.held in let k = length-append can.stands.stands.left (u ∷ can.stands.stands.right) in let n = can.stands.stands.number in omega arith
 
-  is_state : AreMoveStateFieldsWithinBitWidths move
+  is_state : MoveStateFits move
   is_state =
-      let g = subst AreMoveStateFieldsWithinBitWidths (sym parts.move ∙ ap (λ (x : Pair). x.content.move) (sym here_p)) (logged c.raw c.is).move in
+      let g = subst MoveStateFits (sym parts.move ∙ ap (λ (x : Pair). x.content.move) (sym here_p)) (logged c.raw c.is).move in
       let few = (fits_there t can.ready can.first old_pair o can.stands.rest can.stands.place).count in
       let m = within in
       record {
-        kind = xor_lt 11 0x4ff (thread_pair_at_index t new_pair).content.move.kind (omega arith) g.kind;
-        id = xor_lt 10 old_id (thread_pair_at_index t new_pair).content.move.id (omega arith) g.id;
-        pair = (xor_lt 32 (thread_pair_at_index t old_pair).at.0 (thread_pair_at_index t new_pair).content.move.pair.0 address.0 g.pair.0, xor_lt 32 (thread_pair_at_index t old_pair).at.1 (thread_pair_at_index t new_pair).content.move.pair.1 address.1 g.pair.1);
+        kind = xor_lt 11 0x4ff (thread_pair_at t new_pair).content.move.kind (omega arith) g.kind;
+        id = xor_lt 10 old_id (thread_pair_at t new_pair).content.move.id (omega arith) g.id;
+        pair = (xor_lt 32 (thread_pair_at t old_pair).at.0 (thread_pair_at t new_pair).content.move.pair.0 address.0 g.pair.0, xor_lt 32 (thread_pair_at t old_pair).at.1 (thread_pair_at t new_pair).content.move.pair.1 address.1 g.pair.1);
       }
 
-  abbrev pub raw_mid : RawPairContent
+  abbrev pub raw_mid : RawContent
   raw_mid = record c.raw { move = move }
 
-  module _ (front : List PairContentChange) (a b : List Slot) (left : Leaves raw_mid front (a ++ b)) (fits_left : IsContentFittingPair t.disk.block_size t.disk.page (record p.content { slots = a ++ b }))
-      (at : ℕ) (number : length a ≡ at) (name : Name) (named : is_valid_name name ≡ true) (fits : IsEntryWithinWritableLimits t.disk.profile t.disk.block_size t.disk.page (record u { name = name })) where
-    abbrev pub changes : List PairContentChange
-    changes = PutMove move ∷ (front ++ slot_creation_changes at name (nameless_slot_at t old_pair old_id))
+  module _ (front : List PairChange) (a b : List Slot) (left : Leaves raw_mid front (a ++ b)) (fits_left : FitsInPair t.disk.block_size t.disk.page (record p.content { slots = a ++ b }))
+      (at : ℕ) (number : length a ≡ at) (name : Name) (named : is_valid_name name ≡ true) (fits : IsWritableEntry t.disk.profile t.disk.block_size t.disk.page (record u { name = name })) where
+    abbrev pub changes : List PairChange
+    changes = PutMove move ∷ (front ++ slot_changes at name (nameless_at t old_pair old_id))
 
     abbrev pub moved : Slot
     moved = record u { name = name }
 
     abbrev raw_moved : RawSlot
-    raw_moved = slot_of_parts name (nameless_slot_of source.raw)
+    raw_moved = slot_of_parts name (nameless_of source.raw)
 
-    abbrev raw_now : RawPairContent
+    abbrev raw_now : RawContent
     raw_now = with_slot left.left at raw_moved
 
     length_left : length left.left.slots ≡ length (a ++ b)
     length_left = sym (complete_length left.left.slots (a ++ b) left.are)
 
-    changed_now : raw_pair_content_after_changes c.raw changes ≡ Some raw_now
-    changed_now = does_first (PutMove move) (front ++ slot_creation_changes at name (nameless_slot_at t old_pair old_id)) c.raw raw_mid raw_now (puts_move c.raw move is_state)
-        (left.does (slot_creation_changes at name (nameless_slot_at t old_pair old_id)) raw_now
-        (ap (λ (z : NamelessSlot). raw_pair_content_after_changes left.left (slot_creation_changes at name z)) source.is
-        ∙ slot_comes left.left at name (nameless_slot_of source.raw) (let n = fits_left.count in let k = length-append a b in omega arith)
+    changed_now : changed_content_of c.raw changes ≡ Some raw_now
+    changed_now = does_first (PutMove move) (front ++ slot_changes at name (nameless_at t old_pair old_id)) c.raw raw_mid raw_now (puts_move c.raw move is_state)
+        (left.does (slot_changes at name (nameless_at t old_pair old_id)) raw_now
+        (ap (λ (z : NamelessSlot). changed_content_of left.left (slot_changes at name z)) source.is
+        ∙ slot_comes left.left at name (nameless_of source.raw) (let n = fits_left.count in let k = length-append a b in omega arith)
         (let k = length-append a b in let l = length_left in omega arith) (name_length name named) source.of.are))
 
-    made_raw : pair_content_after_changes t.disk (thread_pair_at_index t new_pair).at changes ≡ Some raw_now
-    made_raw = ap (λ o. option_and_then (λ (x : RawPairContent). raw_pair_content_after_changes x changes) o) c.is ∙ changed_now
+    made_raw : changed_pair t.disk (thread_pair_at t new_pair).at changes ≡ Some raw_now
+    made_raw = ap (λ o. option_and_then (λ (x : RawContent). changed_content_of x changes) o) c.is ∙ changed_now
 
-    slots_now : slots_if_names_and_structs_present raw_now.slots ≡ Some (a ++ moved ∷ b)
+    slots_now : complete_slots raw_now.slots ≡ Some (a ++ moved ∷ b)
     slots_now = complete_insert left.left.slots (a ++ b) at raw_moved moved left.are (source.of.complete name) ∙ ap (λ (i : ℕ). Some (insert (a ++ b) i moved)) (sym number) ∙ ap Some (insert_here a b moved)
 
-    now_complete : pair_content_if_slots_complete raw_now ≡ Some (content_with p (a ++ moved ∷ b) delta)
+    now_complete : complete_content raw_now ≡ Some (content_with p (a ++ moved ∷ b) delta)
     now_complete =
         completed_from raw_now (a ++ moved ∷ b) slots_now
         ∙ ap₂ (λ t m. Some (record { slots = a ++ moved ∷ b; tail = t; move = m })) (left.tail ∙ sym parts.tail) (left.move ∙ move_is)
 
-    pub made : complete_content_after_changes t new_pair changes ≡ Some (content_with p (a ++ moved ∷ b) delta)
-    made = ap (λ o. option_and_then pair_content_if_slots_complete o) made_raw ∙ now_complete
+    pub made : complete_after t new_pair changes ≡ Some (content_with p (a ++ moved ∷ b) delta)
+    made = ap (λ o. option_and_then complete_content o) made_raw ∙ now_complete
 
-    cut : CanSplitSlotsIntoTwoPairs t.disk.block_size t.disk.page raw_now.slots
+    cut : CanSplit t.disk.block_size t.disk.page raw_now.slots
     cut = content_cut t.disk.block_size t.disk.page raw_now (content_with p (a ++ moved ∷ b) delta) a moved b (logged_changed c.raw changes raw_now (logged c.raw c.is) changed_now) now_complete refl
         (entry_small t.disk.profile t.disk.block_size t.disk.page moved can.ready.large fits)
         (let f = fits_left.size in let k = sum_by-append slot_size a b in omega arith)
         (let n = fits_left.count in let k = length-append a b in omega arith)
 
-    pub can_put : CanChangeOrSplitPair t new_pair changes
+    pub can_put : CanTurn t new_pair changes
     can_put = record {
       can = record {
         below = below t can.ready first new_pair p rest place;
         content = content_with p (a ++ moved ∷ b) delta;
         made = made;
-        next = ap (λ (z : Pair). pair_address_named_by_tail z.content.tail) (sym here_p);
+        next = ap (λ (z : Pair). tail_address_of z.content.tail) (sym here_p);
       };
       raw = raw_now;
       made = made_raw;
@@ -140,14 +140,14 @@ module _ (sync : Bool) (t : KeptThread) (old_pair old_id new_pair : ℕ) (can : 
 
 -- ---- to a new name
 
-module _ (t : KeptThread) (old_pair old_id first new_pair new_id : ℕ) (name : Name) (rename : CanRenameAcrossPairs t old_pair old_id first new_pair new_id name) (address : Are32BitPairAddresses (thread_pair_at_index t old_pair).at) where
-  abbrev can : CanEditEntryOfPair t old_pair old_id
+module _ (t : KeptThread) (old_pair old_id first new_pair new_id : ℕ) (name : Name) (rename : CanRenameAcross t old_pair old_id first new_pair new_id name) (address : AreWords (thread_pair_at t old_pair).at) where
+  abbrev can : CanEditIn t old_pair old_id
   can = rename.old
 
   abbrev goes : Bool
-  goes = is_pair_dropped_with_slot t old_pair first
+  goes = drops_with_its_slot t old_pair first
 
-  abbrev b : IsPlaceWhereNameBelongs t.disk.order t.pairs rename.to_first name new_pair new_id
+  abbrev b : BelongsAt t.disk.order t.pairs rename.to_first name new_pair new_id
   b = rename.belongs
 
   abbrev p : Pair
@@ -177,16 +177,16 @@ module _ (t : KeptThread) (old_pair old_id first new_pair new_id : ℕ) (name : 
   there : t.pairs ≡ thread_at w (p ∷ [])
   there = thread_is t.disk t.pairs rename.path rename.at can.ready.accepted rename.leads rename.to_first new_pair p (b.later ++ b.rest) b.place rename.begins
 
-  held_all : slots_if_names_and_structs_present (raw_mid false t old_pair old_id new_pair can address rename.to_first p (b.later ++ b.rest) b.place rename.logged).slots ≡ Some (b.left ++ b.right)
+  held_all : complete_slots (raw_mid false t old_pair old_id new_pair can address rename.to_first p (b.later ++ b.rest) b.place rename.logged).slots ≡ Some (b.left ++ b.right)
   held_all = (completed_parts (c false t old_pair old_id new_pair can address rename.to_first p (b.later ++ b.rest) b.place rename.logged).raw p.content (c false t old_pair old_id new_pair can address rename.to_first p (b.later ++ b.rest) b.place rename.logged).complete).slots ∙ ap Some b.held
 
   leaves : Leaves (raw_mid false t old_pair old_id new_pair can address rename.to_first p (b.later ++ b.rest) b.place rename.logged) [] (b.left ++ b.right)
   leaves = leaves_all (raw_mid false t old_pair old_id new_pair can address rename.to_first p (b.later ++ b.rest) b.place rename.logged) (b.left ++ b.right) held_all
 
-  fits_left : IsContentFittingPair t.disk.block_size t.disk.page (record p.content { slots = b.left ++ b.right })
-  fits_left = subst (λ z. IsContentFittingPair t.disk.block_size t.disk.page (record p.content { slots = z })) b.held (fits_there t can.ready rename.to_first new_pair p (b.later ++ b.rest) b.place)
+  fits_left : FitsInPair t.disk.block_size t.disk.page (record p.content { slots = b.left ++ b.right })
+  fits_left = subst (λ z. FitsInPair t.disk.block_size t.disk.page (record p.content { slots = z })) b.held (fits_there t can.ready rename.to_first new_pair p (b.later ++ b.rest) b.place)
 
-  pub can_put_across : CanChangeOrSplitPair t new_pair (rename_across_pairs_changes t old_pair old_id new_pair new_id name)
+  pub can_put_across : CanTurn t new_pair (across_changes t old_pair old_id new_pair new_id name)
   can_put_across = can_put false t old_pair old_id new_pair can address rename.to_first p (b.later ++ b.rest) b.place rename.logged [] b.left b.right leaves fits_left new_id b.number name rename.is_name rename.fits
 
   aim : IsPlaceInOtherPair t old_pair old_id new_pair can w p b.left None b.right name
@@ -201,7 +201,7 @@ module _ (t : KeptThread) (old_pair old_id first new_pair new_id : ℕ) (name : 
     fits = rename.fits;
   }
 
-  place : IsPlace t.disk.order (entries_by_directory_in_thread t.pairs rename.at) (place_at w b.left) name
+  place : IsPlace t.disk.order (all_entries t.pairs rename.at) (place_at w b.left) name
   place = place_of_belongs t.disk t.pairs rename.path rename.at can.ready.accepted rename.leads rename.to_first new_pair new_id name (no_move_from t.pairs can.ready.settled) b rename.begins
 
   abbrev from : Path
@@ -210,52 +210,52 @@ module _ (t : KeptThread) (old_pair old_id first new_pair new_id : ℕ) (name : 
   abbrev to : Path
   to = rename.path ++ name ∷ []
 
-  follows : (disk : Disk) (x : Pair) (more : List Pair) → HasTurned t.disk w p (b.left ++ v ∷ b.right) (gstate_xor (gstate_naming_moved_slot false q.at (length lo)) p.content.move) disk x more
-      → IsImageAfterTreeChange t.disk (thread_at w (p ∷ [])) disk (thread_at w (x ∷ more)) (tree_after_rename from to) (walk_by from to)
-  follows disk x more turned = subst (λ (n : Name). IsImageAfterTreeChange t.disk (thread_at w (p ∷ [])) disk (thread_at w (x ∷ more)) (tree_after_rename (can.path ++ n ∷ []) to) (walk_by (can.path ++ n ∷ []) to)) can.stands.stands.named
-      (set_new t.disk wo q lo s ro w p b.left v b.right false disk x more turned can.path can.at (subst (λ z. IsPathToDirectory z can.path can.at) there can.leads) (same_begin t old_pair old_id first new_pair can rename.begins_old w p b.left None b.right name aim)
-      rename.path rename.at (subst (λ z. IsPathToDirectory z rename.path rename.at) there rename.leads)
+  follows : (disk : Disk) (x : Pair) (more : List Pair) → HasTurned t.disk w p (b.left ++ v ∷ b.right) (gstate_xor (gstate_naming false q.at (length lo)) p.content.move) disk x more
+      → IsChangedImage t.disk (thread_at w (p ∷ [])) disk (thread_at w (x ∷ more)) (tree_renaming from to) (walk_by from to)
+  follows disk x more turned = subst (λ (n : Name). IsChangedImage t.disk (thread_at w (p ∷ [])) disk (thread_at w (x ∷ more)) (tree_renaming (can.path ++ n ∷ []) to) (walk_by (can.path ++ n ∷ []) to)) can.stands.stands.named
+      (set_new t.disk wo q lo s ro w p b.left v b.right false disk x more turned can.path can.at (subst (λ z. LeadsTo z can.path can.at) there can.leads) (same_begin t old_pair old_id first new_pair can rename.begins_old w p b.left None b.right name aim)
+      rename.path rename.at (subst (λ z. LeadsTo z rename.path rename.at) there rename.leads)
       (same t.disk t.pairs rename.path rename.at can.ready.accepted rename.leads rename.to_first new_pair p (b.later ++ b.rest) b.place rename.begins)
-      (setting t old_pair old_id first new_pair can rename.begins_old w p b.left None b.right name aim) refl (ap (λ (n : Name). path_without_prefix (can.path ++ n ∷ []) to) can.stands.stands.named ∙ rename.not_beneath)
-      (subst (λ z. IsPlace t.disk.order (entries_by_directory_in_thread z rename.at) (place_at w b.left) name) there place))
+      (setting t old_pair old_id first new_pair can rename.begins_old w p b.left None b.right name aim) refl (ap (λ (n : Name). without_prefix (can.path ++ n ∷ []) to) can.stands.stands.named ∙ rename.not_beneath)
+      (subst (λ z. IsPlace t.disk.order (all_entries z rename.at) (place_at w b.left) name) there place))
 
-  is_first : IsFirst t false old_pair goes new_pair (rename_across_pairs_changes t old_pair old_id new_pair new_id name) wo q lo s ro w p b.left None v b.right from to name
-  is_first = first_of t old_pair old_id first new_pair can rename.begins_old w p b.left None b.right name aim false (rename_across_pairs_changes t old_pair old_id new_pair new_id name) rename.path
+  is_first : IsFirst t false old_pair goes new_pair (across_changes t old_pair old_id new_pair new_id name) wo q lo s ro w p b.left None v b.right from to name
+  is_first = first_of t old_pair old_id first new_pair can rename.begins_old w p b.left None b.right name aim false (across_changes t old_pair old_id new_pair new_id name) rename.path
       (made false t old_pair old_id new_pair can address rename.to_first p (b.later ++ b.rest) b.place rename.logged [] b.left b.right leaves fits_left new_id b.number name rename.is_name rename.fits)
       follows (nothing_there t.disk t.pairs rename.path rename.at (place_at w b.left) name rename.leads place).0 (λ e. tt)
 
-  pub ends_across : (mid : KeptThread) → IsPairChangedOrSplit t new_pair (rename_across_pairs_changes t old_pair old_id new_pair new_id name) mid → CanEndMoveAfterFirstCommit t old_pair old_id goes new_pair mid
+  pub ends_across : (mid : KeptThread) → IsTurned t new_pair (across_changes t old_pair old_id new_pair new_id name) mid → CanEndSecond t old_pair old_id goes new_pair mid
   ends_across mid is =
-      let x = first_turned t false old_pair goes new_pair (rename_across_pairs_changes t old_pair old_id new_pair new_id name) wo q lo s ro w p b.left None v b.right from to name is_first mid is in
+      let x = first_turned t false old_pair goes new_pair (across_changes t old_pair old_id new_pair new_id name) wo q lo s ro w p b.left None v b.right from to name is_first mid is in
       record {
         apart = rename.apart;
-        grown = grown t false old_pair goes new_pair (rename_across_pairs_changes t old_pair old_id new_pair new_id name) wo q lo s ro w p b.left None v b.right from to name is_first mid x;
-        can = subst (λ i. CanEndMoveAt mid (pair_number_after_insertion old_pair new_pair (length mid.pairs - length t.pairs)) i goes) can.stands.stands.number
-            (mid_ends t false old_pair goes new_pair (rename_across_pairs_changes t old_pair old_id new_pair new_id name) wo q lo s ro w p b.left None v b.right from to name is_first mid x);
-        at = same_at t false old_pair goes new_pair (rename_across_pairs_changes t old_pair old_id new_pair new_id name) wo q lo s ro w p b.left None v b.right from to name is_first mid x;
+        grown = grown t false old_pair goes new_pair (across_changes t old_pair old_id new_pair new_id name) wo q lo s ro w p b.left None v b.right from to name is_first mid x;
+        can = subst (λ i. CanEndAt mid (number_after_insertion old_pair new_pair (length mid.pairs - length t.pairs)) i goes) can.stands.stands.number
+            (mid_ends t false old_pair goes new_pair (across_changes t old_pair old_id new_pair new_id name) wo q lo s ro w p b.left None v b.right from to name is_first mid x);
+        at = same_at t false old_pair goes new_pair (across_changes t old_pair old_id new_pair new_id name) wo q lo s ro w p b.left None v b.right from to name is_first mid x;
       }
 
-  pub shows_across : (mid : KeptThread) → IsPairChangedOrSplit t new_pair (rename_across_pairs_changes t old_pair old_id new_pair new_id name) mid → tree_on_disk mid.disk mid.pairs ≡ tree_with_moved_entry t can.path can.name rename.path name
-  shows_across mid is = mid_shows t false old_pair goes new_pair (rename_across_pairs_changes t old_pair old_id new_pair new_id name) wo q lo s ro w p b.left None v b.right from to name is_first mid
-      (first_turned t false old_pair goes new_pair (rename_across_pairs_changes t old_pair old_id new_pair new_id name) wo q lo s ro w p b.left None v b.right from to name is_first mid is)
+  pub shows_across : (mid : KeptThread) → IsTurned t new_pair (across_changes t old_pair old_id new_pair new_id name) mid → tree_on_disk mid.disk mid.pairs ≡ tree_moved t can.path can.name rename.path name
+  shows_across mid is = mid_shows t false old_pair goes new_pair (across_changes t old_pair old_id new_pair new_id name) wo q lo s ro w p b.left None v b.right from to name is_first mid
+      (first_turned t false old_pair goes new_pair (across_changes t old_pair old_id new_pair new_id name) wo q lo s ro w p b.left None v b.right from to name is_first mid is)
 
-  pub survives_across : (calls : List DeviceCallEvent) → PowerLossLeavesSuchBlocksAfterCleanErases t.history calls (IsLeftByStoppedChangeOrSplit t new_pair (rename_across_pairs_changes t old_pair old_id new_pair new_id name))
-      → SurvivesPowerLossInCallsSince t.disk t.history calls (tree_on_disk t.disk t.pairs) (tree_with_moved_entry t can.path can.name rename.path name)
-  survives_across calls stops = first_survives t false old_pair goes new_pair (rename_across_pairs_changes t old_pair old_id new_pair new_id name) wo q lo s ro w p b.left None v b.right from to name is_first calls stops
+  pub survives_across : (calls : List CallEvent) → LossLeavesCleanly t.history calls (LeftByTurn t new_pair (across_changes t old_pair old_id new_pair new_id name))
+      → SurvivesLossSince t.disk t.history calls (tree_on_disk t.disk t.pairs) (tree_moved t can.path can.name rename.path name)
+  survives_across calls stops = first_survives t false old_pair goes new_pair (across_changes t old_pair old_id new_pair new_id name) wo q lo s ro w p b.left None v b.right from to name is_first calls stops
 
-  pub renamed_across : (new : KeptThread) → IsSlotPutAndMoveEnded t old_pair old_id goes new_pair (rename_across_pairs_changes t old_pair old_id new_pair new_id name) new → IsEntryRenamedAcrossPairs t new can.path can.name rename.path name
+  pub renamed_across : (new : KeptThread) → IsPutEnded t old_pair old_id goes new_pair (across_changes t old_pair old_id new_pair new_id name) new → IsRenamedAcross t new can.path can.name rename.path name
   renamed_across new is =
-      let x = first_turned t false old_pair goes new_pair (rename_across_pairs_changes t old_pair old_id new_pair new_id name) wo q lo s ro w p b.left None v b.right from to name is_first is.mid is.put in
-      let e = subst (λ i. HasEndedMoveAt is.mid (pair_number_after_insertion old_pair new_pair (length is.mid.pairs - length t.pairs)) i goes new) (sym can.stands.stands.number) is.ended in
+      let x = first_turned t false old_pair goes new_pair (across_changes t old_pair old_id new_pair new_id name) wo q lo s ro w p b.left None v b.right from to name is_first is.mid is.put in
+      let e = subst (λ i. HasEndedAt is.mid (number_after_insertion old_pair new_pair (length is.mid.pairs - length t.pairs)) i goes new) (sym can.stands.stands.number) is.ended in
       record {
-        now = rename_becomes t false old_pair goes new_pair (rename_across_pairs_changes t old_pair old_id new_pair new_id name) wo q lo s ro w p b.left None v b.right from to name is_first is.mid x new e refl;
+        now = rename_becomes t false old_pair goes new_pair (across_changes t old_pair old_id new_pair new_id name) wo q lo s ro w p b.left None v b.right from to name is_first is.mid x new e refl;
         completed = λ z given to_given tree given_is to_is.
-            rename_completed t false old_pair goes new_pair (rename_across_pairs_changes t old_pair old_id new_pair new_id name) wo q lo s ro w p b.left None v b.right from to name is_first is.mid x new e refl z given to_given tree given_is to_is;
+            rename_completed t false old_pair goes new_pair (across_changes t old_pair old_id new_pair new_id name) wo q lo s ro w p b.left None v b.right from to name is_first is.mid x new e refl z given to_given tree given_is to_is;
       }
 
   -- ---- what stays
 
-  pub across_alters : (new : KeptThread) → IsSlotPutAndMoveEnded t old_pair old_id goes new_pair (rename_across_pairs_changes t old_pair old_id new_pair new_id name) new → IsPairNotKeptUnchanged t new_pair new
-  across_alters new is = moved_alters t false old_pair goes new_pair (rename_across_pairs_changes t old_pair old_id new_pair new_id name) wo q lo s ro w p b.left v b.right from to name is_first is.mid
-      (first_turned t false old_pair goes new_pair (rename_across_pairs_changes t old_pair old_id new_pair new_id name) wo q lo s ro w p b.left None v b.right from to name is_first is.mid is.put) new
-      (subst (λ i. HasEndedMoveAt is.mid (pair_number_after_insertion old_pair new_pair (length is.mid.pairs - length t.pairs)) i goes new) (sym can.stands.stands.number) is.ended)
+  pub across_alters : (new : KeptThread) → IsPutEnded t old_pair old_id goes new_pair (across_changes t old_pair old_id new_pair new_id name) new → IsPairTouched t new_pair new
+  across_alters new is = moved_alters t false old_pair goes new_pair (across_changes t old_pair old_id new_pair new_id name) wo q lo s ro w p b.left v b.right from to name is_first is.mid
+      (first_turned t false old_pair goes new_pair (across_changes t old_pair old_id new_pair new_id name) wo q lo s ro w p b.left None v b.right from to name is_first is.mid is.put) new
+      (subst (λ i. HasEndedAt is.mid (number_after_insertion old_pair new_pair (length is.mid.pairs - length t.pairs)) i goes new) (sym can.stands.stands.number) is.ended)

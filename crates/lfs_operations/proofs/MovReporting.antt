@@ -1,25 +1,25 @@
 -- What two steps tell, one after the other, and what a stop in them leaves.
 use Rattle.std.proofs.Common.{ℕ, zero, suc, ◌≡◌, ◌≢◌, ◌+◌, ◌-◌, ◌<◌, ◌≤◌, ◌⊎◌, inl, inr, Bool, true, false, cond, List, [], ◌∷◌, length, Result, Ok, Err, refl, sym, ap, subst, ◌∙◌, arith, get_or, insert, length-set, set, take}
 use Rattle.std.specs.Prelude.{All, IfErr, IsErrOf, is_err, nat_lt}
-use Rattle.lfs_operations.proofs.Common.{cases_lt, le-ltb, lt-ltb, All-from_recursion, recursion_from_All, PairContentChange, Disk, DeviceCallEvent, IsTrueOfEachCallSince, fault_count_of_history, Blocks, HasTreeBeforeOrAfterOperation as IsLeftOf, SurvivesPowerLossInCallsSince, disk_with_blocks, Pair, pairs_from_root_directory_on, pair_count_before_root, blocks_of_pair_address, blocks_of_two_pair_addresses, tree_on_disk, survives_then, IsTrueAfterAnyPowerLossSince-weaker, ends_in_hard_tail, PowerLossLeavesSuchBlocksAfterCleanErases, KeptThread, ThreadView, HasSameGeometry, IsPairChanged, ThreadChangesOnlyTheseBlocks, back_pair_of_split, front_pair_of_split, empty_pair_at_anchor, thread_pair_at_index}
+use Rattle.lfs_operations.proofs.Common.{cases_lt, le-ltb, lt-ltb, All-from_recursion, recursion_from_All, PairChange, Disk, CallEvent, AllCallsSince, fault_count, Blocks, HasEither as IsLeftOf, SurvivesLossSince, with_blocks, Pair, pairs_from_root, pair_count_before_root, address_blocks, addresses_blocks, tree_on_disk, survives_then, HoldsAtLosses-weaker, ends_joined, LossLeavesCleanly, KeptThread, ThreadView, SameGeometryAs, IsPairCommitted, ChangesThreadBlocks, split_back_pair, split_front_pair, empty_anchor, thread_pair_at}
 use Rattle.lfs_device.specs.declared.error.Error.{Error}
 use Rattle.lfs_device.specs.declared.error.Error.TheVariants.{Io, NoMemory, NoSpace}
-use Rattle.lfs_operations.specs.Changing.{AreTwoFreeBlocks, IsPairSplitInto, IsLeftByStoppedChangeOrSplit, IsPairChangedOrSplit, WritesPairAndTwoFreeBlocks, has_thread_failed_after_result}
-use Rattle.lfs_operations.specs.MoveEnds.{pair_written_at_move_end, is_pair_named_by_hard_tail}
-use Rattle.lfs_operations.specs.MovingSteps.{CanEndMoveAfterFirstCommit, SurvivesBothMoveCommits, ReportsErrorsOfCommitsTakingBlocks, WritesTwoPairsAndTwoFreeBlocks, pair_number_after_insertion}
+use Rattle.lfs_operations.specs.Changing.{AreTwoFree, IsSplitInto, LeftByTurn, IsTurned, WritesPairTwo, has_failed_after}
+use Rattle.lfs_operations.specs.MoveEnds.{written_at_end, follows_hard_tail_of}
+use Rattle.lfs_operations.specs.MovingSteps.{CanEndSecond, SurvivesBothCommits, ReportsErrorsOfCommitsTakingBlocks, WritesTwoTwo, number_after_insertion}
 use Rattle.lfs_operations.specs.Removing.{ReportsErrorsOfCommitTakingNoBlock}
 use Rattle.lfs_operations.proofs.Putting.{writes_trans, writes_wider}
 
-failing : (e : Error) → (e ≡ Io) ⊎ (e ≡ NoMemory) → has_thread_failed_after_result {X = Unit {0}} (Err e) ≡ true
-failing e (inl io) = ap (λ z. has_thread_failed_after_result {X = Unit {0}} (Err z)) io
-failing e (inr memory) = ap (λ z. has_thread_failed_after_result {X = Unit {0}} (Err z)) memory
+failing : (e : Error) → (e ≡ Io) ⊎ (e ≡ NoMemory) → has_failed_after {X = Unit {0}} (Err e) ≡ true
+failing e (inl io) = ap (λ z. has_failed_after {X = Unit {0}} (Err z)) io
+failing e (inr memory) = ap (λ z. has_failed_after {X = Unit {0}} (Err z)) memory
 
 not_space : (r : Result (Unit {0}) Error) → IfErr r (λ e. (e ≡ Io) ⊎ (e ≡ NoMemory)) → r ≡ Err NoSpace → ⊥
 not_space (Ok x) h e = absurd (cc)
 not_space (Err e) (inl h) k = let z : e ≡ NoSpace = cc in absurd (let w = sym h ∙ z in cc)
 not_space (Err e) (inr h) k = let z : e ≡ NoSpace = cc in absurd (let w = sym h ∙ z in cc)
 
-pub reports_of_end : (old mid new : ThreadView) (index : ℕ) (changes : List PairContentChange) (r : Result (Unit {0}) Error) → fault_count_of_history mid.kept.history ≡ fault_count_of_history old.kept.history → ReportsErrorsOfCommitTakingNoBlock mid new r → ReportsErrorsOfCommitsTakingBlocks old new index changes r
+pub reports_of_end : (old mid new : ThreadView) (index : ℕ) (changes : List PairChange) (r : Result (Unit {0}) Error) → fault_count mid.kept.history ≡ fault_count old.kept.history → ReportsErrorsOfCommitTakingNoBlock mid new r → ReportsErrorsOfCommitsTakingBlocks old new index changes r
 reports_of_end old mid new index changes r same h = record {
   failed = inl (go r h.failed h.reported.errors);
   errors = wider r h.reported.errors;
@@ -30,7 +30,7 @@ reports_of_end old mid new index changes r same h = record {
   too_large = λ none. absurd (not_space r h.reported.errors none);
 }
   where
-    go : (r : Result (Unit {0}) Error) → new.failed ≡ is_err r → IfErr r (λ e. (e ≡ Io) ⊎ (e ≡ NoMemory)) → new.failed ≡ has_thread_failed_after_result r
+    go : (r : Result (Unit {0}) Error) → new.failed ≡ is_err r → IfErr r (λ e. (e ≡ Io) ⊎ (e ≡ NoMemory)) → new.failed ≡ has_failed_after r
     go (Ok x) f k = f
     go (Err e) f k = f ∙ sym (failing e k)
 
@@ -55,15 +55,15 @@ without_first a b c d fresh k h =
     let e = recursion_from_All (λ x. x ≢ k) (a ∷ b ∷ c ∷ d ∷ fresh) h in
     All-from_recursion (λ x. x ≢ k) (c ∷ d ∷ []) (e.1.1.0, (e.1.1.1.0, tt))
 
-pub writes_first : (old mid : KeptThread) (one other : ℕ) → WritesPairAndTwoFreeBlocks old other mid → WritesTwoPairsAndTwoFreeBlocks old one other mid
+pub writes_first : (old mid : KeptThread) (one other : ℕ) → WritesPairTwo old other mid → WritesTwoTwo old one other mid
 writes_first old mid one other w = record {
   fresh = w.fresh;
   few = w.few;
   free = w.free;
-  writes = writes_wider ((thread_pair_at_index old other).at.0 ∷ (thread_pair_at_index old other).at.1 ∷ (thread_pair_at_index old one).at.0 ∷ (thread_pair_at_index old one).at.1 ∷ w.fresh) (without_second (thread_pair_at_index old other).at.0 (thread_pair_at_index old other).at.1 (thread_pair_at_index old one).at.0 (thread_pair_at_index old one).at.1 w.fresh) w.writes;
+  writes = writes_wider ((thread_pair_at old other).at.0 ∷ (thread_pair_at old other).at.1 ∷ (thread_pair_at old one).at.0 ∷ (thread_pair_at old one).at.1 ∷ w.fresh) (without_second (thread_pair_at old other).at.0 (thread_pair_at old other).at.1 (thread_pair_at old one).at.0 (thread_pair_at old one).at.1 w.fresh) w.writes;
 }
 
-pub writes_both : (old mid new : KeptThread) (one other place : ℕ) → (thread_pair_at_index mid place).at ≡ (thread_pair_at_index old one).at → WritesPairAndTwoFreeBlocks old other mid → ThreadChangesOnlyTheseBlocks (blocks_of_pair_address (thread_pair_at_index mid place).at) mid new → WritesTwoPairsAndTwoFreeBlocks old one other new
+pub writes_both : (old mid new : KeptThread) (one other place : ℕ) → (thread_pair_at mid place).at ≡ (thread_pair_at old one).at → WritesPairTwo old other mid → ChangesThreadBlocks (address_blocks (thread_pair_at mid place).at) mid new → WritesTwoTwo old one other new
 unfolding writes_first
 writes_both old mid new one other place at w e =
     let f = writes_first old mid one other w in
@@ -71,18 +71,18 @@ writes_both old mid new one other place at w e =
       fresh = w.fresh;
       few = w.few;
       free = w.free;
-      writes = writes_trans f.writes (writes_wider ((thread_pair_at_index old other).at.0 ∷ (thread_pair_at_index old other).at.1 ∷ (thread_pair_at_index old one).at.0 ∷ (thread_pair_at_index old one).at.1 ∷ w.fresh) (without_first (thread_pair_at_index old other).at.0 (thread_pair_at_index old other).at.1 (thread_pair_at_index old one).at.0 (thread_pair_at_index old one).at.1 w.fresh) (subst (λ (a : ℕ × ℕ). ThreadChangesOnlyTheseBlocks (blocks_of_pair_address a) mid new) at e));
+      writes = writes_trans f.writes (writes_wider ((thread_pair_at old other).at.0 ∷ (thread_pair_at old other).at.1 ∷ (thread_pair_at old one).at.0 ∷ (thread_pair_at old one).at.1 ∷ w.fresh) (without_first (thread_pair_at old other).at.0 (thread_pair_at old other).at.1 (thread_pair_at old one).at.0 (thread_pair_at old one).at.1 w.fresh) (subst (λ (a : ℕ × ℕ). ChangesThreadBlocks (address_blocks a) mid new) at e));
     }
 
 -- the second step writes the fresh pair
-writes_fresh : (old mid new : KeptThread) (one other : ℕ) (fresh : ℕ × ℕ) → AreTwoFreeBlocks old.map fresh → ThreadChangesOnlyTheseBlocks (blocks_of_two_pair_addresses (thread_pair_at_index old other).at fresh) old mid → ThreadChangesOnlyTheseBlocks (blocks_of_pair_address fresh) mid new → WritesTwoPairsAndTwoFreeBlocks old one other new
+writes_fresh : (old mid new : KeptThread) (one other : ℕ) (fresh : ℕ × ℕ) → AreTwoFree old.map fresh → ChangesThreadBlocks (addresses_blocks (thread_pair_at old other).at fresh) old mid → ChangesThreadBlocks (address_blocks fresh) mid new → WritesTwoTwo old one other new
 writes_fresh old mid new one other fresh free w e =
-    let bs = (thread_pair_at_index old other).at.0 ∷ (thread_pair_at_index old other).at.1 ∷ (thread_pair_at_index old one).at.0 ∷ (thread_pair_at_index old one).at.1 ∷ fresh.0 ∷ fresh.1 ∷ [] in
+    let bs = (thread_pair_at old other).at.0 ∷ (thread_pair_at old other).at.1 ∷ (thread_pair_at old one).at.0 ∷ (thread_pair_at old one).at.1 ∷ fresh.0 ∷ fresh.1 ∷ [] in
     record {
       fresh = fresh.0 ∷ fresh.1 ∷ [];
       few = omega arith;
       free = (free.first, (free.second, tt));
-      writes = writes_trans (writes_wider bs (without_second (thread_pair_at_index old other).at.0 (thread_pair_at_index old other).at.1 (thread_pair_at_index old one).at.0 (thread_pair_at_index old one).at.1 (fresh.0 ∷ fresh.1 ∷ [])) w) (writes_wider bs (λ k h. (let e = recursion_from_All (λ x. x ≢ k) bs h in All-from_recursion (λ x. x ≢ k) (blocks_of_pair_address fresh) e.1.1.1.1)) e);
+      writes = writes_trans (writes_wider bs (without_second (thread_pair_at old other).at.0 (thread_pair_at old other).at.1 (thread_pair_at old one).at.0 (thread_pair_at old one).at.1 (fresh.0 ∷ fresh.1 ∷ [])) w) (writes_wider bs (λ k h. (let e = recursion_from_All (λ x. x ≢ k) bs h in All-from_recursion (λ x. x ≢ k) (address_blocks fresh) e.1.1.1.1)) e);
     }
 
 -- ---- the pair in front of the old one, once the new one has changed
@@ -125,37 +125,37 @@ next_to i o apart a b = go (cases_lt o i)
 
 -- Where the first step has put the changes, the second one writes the pair in front of the old one: that is a pair that stood
 -- there, or a fresh one.
-module _ (old mid new : KeptThread) (index other : ℕ) (changes : List PairContentChange) (put : IsPairChangedOrSplit old other changes mid) (below : other < length old.pairs) (apart : index ≢ other)
-    (above : 0 < pair_number_after_insertion index other (length mid.pairs - length old.pairs))
-    (first : WritesPairAndTwoFreeBlocks old other mid) (second : ThreadChangesOnlyTheseBlocks (blocks_of_pair_address (thread_pair_at_index mid (pair_number_after_insertion index other (length mid.pairs - length old.pairs) - 1)).at) mid new) where
+module _ (old mid new : KeptThread) (index other : ℕ) (changes : List PairChange) (put : IsTurned old other changes mid) (below : other < length old.pairs) (apart : index ≢ other)
+    (above : 0 < number_after_insertion index other (length mid.pairs - length old.pairs))
+    (first : WritesPairTwo old other mid) (second : ChangesThreadBlocks (address_blocks (thread_pair_at mid (number_after_insertion index other (length mid.pairs - length old.pairs) - 1)).at) mid new) where
   abbrev place : ℕ
-  place = pair_number_after_insertion index other (length mid.pairs - length old.pairs)
+  place = number_after_insertion index other (length mid.pairs - length old.pairs)
 
-  stood : (thread_pair_at_index mid (pair_number_after_insertion index other (length mid.pairs - length old.pairs) - 1)).at ≡ (thread_pair_at_index old (index - 1)).at → WritesTwoPairsAndTwoFreeBlocks old (index - 1) other new
-  stood at = writes_both old mid new (index - 1) other (pair_number_after_insertion index other (length mid.pairs - length old.pairs) - 1) at first second
+  stood : (thread_pair_at mid (number_after_insertion index other (length mid.pairs - length old.pairs) - 1)).at ≡ (thread_pair_at old (index - 1)).at → WritesTwoTwo old (index - 1) other new
+  stood at = writes_both old mid new (index - 1) other (number_after_insertion index other (length mid.pairs - length old.pairs) - 1) at first second
 
-  changed : IsPairChanged old other changes mid → WritesTwoPairsAndTwoFreeBlocks old (index - 1) other new
+  changed : IsPairCommitted old other changes mid → WritesTwoTwo old (index - 1) other new
   changed is =
-      let many = ap length is.pairs ∙ length-set old.pairs other (record { at = (thread_pair_at_index old other).at; content = is.content }) in
-      let same : pair_number_after_insertion index other (length mid.pairs - length old.pairs) ≡ index = place_same index other (length mid.pairs - length old.pairs) (omega arith) in
-      stood (ap (λ (i : ℕ). (thread_pair_at_index mid (i - 1)).at) same ∙ ap (λ z. (get_or z (index - 1) empty_pair_at_anchor).at) is.pairs
-      ∙ get_set old.pairs other (index - 1) (record { at = (thread_pair_at_index old other).at; content = is.content }) empty_pair_at_anchor refl)
+      let many = ap length is.pairs ∙ length-set old.pairs other (record { at = (thread_pair_at old other).at; content = is.content }) in
+      let same : number_after_insertion index other (length mid.pairs - length old.pairs) ≡ index = place_same index other (length mid.pairs - length old.pairs) (omega arith) in
+      stood (ap (λ (i : ℕ). (thread_pair_at mid (i - 1)).at) same ∙ ap (λ z. (get_or z (index - 1) empty_anchor).at) is.pairs
+      ∙ get_set old.pairs other (index - 1) (record { at = (thread_pair_at old other).at; content = is.content }) empty_anchor refl)
     where
-      place_same : (i o n : ℕ) → n ≡ 0 → pair_number_after_insertion i o n ≡ i
-      place_same i o n e = ap (pair_number_after_insertion i o) e ∙ go (nat_lt i o)
+      place_same : (i o n : ℕ) → n ≡ 0 → number_after_insertion i o n ≡ i
+      place_same i o n e = ap (number_after_insertion i o) e ∙ go (nat_lt i o)
         where
           go : (b : Bool) → cond b i (i + 0) ≡ i
           go true = refl
           go false = omega arith
 
-  cut : (fresh : ℕ × ℕ) → IsPairSplitInto old other fresh changes mid → WritesTwoPairsAndTwoFreeBlocks old (index - 1) other new
+  cut : (fresh : ℕ × ℕ) → IsSplitInto old other fresh changes mid → WritesTwoTwo old (index - 1) other new
   cut fresh is = go (cases_lt index other)
     where
       in_cut : Pair
-      in_cut = front_pair_of_split old other is.content is.cut fresh
+      in_cut = split_front_pair old other is.content is.cut fresh
 
       behind_cut : Pair
-      behind_cut = back_pair_of_split is.content is.cut fresh
+      behind_cut = split_back_pair is.content is.cut fresh
 
       there : length (set old.pairs other in_cut) ≡ length old.pairs
       there = length-set old.pairs other in_cut
@@ -163,76 +163,76 @@ module _ (old mid new : KeptThread) (index other : ℕ) (changes : List PairCont
       many : length mid.pairs ≡ suc (length old.pairs)
       many = ap length is.pairs ∙ length_of_insert (set old.pairs other in_cut) (other + 1) behind_cut (let e = there in omega arith) ∙ ap suc there
 
-      in_front : index < other → pair_number_after_insertion index other (length mid.pairs - length old.pairs) ≡ index
+      in_front : index < other → number_after_insertion index other (length mid.pairs - length old.pairs) ≡ index
       in_front l = ap (λ b. cond b index (index + (length mid.pairs - length old.pairs))) (lt-ltb index other l)
 
-      behind : other < index → pair_number_after_insertion index other (length mid.pairs - length old.pairs) ≡ index + 1
+      behind : other < index → number_after_insertion index other (length mid.pairs - length old.pairs) ≡ index + 1
       behind l = ap (λ b. cond b index (index + (length mid.pairs - length old.pairs))) (le-ltb index other (omega arith)) ∙ (let m = many in omega arith)
 
-      get_is : (j : ℕ) → thread_pair_at_index mid j ≡ get_or (insert (set old.pairs other in_cut) (other + 1) behind_cut) j empty_pair_at_anchor
-      get_is j = ap (λ z. get_or z j empty_pair_at_anchor) is.pairs
+      get_is : (j : ℕ) → thread_pair_at mid j ≡ get_or (insert (set old.pairs other in_cut) (other + 1) behind_cut) j empty_anchor
+      get_is j = ap (λ z. get_or z j empty_anchor) is.pairs
 
-      further : other + 1 < index → WritesTwoPairsAndTwoFreeBlocks old (index - 1) other new
+      further : other + 1 < index → WritesTwoTwo old (index - 1) other new
       further l =
-          let e : pair_number_after_insertion index other (length mid.pairs - length old.pairs) - 1 ≡ suc (index - 1) = (let b = behind (omega arith) in omega arith) in
-          stood (ap (λ (i : ℕ). (thread_pair_at_index mid i).at) e ∙ ap (λ (z : Pair). z.at) (get_is (suc (index - 1)))
-          ∙ ap (λ (z : Pair). z.at) (get_after (set old.pairs other in_cut) (other + 1) (index - 1) behind_cut empty_pair_at_anchor (omega arith) (let t = there in omega arith))
-          ∙ get_set old.pairs other (index - 1) in_cut empty_pair_at_anchor refl)
+          let e : number_after_insertion index other (length mid.pairs - length old.pairs) - 1 ≡ suc (index - 1) = (let b = behind (omega arith) in omega arith) in
+          stood (ap (λ (i : ℕ). (thread_pair_at mid i).at) e ∙ ap (λ (z : Pair). z.at) (get_is (suc (index - 1)))
+          ∙ ap (λ (z : Pair). z.at) (get_after (set old.pairs other in_cut) (other + 1) (index - 1) behind_cut empty_anchor (omega arith) (let t = there in omega arith))
+          ∙ get_set old.pairs other (index - 1) in_cut empty_anchor refl)
 
-      next : other + 1 ≡ index → WritesTwoPairsAndTwoFreeBlocks old (index - 1) other new
+      next : other + 1 ≡ index → WritesTwoTwo old (index - 1) other new
       next l =
-          let e : pair_number_after_insertion index other (length mid.pairs - length old.pairs) - 1 ≡ other + 1 = (let b = behind (omega arith) in omega arith) in
-          let at : (thread_pair_at_index mid (pair_number_after_insertion index other (length mid.pairs - length old.pairs) - 1)).at ≡ fresh
-          = ap (λ (i : ℕ). (thread_pair_at_index mid i).at) e ∙ ap (λ (z : Pair). z.at) (get_is (other + 1) ∙ get_inserted (set old.pairs other in_cut) (other + 1) behind_cut empty_pair_at_anchor (let t = there in omega arith)) in
-          writes_fresh old mid new (index - 1) other fresh is.free is.writes (subst (λ (a : ℕ × ℕ). ThreadChangesOnlyTheseBlocks (blocks_of_pair_address a) mid new) at second)
+          let e : number_after_insertion index other (length mid.pairs - length old.pairs) - 1 ≡ other + 1 = (let b = behind (omega arith) in omega arith) in
+          let at : (thread_pair_at mid (number_after_insertion index other (length mid.pairs - length old.pairs) - 1)).at ≡ fresh
+          = ap (λ (i : ℕ). (thread_pair_at mid i).at) e ∙ ap (λ (z : Pair). z.at) (get_is (other + 1) ∙ get_inserted (set old.pairs other in_cut) (other + 1) behind_cut empty_anchor (let t = there in omega arith)) in
+          writes_fresh old mid new (index - 1) other fresh is.free is.writes (subst (λ (a : ℕ × ℕ). ChangesThreadBlocks (address_blocks a) mid new) at second)
 
-      go : (index < other) ⊎ (other ≤ index) → WritesTwoPairsAndTwoFreeBlocks old (index - 1) other new
+      go : (index < other) ⊎ (other ≤ index) → WritesTwoTwo old (index - 1) other new
       go (inl l) =
           let e = in_front l in
           let a = above in
-          stood (ap (λ (i : ℕ). (thread_pair_at_index mid (i - 1)).at) e ∙ ap (λ (z : Pair). z.at) (get_is (index - 1))
-          ∙ ap (λ (z : Pair). z.at) (get_before (set old.pairs other in_cut) (other + 1) (index - 1) behind_cut empty_pair_at_anchor (omega arith) (let t = there in omega arith))
-          ∙ get_set old.pairs other (index - 1) in_cut empty_pair_at_anchor refl)
+          stood (ap (λ (i : ℕ). (thread_pair_at mid (i - 1)).at) e ∙ ap (λ (z : Pair). z.at) (get_is (index - 1))
+          ∙ ap (λ (z : Pair). z.at) (get_before (set old.pairs other in_cut) (other + 1) (index - 1) behind_cut empty_anchor (omega arith) (let t = there in omega arith))
+          ∙ get_set old.pairs other (index - 1) in_cut empty_anchor refl)
       go (inr l) = by (cases_lt (other + 1) index)
         where
-          by : (other + 1 < index) ⊎ (index ≤ other + 1) → WritesTwoPairsAndTwoFreeBlocks old (index - 1) other new
+          by : (other + 1 < index) ⊎ (index ≤ other + 1) → WritesTwoTwo old (index - 1) other new
           by (inl k) = further k
           by (inr k) = next (next_to index other apart l k)
 
-  pub writes_in_front : WritesTwoPairsAndTwoFreeBlocks old (index - 1) other new
+  pub writes_in_front : WritesTwoTwo old (index - 1) other new
   writes_in_front = go put
     where
-      go : IsPairChangedOrSplit old other changes mid → WritesTwoPairsAndTwoFreeBlocks old (index - 1) other new
+      go : IsTurned old other changes mid → WritesTwoTwo old (index - 1) other new
       go (inl is) = changed is
       go (inr (large, (fresh, is))) = cut fresh is
 
-not_first : (ps : List Pair) (n : ℕ) → is_pair_named_by_hard_tail ps n ≡ true → 0 < n
-not_first ps zero e = absurd (let z : ends_in_hard_tail false (take (0 - pair_count_before_root ps) (pairs_from_root_directory_on ps)) ≡ true = e in let k : 0 - pair_count_before_root ps ≡ 0 = omega arith in
-    let w = sym z ∙ ap (λ (i : ℕ). ends_in_hard_tail false (take i (pairs_from_root_directory_on ps))) k in cc)
+not_first : (ps : List Pair) (n : ℕ) → follows_hard_tail_of ps n ≡ true → 0 < n
+not_first ps zero e = absurd (let z : ends_joined false (take (0 - pair_count_before_root ps) (pairs_from_root ps)) ≡ true = e in let k : 0 - pair_count_before_root ps ≡ 0 = omega arith in
+    let w = sym z ∙ ap (λ (i : ℕ). ends_joined false (take i (pairs_from_root ps))) k in cc)
 not_first ps (suc n) e = omega arith
 
-pub writes_at_end : (old mid new : KeptThread) (old_pair old_id : ℕ) (goes : Bool) (new_pair : ℕ) (changes : List PairContentChange) → IsPairChangedOrSplit old new_pair changes mid → new_pair < length old.pairs → CanEndMoveAfterFirstCommit old old_pair old_id goes new_pair mid
-    → WritesPairAndTwoFreeBlocks old new_pair mid → ThreadChangesOnlyTheseBlocks (blocks_of_pair_address (thread_pair_at_index mid (pair_written_at_move_end (pair_number_after_insertion old_pair new_pair (length mid.pairs - length old.pairs)) goes)).at) mid new → WritesTwoPairsAndTwoFreeBlocks old (pair_written_at_move_end old_pair goes) new_pair new
+pub writes_at_end : (old mid new : KeptThread) (old_pair old_id : ℕ) (goes : Bool) (new_pair : ℕ) (changes : List PairChange) → IsTurned old new_pair changes mid → new_pair < length old.pairs → CanEndSecond old old_pair old_id goes new_pair mid
+    → WritesPairTwo old new_pair mid → ChangesThreadBlocks (address_blocks (thread_pair_at mid (written_at_end (number_after_insertion old_pair new_pair (length mid.pairs - length old.pairs)) goes)).at) mid new → WritesTwoTwo old (written_at_end old_pair goes) new_pair new
 unfolding writes_both
 writes_at_end old mid new old_pair old_id false new_pair changes put below ends first second =
-    writes_both old mid new old_pair new_pair (pair_number_after_insertion old_pair new_pair (length mid.pairs - length old.pairs)) ends.at first second
+    writes_both old mid new old_pair new_pair (number_after_insertion old_pair new_pair (length mid.pairs - length old.pairs)) ends.at first second
 writes_at_end old mid new old_pair old_id true new_pair changes put below ends first second =
-    writes_in_front old mid new old_pair new_pair changes put below ends.apart (not_first mid.pairs (pair_number_after_insertion old_pair new_pair (length mid.pairs - length old.pairs)) (ends.can.alone refl).0) first second
+    writes_in_front old mid new old_pair new_pair changes put below ends.apart (not_first mid.pairs (number_after_insertion old_pair new_pair (length mid.pairs - length old.pairs)) (ends.can.alone refl).0) first second
 
 -- ---- at a stop
 
-same_disk : (old new : Disk) (blocks : Blocks) → HasSameGeometry old new → disk_with_blocks blocks new ≡ disk_with_blocks blocks old
+same_disk : (old new : Disk) (blocks : Blocks) → SameGeometryAs old new → with_blocks blocks new ≡ with_blocks blocks old
 same_disk old new blocks h = λ j. record { block_size = h.block_size j; page = h.page j; order = h.order j; profile = h.profile j; blocks = blocks }
 
-pub survives_both : (old mid new : KeptThread) (index : ℕ) (changes : List PairContentChange) {P : DeviceCallEvent → Type 0} → IsPairChangedOrSplit old index changes mid → PowerLossLeavesSuchBlocksAfterCleanErases old.history mid.history (IsLeftByStoppedChangeOrSplit old index changes)
-    → WritesPairAndTwoFreeBlocks old index mid → IsTrueOfEachCallSince P mid.history new.history → SurvivesPowerLossInCallsSince mid.disk mid.history new.history (tree_on_disk mid.disk mid.pairs) (tree_on_disk mid.disk mid.pairs) → SurvivesBothMoveCommits old index changes new
+pub survives_both : (old mid new : KeptThread) (index : ℕ) (changes : List PairChange) {P : CallEvent → Type 0} → IsTurned old index changes mid → LossLeavesCleanly old.history mid.history (LeftByTurn old index changes)
+    → WritesPairTwo old index mid → AllCallsSince P mid.history new.history → SurvivesLossSince mid.disk mid.history new.history (tree_on_disk mid.disk mid.pairs) (tree_on_disk mid.disk mid.pairs) → SurvivesBothCommits old index changes new
 survives_both old mid new index changes put stops w since second before after first shows =
-    survives_then old.disk old.history mid.history new.history before after w.writes.at_worst since (first mid.history stops) (λ clean. IsTrueAfterAnyPowerLossSince-weaker left (second clean))
+    survives_then old.disk old.history mid.history new.history before after w.writes.at_worst since (first mid.history stops) (λ clean. HoldsAtLosses-weaker left (second clean))
   where
-    left : (blocks : Blocks) → IsLeftOf (disk_with_blocks blocks mid.disk) (tree_on_disk mid.disk mid.pairs) (tree_on_disk mid.disk mid.pairs) → IsLeftOf (disk_with_blocks blocks old.disk) before after
+    left : (blocks : Blocks) → IsLeftOf (with_blocks blocks mid.disk) (tree_on_disk mid.disk mid.pairs) (tree_on_disk mid.disk mid.pairs) → IsLeftOf (with_blocks blocks old.disk) before after
     left blocks k = subst (λ d. IsLeftOf d before after) (same_disk old.disk mid.disk blocks w.writes.shape)
         (record { pairs = k.pairs; accepted = k.accepted; writable = k.writable; tree = inr (either k.tree) })
       where
-        either : (tree_on_disk (disk_with_blocks blocks mid.disk) k.pairs ≡ tree_on_disk mid.disk mid.pairs) ⊎ (tree_on_disk (disk_with_blocks blocks mid.disk) k.pairs ≡ tree_on_disk mid.disk mid.pairs) → tree_on_disk (disk_with_blocks blocks mid.disk) k.pairs ≡ after
+        either : (tree_on_disk (with_blocks blocks mid.disk) k.pairs ≡ tree_on_disk mid.disk mid.pairs) ⊎ (tree_on_disk (with_blocks blocks mid.disk) k.pairs ≡ tree_on_disk mid.disk mid.pairs) → tree_on_disk (with_blocks blocks mid.disk) k.pairs ≡ after
         either (inl e) = e ∙ shows mid put
         either (inr e) = e ∙ shows mid put

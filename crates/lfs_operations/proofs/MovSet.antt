@@ -1,34 +1,34 @@
 -- The first step of a rename across pairs: the slot comes under its new name, and a set move hides the old one.
 use Rattle.std.proofs.Common.{ℕ, ◌≡◌, ◌≢◌, ◌+◌, inl, inr, Bool, true, false, cond, nat_eq, List, [], ◌∷◌, ◌++◌, length, None, refl, sym, ap, ap₂, subst, ◌∙◌, arith, flat_map, append_assoc, append-nil, remove, slice_get}
 use Rattle.std.specs.Prelude.{All}
-use Rattle.lfs_operations.proofs.Common.{IsDistinct, recursion_from_All, flat_map-append, Disk, block_bytes_on_disk, Slot, Gstate, is_superblock, same_pair, zero_gstate, gstate_xor, pair_with_slots, Pair, blocks_of_pairs, gstate_of_pairs, starts_with_superblock, pair_count_before_root, slots_not_moved, Path, Tree, branch_address_of_struct, path_without_prefix, tree_after_subtree_replacement, tree_after_rename, entries_by_directory_in_thread, IsPathToDirectory, used_blocks, skip_list_blocks_of_struct, all_slots_not_moved, IsFileOrDirectoryEntry, HasValidMoveOrNone, IsSomeSlotButNotSuperblock, IsAcceptedImage, IsWritableImage, IsSlotWithinWritableLimits, Became, became_front, became_shape, IsImageAfterTreeChange, SameFiles, slots_files, no_move_from, recovered_from, Each, each_append, each_left, each_right, each_weaker, each_pieces, occurrence_count_of_number, count_append, once_from_distinct, distinct_from_once, HasSameFileBlocksOfStructOnDisks, gstate_cons, gstate_right, flip_false, place_at, get_here, remove_here, IsMoveSet, IsPlace, some_filled, pair_itself, site_gstate_moved, unmoved_elsewhere, avoids_front, avoids_behind, Site, dirs_at, thread_at, IsSite, begin_of, IsTrueOfSomeElement, among_right, among_left, slots_of_pairs_in_order, file_blocks_of_slots, count_files, unmoved_in, IsDevice, IsWritableImageAfterTreeChange, IsPut}
-use Rattle.lfs_model.proofs.Laws.{DirectoryAddressByPath}
+use Rattle.lfs_operations.proofs.Common.{IsDistinct, recursion_from_All, flat_map-append, Disk, disk_block, Slot, Gstate, is_superblock, same_pair, zero_gstate, gstate_xor, pair_with_slots, Pair, blocks_of_pairs, pairs_gstate, starts_superblock, pair_count_before_root, slots_not_moved, Path, Tree, branch_address, without_prefix, tree_with_subtree, tree_renaming, all_entries, LeadsTo, used_blocks, struct_blocks, all_slots_not_moved, IsTreeEntry, HasValidMove, IsEntry, IsAccepted, IsWritable, IsWritableSlot, Became, became_front, became_shape, IsChangedImage, SameFiles, slots_files, no_move_from, recovered_from, Each, each_append, each_left, each_right, each_weaker, each_pieces, number_count, count_append, once_from_distinct, distinct_from_once, SameFileBlocks, gstate_cons, gstate_right, flip_false, place_at, get_here, remove_here, IsMoveSet, IsPlace, some_filled, pair_itself, site_gstate_moved, unmoved_elsewhere, avoids_front, avoids_behind, Site, dirs_at, thread_at, IsSite, begin_of, HoldsOfSome, among_right, among_left, all_slots, file_blocks, count_files, unmoved_in, IsDevice, IsWritableChange, IsPut}
+use Rattle.lfs_model.proofs.Laws.{PathAddresses}
 use Rattle.lfs_model.proofs.MoveSets.{move_sets, move_sets_onto}
 use Rattle.lfs_model.proofs.Sites.{any_from}
 use Rattle.lfs_model.proofs.Splices.{AreFree}
 use Rattle.lfs_model.proofs.StepsTaken.{set_taken}
-use Rattle.lfs_operations.specs.MoveEnds.{gstate_naming_moved_slot}
+use Rattle.lfs_operations.specs.MoveEnds.{gstate_naming}
 use Rattle.lfs_operations.proofs.MovPlaces.{SameParts, same_parts, InTurn, ahead, behind, in_turn, hidden_place}
 use Rattle.lfs_operations.proofs.Placing.{blocks_append}
 
-abbrev pub walk_by : Path → Path → DirectoryAddressByPath → DirectoryAddressByPath
-walk_by old new d = tree_after_subtree_replacement new (λ t. d (old ++ t)) (tree_after_subtree_replacement old (λ t. None) d)
+abbrev pub walk_by : Path → Path → PathAddresses → PathAddresses
+walk_by old new d = tree_with_subtree new (λ t. d (old ++ t)) (tree_with_subtree old (λ t. None) d)
 
 -- The pair has these slots and that delta on the new disk, or that pair and a fresh one behind it have.
 pub record HasTurned (old : Disk) (w : Site) (p : Pair) (slots : List Slot) (move : Gstate) (disk : Disk) (q : Pair) (more : List Pair) : Type 0 where
   pub at : q.at ≡ p.at
-  pub delta : gstate_of_pairs (q ∷ more) ≡ move
-  pub is : slots_of_pairs_in_order (q ∷ more) ≡ slots
+  pub delta : pairs_gstate (q ∷ more) ≡ move
+  pub is : all_slots (q ∷ more) ≡ slots
   pub became : Became old p (pair_with_slots slots p) q more
   pub device : IsDevice old disk (thread_at w (p ∷ [])) (thread_at w (q ∷ more))
   pub free : AreFree old (thread_at w (p ∷ [])) (blocks_of_pairs more) []
-  pub same : (b : ℕ) → occurrence_count_of_number b (blocks_of_pairs more ++ blocks_of_pairs (p ∷ [])) ≡ 0 → block_bytes_on_disk disk b ≡ block_bytes_on_disk old b
+  pub same : (b : ℕ) → number_count b (blocks_of_pairs more ++ blocks_of_pairs (p ∷ [])) ≡ 0 → disk_block disk b ≡ disk_block old b
 
 -- The slot u stands in the pair o at the site wo, and v is to stand in another pair p at the site w, in place of `olds`.
 pub record IsSetting (disk : Disk) (wo : Site) (o : Pair) (lo : List Slot) (u : Slot) (ro : List Slot) (w : Site) (p : Pair) (l olds : List Slot) (v : Slot) (r : List Slot) : Type 0 where
-  pub accepted : IsAcceptedImage disk (thread_at w (p ∷ []))
-  pub writable : IsWritableImage disk (thread_at w (p ∷ []))
-  pub settled : gstate_of_pairs (thread_at w (p ∷ [])) ≡ zero_gstate
+  pub accepted : IsAccepted disk (thread_at w (p ∷ []))
+  pub writable : IsWritable disk (thread_at w (p ∷ []))
+  pub settled : pairs_gstate (thread_at w (p ∷ [])) ≡ zero_gstate
   pub site : IsSite w (p ∷ [])
   pub there : thread_at wo (o ∷ []) ≡ thread_at w (p ∷ [])
   pub old_site : IsSite wo (o ∷ [])
@@ -36,10 +36,10 @@ pub record IsSetting (disk : Disk) (wo : Site) (o : Pair) (lo : List Slot) (u : 
   pub other : is_superblock u ≡ false
   pub apart : length (w.before ++ w.left) ≢ length (wo.before ++ wo.left)
   pub was : p.content.slots ≡ l ++ (olds ++ r)
-  pub front : l ≡ [] → starts_with_superblock (olds ++ r) ≡ false
-  pub entry : IsFileOrDirectoryEntry v
+  pub front : l ≡ [] → starts_superblock (olds ++ r) ≡ false
+  pub entry : IsTreeEntry v
   pub struct : v.struct ≡ u.struct
-  pub fit : IsSlotWithinWritableLimits disk.profile disk.block_size disk.page v
+  pub fit : IsWritableSlot disk.profile disk.block_size disk.page v
 
 module _ (disk : Disk) (wo : Site) (o : Pair) (lo : List Slot) (u : Slot) (ro : List Slot) (w : Site) (p : Pair) (l olds : List Slot) (v : Slot) (r : List Slot)
     (k : IsSetting disk wo o lo u ro w p l olds v r) where
@@ -91,7 +91,7 @@ module _ (disk : Disk) (wo : Site) (o : Pair) (lo : List Slot) (u : Slot) (ro : 
       go (ahead mid e f) = (each_right Far mid (p ∷ (w.right ++ w.after)) (subst (Each Far) e far_back)).0
       go (behind mid e f) = (each_right Far (w.before ++ w.left) (p ∷ mid) (subst (Each Far) f (each_right Far w.chain front_o far_front))).0
 
-  module _ (sync : Bool) (new : Disk) (q : Pair) (more : List Pair) (x : HasTurned disk w p (l ++ v ∷ r) (gstate_xor (gstate_naming_moved_slot sync o.at (length lo)) p.content.move) new q more) where
+  module _ (sync : Bool) (new : Disk) (q : Pair) (more : List Pair) (x : HasTurned disk w p (l ++ v ∷ r) (gstate_xor (gstate_naming sync o.at (length lo)) p.content.move) new q more) where
     abbrev qs : List Pair
     qs = thread_at w (q ∷ more)
 
@@ -103,44 +103,44 @@ module _ (disk : Disk) (wo : Site) (o : Pair) (lo : List Slot) (u : Slot) (ro : 
         let c = count_append b (blocks_of_pairs more ++ []) (used_blocks disk (thread_at w (p ∷ []))) in
         let d = count_append b (blocks_of_pairs more) [] in
         let e = count_append b (blocks_of_pairs (thread_at w (p ∷ []))) (flat_map (λ s. file_blocks_of s) (all_slots_not_moved (thread_at w (p ∷ [])))) in
-        let g = ap (λ z. occurrence_count_of_number b (blocks_of_pairs z)) grouped in
+        let g = ap (λ z. number_count b (blocks_of_pairs z)) grouped in
         let h = blocks_append more ((w.chain ++ front_o) ++ o ∷ back_o) b in
-        let i = ap (λ z. occurrence_count_of_number b (blocks_of_pairs z)) (append_assoc more (w.chain ++ front_o) (o ∷ back_o)) in
+        let i = ap (λ z. number_count b (blocks_of_pairs z)) (append_assoc more (w.chain ++ front_o) (o ∷ back_o)) in
         omega arith))
         (pair_itself o.at)))
       where
         file_blocks_of : Slot → List ℕ
-        file_blocks_of s = skip_list_blocks_of_struct disk s.struct
+        file_blocks_of s = struct_blocks disk s.struct
 
     -- ---- the global state
 
-    pub state_is : gstate_of_pairs qs ≡ gstate_naming_moved_slot sync o.at (length lo)
-    state_is = site_gstate_moved (gstate_naming_moved_slot sync o.at (length lo)) w (p ∷ []) (q ∷ more)
-        (x.delta ∙ ap (gstate_xor (gstate_naming_moved_slot sync o.at (length lo))) (sym (gstate_cons p [] ∙ gstate_right p.content.move)))
-        ∙ ap (gstate_xor (gstate_naming_moved_slot sync o.at (length lo))) k.settled ∙ gstate_right (gstate_naming_moved_slot sync o.at (length lo))
+    pub state_is : pairs_gstate qs ≡ gstate_naming sync o.at (length lo)
+    state_is = site_gstate_moved (gstate_naming sync o.at (length lo)) w (p ∷ []) (q ∷ more)
+        (x.delta ∙ ap (gstate_xor (gstate_naming sync o.at (length lo))) (sym (gstate_cons p [] ∙ gstate_right p.content.move)))
+        ∙ ap (gstate_xor (gstate_naming sync o.at (length lo))) k.settled ∙ gstate_right (gstate_naming sync o.at (length lo))
 
-    among : IsTrueOfSomeElement (λ s. (same_pair o.at s.at ≡ true) × IsSomeSlotButNotSuperblock (slice_get s.content.slots (length lo))) qs
+    among : HoldsOfSome (λ s. (same_pair o.at s.at ≡ true) × IsEntry (slice_get s.content.slots (length lo))) qs
     among = among_right N w.chain (dirs_at w (q ∷ more)) (go turns)
       where
         N : Pair → Type 0
-        N s = (same_pair o.at s.at ≡ true) × IsSomeSlotButNotSuperblock (slice_get s.content.slots (length lo))
+        N s = (same_pair o.at s.at ≡ true) × IsEntry (slice_get s.content.slots (length lo))
 
         here : N o
-        here = (pair_itself o.at, subst IsSomeSlotButNotSuperblock (sym (ap (λ z. slice_get z (length lo)) k.held ∙ get_here lo ro u)) k.other)
+        here = (pair_itself o.at, subst IsEntry (sym (ap (λ z. slice_get z (length lo)) k.held ∙ get_here lo ro u)) k.other)
 
-        go : InTurn (w.before ++ w.left) p (w.right ++ w.after) front_o o back_o → IsTrueOfSomeElement N (dirs_at w (q ∷ more))
-        go (ahead mid e f) = among_left N (w.before ++ w.left) (q ∷ more ++ (w.right ++ w.after)) (subst (IsTrueOfSomeElement N) (sym f) (among_right N front_o (o ∷ mid) (inl here)))
-        go (behind mid e f) = among_right N (w.before ++ w.left) (q ∷ more ++ (w.right ++ w.after)) (among_right N (q ∷ more) (w.right ++ w.after) (subst (IsTrueOfSomeElement N) (sym e) (among_right N mid (o ∷ back_o) (inl here))))
+        go : InTurn (w.before ++ w.left) p (w.right ++ w.after) front_o o back_o → HoldsOfSome N (dirs_at w (q ∷ more))
+        go (ahead mid e f) = among_left N (w.before ++ w.left) (q ∷ more ++ (w.right ++ w.after)) (subst (HoldsOfSome N) (sym f) (among_right N front_o (o ∷ mid) (inl here)))
+        go (behind mid e f) = among_right N (w.before ++ w.left) (q ∷ more ++ (w.right ++ w.after)) (among_right N (q ∷ more) (w.right ++ w.after) (subst (HoldsOfSome N) (sym e) (among_right N mid (o ∷ back_o) (inl here))))
 
-    is_move : HasValidMoveOrNone qs (gstate_of_pairs qs)
-    is_move = subst (HasValidMoveOrNone qs) (sym state_is) (inr (refl, any_from (λ s. (same_pair o.at s.at ≡ true) × IsSomeSlotButNotSuperblock (slice_get s.content.slots (length lo))) qs among))
+    is_move : HasValidMove qs (pairs_gstate qs)
+    is_move = subst (HasValidMove qs) (sym state_is) (inr (refl, any_from (λ s. (same_pair o.at s.at ≡ true) × IsEntry (slice_get s.content.slots (length lo))) qs among))
 
-    named_far : (ss : List Pair) → Each Far ss → Each (λ s. same_pair (gstate_of_pairs (thread_at w (q ∷ more))).pair s.at ≡ false) ss
+    named_far : (ss : List Pair) → Each Far ss → Each (λ s. same_pair (pairs_gstate (thread_at w (q ∷ more))).pair s.at ≡ false) ss
     named_far ss h = subst (λ (g : Gstate). Each (λ s. same_pair g.pair s.at ≡ false) ss) (sym state_is) h
 
-    front_kept : (l : List Slot) → (l ≡ [] → starts_with_superblock (olds ++ r) ≡ false) → (slots : List Slot) → slots ≡ l ++ (olds ++ r) → starts_with_superblock slots ≡ true → starts_with_superblock (l ++ v ∷ r) ≡ true
-    front_kept [] f slots e h = absurd (let z = sym h ∙ ap starts_with_superblock e ∙ f refl in cc)
-    front_kept (s ∷ l) f slots e h = sym (ap starts_with_superblock e) ∙ h
+    front_kept : (l : List Slot) → (l ≡ [] → starts_superblock (olds ++ r) ≡ false) → (slots : List Slot) → slots ≡ l ++ (olds ++ r) → starts_superblock slots ≡ true → starts_superblock (l ++ v ∷ r) ≡ true
+    front_kept [] f slots e h = absurd (let z = sym h ∙ ap starts_superblock e ∙ f refl in cc)
+    front_kept (s ∷ l) f slots e h = sym (ap starts_superblock e) ∙ h
 
     pub set_step : IsMoveSet disk new wo o lo u ro w p [] q more (blocks_of_pairs more) l olds v r
     set_step = record {
@@ -182,45 +182,45 @@ module _ (disk : Disk) (wo : Site) (o : Pair) (lo : List Slot) (u : Slot) (ro : 
 
     -- ---- the tree
 
-    pub taken_by : (change : Tree → Tree) (walk : DirectoryAddressByPath → DirectoryAddressByPath) → IsImageAfterTreeChange disk (thread_at w (p ∷ [])) new (thread_at w (q ∷ more)) change walk
-        → IsWritableImageAfterTreeChange disk (thread_at w (p ∷ [])) new (thread_at w (q ∷ more)) change walk
+    pub taken_by : (change : Tree → Tree) (walk : PathAddresses → PathAddresses) → IsChangedImage disk (thread_at w (p ∷ [])) new (thread_at w (q ∷ more)) change walk
+        → IsWritableChange disk (thread_at w (p ∷ [])) new (thread_at w (q ∷ more)) change walk
     taken_by change walk follows = set_taken disk w p q more l olds (v ∷ []) r set_put new wo o lo u ro (blocks_of_pairs more) v change walk set_step follows
 
     -- ---- the blocks that the image uses
 
     each_slots : (Q : Slot → Type 0) → All Q (all_slots_not_moved ps) → Each (λ s. Each Q s.content.slots) (dirs_at w (p ∷ []))
     each_slots Q h = each_right (λ (s : Pair). Each Q s.content.slots) w.chain (dirs_at w (p ∷ []))
-        (each_pieces Q (λ (s : Pair). s.content.slots) ps (subst (Each Q) (unmoved_in (gstate_of_pairs ps) (no_move_from ps k.settled) ps) (recursion_from_All Q (all_slots_not_moved ps) h)))
+        (each_pieces Q (λ (s : Pair). s.content.slots) ps (subst (Each Q) (unmoved_in (pairs_gstate ps) (no_move_from ps k.settled) ps) (recursion_from_All Q (all_slots_not_moved ps) h)))
 
     these : (Q : Slot → Type 0) → All Q (all_slots_not_moved ps) → Each Q (l ++ (olds ++ r))
     these Q h = subst (Each Q) k.was (each_left (λ (s : Pair). Each Q s.content.slots) (p ∷ []) (w.right ++ w.after)
         (each_right (λ (s : Pair). Each Q s.content.slots) (w.before ++ w.left) (p ∷ [] ++ (w.right ++ w.after)) (each_slots Q h))).0
 
     same_files : SameFiles disk new (all_slots_not_moved ps)
-    same_files = recursion_from_All (λ (s : Slot). HasSameFileBlocksOfStructOnDisks disk new s.struct) (all_slots_not_moved ps) x.device.files
+    same_files = recursion_from_All (λ (s : Slot). SameFileBlocks disk new s.struct) (all_slots_not_moved ps) x.device.files
 
-    hides : slots_not_moved (gstate_naming_moved_slot sync o.at (length lo)) o ≡ lo ++ ro
+    hides : slots_not_moved (gstate_naming sync o.at (length lo)) o ≡ lo ++ ro
     hides = ap (λ b. cond b (remove o.content.slots (length lo)) o.content.slots) (pair_itself o.at) ∙ ap (λ s. remove s (length lo)) k.held ∙ remove_here lo ro u
 
-    hidden_none : (ss : List Pair) → Each Far ss → flat_map (slots_not_moved (gstate_naming_moved_slot sync o.at (length lo))) ss ≡ slots_of_pairs_in_order ss
+    hidden_none : (ss : List Pair) → Each Far ss → flat_map (slots_not_moved (gstate_naming sync o.at (length lo))) ss ≡ all_slots ss
     hidden_none [] h = refl
-    hidden_none (s ∷ ss) h = ap₂ (λ x y. x ++ y) (unmoved_elsewhere (gstate_naming_moved_slot sync o.at (length lo)) s h.0) (hidden_none ss h.1)
+    hidden_none (s ∷ ss) h = ap₂ (λ x y. x ++ y) (unmoved_elsewhere (gstate_naming sync o.at (length lo)) s h.0) (hidden_none ss h.1)
 
-    count_slots : (b : ℕ) (xs ys : List Pair) → occurrence_count_of_number b (file_blocks_of_slots new (slots_of_pairs_in_order (xs ++ ys))) ≡ occurrence_count_of_number b (file_blocks_of_slots new (slots_of_pairs_in_order xs)) + occurrence_count_of_number b (file_blocks_of_slots new (slots_of_pairs_in_order ys))
-    count_slots b xs ys = ap (λ z. occurrence_count_of_number b (file_blocks_of_slots new z)) (flat_map-append (λ (s : Pair). s.content.slots) xs ys) ∙ count_files b new (slots_of_pairs_in_order xs) (slots_of_pairs_in_order ys)
+    count_slots : (b : ℕ) (xs ys : List Pair) → number_count b (file_blocks new (all_slots (xs ++ ys))) ≡ number_count b (file_blocks new (all_slots xs)) + number_count b (file_blocks new (all_slots ys))
+    count_slots b xs ys = ap (λ z. number_count b (file_blocks new z)) (flat_map-append (λ (s : Pair). s.content.slots) xs ys) ∙ count_files b new (all_slots xs) (all_slots ys)
 
     count_hidden : (b : ℕ) (xs ys : List Pair)
-        → occurrence_count_of_number b (file_blocks_of_slots new (flat_map (slots_not_moved (gstate_naming_moved_slot sync o.at (length lo))) (xs ++ ys))) ≡ occurrence_count_of_number b (file_blocks_of_slots new (flat_map (slots_not_moved (gstate_naming_moved_slot sync o.at (length lo))) xs)) + occurrence_count_of_number b (file_blocks_of_slots new (flat_map (slots_not_moved (gstate_naming_moved_slot sync o.at (length lo))) ys))
-    count_hidden b xs ys = ap (λ z. occurrence_count_of_number b (file_blocks_of_slots new z)) (flat_map-append (slots_not_moved (gstate_naming_moved_slot sync o.at (length lo))) xs ys)
-        ∙ count_files b new (flat_map (slots_not_moved (gstate_naming_moved_slot sync o.at (length lo))) xs) (flat_map (slots_not_moved (gstate_naming_moved_slot sync o.at (length lo))) ys)
+        → number_count b (file_blocks new (flat_map (slots_not_moved (gstate_naming sync o.at (length lo))) (xs ++ ys))) ≡ number_count b (file_blocks new (flat_map (slots_not_moved (gstate_naming sync o.at (length lo))) xs)) + number_count b (file_blocks new (flat_map (slots_not_moved (gstate_naming sync o.at (length lo))) ys))
+    count_hidden b xs ys = ap (λ z. number_count b (file_blocks new z)) (flat_map-append (slots_not_moved (gstate_naming sync o.at (length lo))) xs ys)
+        ∙ count_files b new (flat_map (slots_not_moved (gstate_naming sync o.at (length lo))) xs) (flat_map (slots_not_moved (gstate_naming sync o.at (length lo))) ys)
 
-    pub set_count : (b : ℕ) → occurrence_count_of_number b (used_blocks new qs) + occurrence_count_of_number b (file_blocks_of_slots disk olds) ≡ occurrence_count_of_number b (blocks_of_pairs more) + occurrence_count_of_number b (used_blocks disk ps)
+    pub set_count : (b : ℕ) → number_count b (used_blocks new qs) + number_count b (file_blocks disk olds) ≡ number_count b (blocks_of_pairs more) + number_count b (used_blocks disk ps)
     set_count b =
-        let D : Gstate = gstate_naming_moved_slot sync o.at (length lo) in
-        let hid : List Pair → ℕ = λ z. occurrence_count_of_number b (file_blocks_of_slots new (flat_map (slots_not_moved (gstate_naming_moved_slot sync o.at (length lo))) z)) in
-        let all : List Pair → ℕ = λ z. occurrence_count_of_number b (file_blocks_of_slots new (slots_of_pairs_in_order z)) in
-        let a1 = count_append b (blocks_of_pairs qs) (file_blocks_of_slots new (all_slots_not_moved qs)) in
-        let a2 = count_append b (blocks_of_pairs ps) (file_blocks_of_slots disk (all_slots_not_moved ps)) in
+        let D : Gstate = gstate_naming sync o.at (length lo) in
+        let hid : List Pair → ℕ = λ z. number_count b (file_blocks new (flat_map (slots_not_moved (gstate_naming sync o.at (length lo))) z)) in
+        let all : List Pair → ℕ = λ z. number_count b (file_blocks new (all_slots z)) in
+        let a1 = count_append b (blocks_of_pairs qs) (file_blocks new (all_slots_not_moved qs)) in
+        let a2 = count_append b (blocks_of_pairs ps) (file_blocks disk (all_slots_not_moved ps)) in
         let b1 = blocks_append w.chain (dirs_at w (q ∷ more)) b in
         let b2 = blocks_append (w.before ++ w.left) (q ∷ more ++ (w.right ++ w.after)) b in
         let b3 = blocks_append (q ∷ more) (w.right ++ w.after) b in
@@ -228,53 +228,53 @@ module _ (disk : Disk) (wo : Site) (o : Pair) (lo : List Slot) (u : Slot) (ro : 
         let b5 = blocks_append (w.before ++ w.left) (p ∷ [] ++ (w.right ++ w.after)) b in
         let b6 = blocks_append (p ∷ []) (w.right ++ w.after) b in
         let b7 = blocks_append (q ∷ []) more b in
-        let at = ap (λ (a : ℕ × ℕ). occurrence_count_of_number b (a.0 ∷ a.1 ∷ [])) x.at in
-        let same = ap (occurrence_count_of_number b) (slots_files disk new (all_slots_not_moved ps) x.device.geometry same_files) in
-        let plain = ap (λ z. occurrence_count_of_number b (file_blocks_of_slots new z)) (unmoved_in (gstate_of_pairs ps) (no_move_from ps k.settled) ps) in
-        let now = ap (λ (g : Gstate). occurrence_count_of_number b (file_blocks_of_slots new (flat_map (slots_not_moved g) qs))) state_is in
-        let old_files = ap (occurrence_count_of_number b) (slots_files disk new olds x.device.geometry (each_left (λ (s : Slot). HasSameFileBlocksOfStructOnDisks disk new s.struct) olds r
-        (each_right (λ (s : Slot). HasSameFileBlocksOfStructOnDisks disk new s.struct) l (olds ++ r) (these (λ (s : Slot). HasSameFileBlocksOfStructOnDisks disk new s.struct) x.device.files)))) in
+        let at = ap (λ (a : ℕ × ℕ). number_count b (a.0 ∷ a.1 ∷ [])) x.at in
+        let same = ap (number_count b) (slots_files disk new (all_slots_not_moved ps) x.device.geometry same_files) in
+        let plain = ap (λ z. number_count b (file_blocks new z)) (unmoved_in (pairs_gstate ps) (no_move_from ps k.settled) ps) in
+        let now = ap (λ (g : Gstate). number_count b (file_blocks new (flat_map (slots_not_moved g) qs))) state_is in
+        let old_files = ap (number_count b) (slots_files disk new olds x.device.geometry (each_left (λ (s : Slot). SameFileBlocks disk new s.struct) olds r
+        (each_right (λ (s : Slot). SameFileBlocks disk new s.struct) l (olds ++ r) (these (λ (s : Slot). SameFileBlocks disk new s.struct) x.device.files)))) in
         -- under the move, with the new slot and without it
         let n1 = count_hidden b w.chain (dirs_at w (q ∷ more)) in
         let n2 = count_hidden b (w.before ++ w.left) (q ∷ more ++ (w.right ++ w.after)) in
         let n3 = count_hidden b (q ∷ more) (w.right ++ w.after) in
         let m2 = count_hidden b (w.before ++ w.left) (p ∷ [] ++ (w.right ++ w.after)) in
         let m3 = count_hidden b (p ∷ []) (w.right ++ w.after) in
-        let q1 = ap (λ z. occurrence_count_of_number b (file_blocks_of_slots new z)) (hidden_none (q ∷ more) (subst (λ at. same_pair o.at at ≡ false) (sym x.at) far_p, far_more) ∙ x.is) in
+        let q1 = ap (λ z. number_count b (file_blocks new z)) (hidden_none (q ∷ more) (subst (λ at. same_pair o.at at ≡ false) (sym x.at) far_p, far_more) ∙ x.is) in
         let q2 = count_files b new l (v ∷ r) in
         let q3 = count_files b new (v ∷ []) r in
-        let p1 = ap (λ z. occurrence_count_of_number b (file_blocks_of_slots new z)) (hidden_none (p ∷ []) (far_p, tt) ∙ append-nil p.content.slots ∙ k.was) in
+        let p1 = ap (λ z. number_count b (file_blocks new z)) (hidden_none (p ∷ []) (far_p, tt) ∙ append-nil p.content.slots ∙ k.was) in
         let p2 = count_files b new l (olds ++ r) in
         let p3 = count_files b new olds r in
         -- the same pairs, around the old slot
-        let t1 = ap (λ z. occurrence_count_of_number b (file_blocks_of_slots new (flat_map (slots_not_moved (gstate_naming_moved_slot sync o.at (length lo))) z))) dirs_same in
+        let t1 = ap (λ z. number_count b (file_blocks new (flat_map (slots_not_moved (gstate_naming sync o.at (length lo))) z))) dirs_same in
         let t2 = count_hidden b front_o (o ∷ back_o) in
         let t3 = count_hidden b (o ∷ []) back_o in
-        let o1 = ap (λ z. occurrence_count_of_number b (file_blocks_of_slots new z)) (append-nil (slots_not_moved (gstate_naming_moved_slot sync o.at (length lo)) o) ∙ hides) in
+        let o1 = ap (λ z. number_count b (file_blocks new z)) (append-nil (slots_not_moved (gstate_naming sync o.at (length lo)) o) ∙ hides) in
         let o2 = count_files b new lo ro in
         -- without the move
         let g1 = count_slots b w.chain (dirs_at w (p ∷ [])) in
-        let g2 = ap (λ z. occurrence_count_of_number b (file_blocks_of_slots new (slots_of_pairs_in_order z))) dirs_same in
+        let g2 = ap (λ z. number_count b (file_blocks new (all_slots z))) dirs_same in
         let g3 = count_slots b front_o (o ∷ back_o) in
         let g4 = count_slots b (o ∷ []) back_o in
-        let o3 = ap (λ z. occurrence_count_of_number b (file_blocks_of_slots new z)) (append-nil o.content.slots ∙ k.held) in
+        let o3 = ap (λ z. number_count b (file_blocks new z)) (append-nil o.content.slots ∙ k.held) in
         let o4 = count_files b new lo (u ∷ ro) in
         let o5 = count_files b new (u ∷ []) ro in
-        let c1 = ap (λ z. occurrence_count_of_number b (file_blocks_of_slots new z)) (hidden_none w.chain (each_left Far w.chain front_o far_front)) in
-        let c2 = ap (λ z. occurrence_count_of_number b (file_blocks_of_slots new z)) (hidden_none front_o (each_right Far w.chain front_o far_front)) in
-        let c3 = ap (λ z. occurrence_count_of_number b (file_blocks_of_slots new z)) (hidden_none back_o far_back) in
-        let vu = ap (λ z. occurrence_count_of_number b (skip_list_blocks_of_struct new z ++ [])) k.struct in
+        let c1 = ap (λ z. number_count b (file_blocks new z)) (hidden_none w.chain (each_left Far w.chain front_o far_front)) in
+        let c2 = ap (λ z. number_count b (file_blocks new z)) (hidden_none front_o (each_right Far w.chain front_o far_front)) in
+        let c3 = ap (λ z. number_count b (file_blocks new z)) (hidden_none back_o far_back) in
+        let vu = ap (λ z. number_count b (struct_blocks new z ++ [])) k.struct in
         omega arith
 
 -- ---- to a new name, and onto an entry
 
 module _ (disk : Disk) (wo : Site) (o : Pair) (lo : List Slot) (u : Slot) (ro : List Slot) (w : Site) (p : Pair) (l : List Slot) (v : Slot) (r : List Slot)
-    (sync : Bool) (new : Disk) (q : Pair) (more : List Pair) (x : HasTurned disk w p (l ++ v ∷ r) (gstate_xor (gstate_naming_moved_slot sync o.at (length lo)) p.content.move) new q more)
-    (P : Path) (b : ℕ × ℕ) (leads : IsPathToDirectory (thread_at w (p ∷ [])) P b) (same_old : same_pair (begin_of wo (o ∷ [])) b ≡ true)
-    (Q : Path) (a : ℕ × ℕ) (arrives : IsPathToDirectory (thread_at w (p ∷ [])) Q a) (same : same_pair (begin_of w (p ∷ [])) a ≡ true) where
-  pub set_new : IsSetting disk wo o lo u ro w p l [] v r → v ≡ record u { name = v.name } → path_without_prefix (P ++ u.name ∷ []) (Q ++ v.name ∷ []) ≡ None
-      → IsPlace disk.order (entries_by_directory_in_thread (thread_at w (p ∷ [])) a) (place_at w l) v.name
-      → IsImageAfterTreeChange disk (thread_at w (p ∷ [])) new (thread_at w (q ∷ more)) (tree_after_rename (P ++ u.name ∷ []) (Q ++ v.name ∷ [])) (walk_by (P ++ u.name ∷ []) (Q ++ v.name ∷ []))
+    (sync : Bool) (new : Disk) (q : Pair) (more : List Pair) (x : HasTurned disk w p (l ++ v ∷ r) (gstate_xor (gstate_naming sync o.at (length lo)) p.content.move) new q more)
+    (P : Path) (b : ℕ × ℕ) (leads : LeadsTo (thread_at w (p ∷ [])) P b) (same_old : same_pair (begin_of wo (o ∷ [])) b ≡ true)
+    (Q : Path) (a : ℕ × ℕ) (arrives : LeadsTo (thread_at w (p ∷ [])) Q a) (same : same_pair (begin_of w (p ∷ [])) a ≡ true) where
+  pub set_new : IsSetting disk wo o lo u ro w p l [] v r → v ≡ record u { name = v.name } → without_prefix (P ++ u.name ∷ []) (Q ++ v.name ∷ []) ≡ None
+      → IsPlace disk.order (all_entries (thread_at w (p ∷ [])) a) (place_at w l) v.name
+      → IsChangedImage disk (thread_at w (p ∷ [])) new (thread_at w (q ∷ more)) (tree_renaming (P ++ u.name ∷ []) (Q ++ v.name ∷ [])) (walk_by (P ++ u.name ∷ []) (Q ++ v.name ∷ []))
   set_new k same_slot off place =
       let step = set_step disk wo o lo u ro w p l [] v r k sync new q more x in
       move_sets disk new wo o lo u ro w p [] q more (blocks_of_pairs more) l v r step P b leads same_old Q a arrives same same_slot off
@@ -282,8 +282,8 @@ module _ (disk : Disk) (wo : Site) (o : Pair) (lo : List Slot) (u : Slot) (ro : 
       (λ e. (recovered_from disk (thread_at w (p ∷ [])) k.accepted k.settled).reached)
 
   pub set_onto : (target : Slot) → is_superblock target ≡ false → IsSetting disk wo o lo u ro w p l (target ∷ []) v r → v ≡ record u { name = target.name }
-      → path_without_prefix (P ++ u.name ∷ []) (Q ++ target.name ∷ []) ≡ None → (sync ≡ false → branch_address_of_struct target.struct ≡ None)
-      → IsImageAfterTreeChange disk (thread_at w (p ∷ [])) new (thread_at w (q ∷ more)) (tree_after_rename (P ++ u.name ∷ []) (Q ++ v.name ∷ [])) (walk_by (P ++ u.name ∷ []) (Q ++ v.name ∷ []))
+      → without_prefix (P ++ u.name ∷ []) (Q ++ target.name ∷ []) ≡ None → (sync ≡ false → branch_address target.struct ≡ None)
+      → IsChangedImage disk (thread_at w (p ∷ [])) new (thread_at w (q ∷ more)) (tree_renaming (P ++ u.name ∷ []) (Q ++ v.name ∷ [])) (walk_by (P ++ u.name ∷ []) (Q ++ v.name ∷ []))
   set_onto target entry k same_slot off file =
       move_sets_onto disk new wo o lo u ro w p [] q more (blocks_of_pairs more) l target v r (set_step disk wo o lo u ro w p l (target ∷ []) v r k sync new q more x) entry P b leads same_old Q a arrives same same_slot off
       (λ e. (file (ap (λ (g : Gstate). g.sync) (sym (state_is disk wo o lo u ro w p l (target ∷ []) v r k sync new q more x)) ∙ e), (recovered_from disk (thread_at w (p ∷ [])) k.accepted k.settled).reached))

@@ -1,15 +1,15 @@
 -- The first step of a rename across pairs, as a step of the thread, and what the second one makes of it.
 use Rattle.std.proofs.Common.{ℕ, ◌≡◌, ◌≢◌, ◌+◌, ◌-◌, ◌<◌, ◌≤◌, ◌⊎◌, inl, inr, Bool, true, false, cond, take, List, [], ◌∷◌, ◌++◌, length, Option, Some, refl, sym, ap, ap₂, subst, ◌∙◌, arith, append_assoc, length-append, get_or, set, remove}
-use Rattle.lfs_operations.proofs.Common.{le-ltb, lt-ltb, Blocks, AreExactlyTheUsedBlocks, Free, InFlight, PairContentChange, content_after_log_entries, current_block_of_two, empty_raw_pair_content, raw_content_of_pair_at, block_count, Disk, block_bytes_on_disk, DeviceCallEvent, log_entries_of_block, Name, HasTreeBeforeOrAfterOperation as IsLeftOf, SurvivesPowerLossInCallsSince, disk_with_blocks, Slot, Gstate, gstate_xor, zero_gstate, same_pair, slot_of_path, Pair, blocks_of_pairs, gstate_of_pairs, is_hard_tail, pair_count_before_root, Path, Tree, last_name_of_path, tree_after_rename, Session, path_of_bytes_or_root, directories_in_thread, all_slots_not_moved, skip_list_blocks_of_struct, tree_on_disk, used_blocks, IsAcceptedImage, IsWritableImage, flat_map, ArePairsWithSameAddressesAndSlots, IsImageAfterTreeChange, rearranged_chain, IsImageAfterCompletedOperation, occurrence_count_of_number, count_append, count_here, once_from_distinct, IsTrueAfterAnyPowerLossSince-weaker, remove_here, addresses_of_first_pairs_of_directories, set_rearranged, pair_itself, IsNoDirectory, target_slots, IsTrueOfSomeElement, Site, among_left, among_parts, among_right, dirs_at, thread_at, file_blocks_of_slots, IsWritableImageAfterTreeChange, IsChain, pairs_behind, OldStays, from_old, two, ends_in_hard_tail, PowerLossLeavesSuchBlocksAfterCleanErases, KeptThread, HasSameGeometry, empty_pair_at_anchor, thread_pair_at_index}
+use Rattle.lfs_operations.proofs.Common.{le-ltb, lt-ltb, Blocks, AreUsed, Free, InFlight, PairChange, content_after, current_of_two, empty_raw_content, raw_content, block_count, Disk, disk_block, CallEvent, block_entries, Name, HasEither as IsLeftOf, SurvivesLossSince, with_blocks, Slot, Gstate, gstate_xor, zero_gstate, same_pair, slot_of, Pair, blocks_of_pairs, pairs_gstate, is_hard_tail, pair_count_before_root, Path, Tree, last_name, tree_renaming, Session, path_or_root, all_directories, all_slots_not_moved, struct_blocks, tree_on_disk, used_blocks, IsAccepted, IsWritable, flat_map, SameSlots, IsChangedImage, rearranged_chain, IsCompletion, number_count, count_append, count_here, once_from_distinct, HoldsAtLosses-weaker, remove_here, first_pair_addresses, set_rearranged, pair_itself, IsNoDirectory, target_slots, HoldsOfSome, Site, among_left, among_parts, among_right, dirs_at, thread_at, file_blocks, IsWritableChange, IsChain, pairs_behind, OldStays, from_old, two, ends_joined, LossLeavesCleanly, KeptThread, SameGeometryAs, empty_anchor, thread_pair_at}
 use Rattle.std.specs.Option.{option_and_then}
-use Rattle.lfs_model.specs.Operations as ops
+use Rattle.lfs_model.specs.session.Operations as ops
 use Rattle.lfs_model.proofs.LeftFiles.{ends_same}
 use Rattle.lfs_model.proofs.StepsTaken.{taken_then}
-use Rattle.lfs_operations.specs.Changing.{IsLeftByStoppedChangeOrSplit, IsPairChangedOrSplit}
-use Rattle.lfs_operations.specs.Dropping.{ShowsTreeAfterPairDrops, HasSameBlocksInFlight}
-use Rattle.lfs_operations.specs.MoveEnds.{CanEndMoveAt, HasEndedMoveAt, blocks_dropped_at_move_end, content_after_move_ends, is_pair_named_by_hard_tail, gstate_naming_moved_slot, pairs_after_move_ends}
-use Rattle.lfs_operations.specs.MovingSteps.{pair_number_after_insertion}
-use Rattle.lfs_operations.specs.Ready.{IsRawPairContentWellFormed, IsImageReadyForChange, KeepsPairCountBeforeRoot}
+use Rattle.lfs_operations.specs.Changing.{LeftByTurn, IsTurned}
+use Rattle.lfs_operations.specs.Dropping.{ShowsAfterDrops, SameInFlight}
+use Rattle.lfs_operations.specs.MoveEnds.{CanEndAt, HasEndedAt, dropped_at_end, content_move_ended, follows_hard_tail_of, gstate_naming, pairs_move_ended}
+use Rattle.lfs_operations.specs.MovingSteps.{number_after_insertion}
+use Rattle.lfs_operations.specs.Ready.{IsRawFormed, IsReadyImage, KeepsRootBeginning}
 use Rattle.lfs_operations.proofs.Dropped.{HasMapWithout, map_ended}
 use Rattle.lfs_operations.proofs.MovAcross.{Arranged, arrangement, completed}
 use Rattle.lfs_operations.proofs.MovFirsts.{set_firsts}
@@ -30,40 +30,40 @@ only_left [] [] u e = refl
 only_left [] (s ∷ r) u e = absurd (omega arith)
 only_left (s ∷ l) r u e = absurd (let k = length-append l (u ∷ r) in omega arith)
 
-pub blocks_alike : (xs ys : List Pair) → ArePairsWithSameAddressesAndSlots xs ys → blocks_of_pairs ys ≡ blocks_of_pairs xs
+pub blocks_alike : (xs ys : List Pair) → SameSlots xs ys → blocks_of_pairs ys ≡ blocks_of_pairs xs
 blocks_alike [] [] h = refl
 blocks_alike [] (y ∷ ys) h = absurd h
 blocks_alike (x ∷ xs) [] h = absurd h
 blocks_alike (x ∷ xs) (y ∷ ys) h = ap₂ (λ (at : ℕ × ℕ) (z : List ℕ). at.0 ∷ at.1 ∷ z) h.0 (blocks_alike xs ys h.2)
 
-led_at : (chain pre back : List Pair) (i : ℕ) → IsChain chain (pre ++ back) → i ≡ length chain + length pre → is_pair_named_by_hard_tail (chain ++ (pre ++ back)) i ≡ ends_in_hard_tail false pre
+led_at : (chain pre back : List Pair) (i : ℕ) → IsChain chain (pre ++ back) → i ≡ length chain + length pre → follows_hard_tail_of (chain ++ (pre ++ back)) i ≡ ends_joined false pre
 led_at chain pre back i is_chain number =
-    ap₂ (λ n z. ends_in_hard_tail false (take (i - n) z)) is_chain (pairs_behind chain (pre ++ back) is_chain)
-    ∙ ap (ends_in_hard_tail false) (take_front pre back (i - length chain) (omega arith))
+    ap₂ (λ n z. ends_joined false (take (i - n) z)) is_chain (pairs_behind chain (pre ++ back) is_chain)
+    ∙ ap (ends_joined false) (take_front pre back (i - length chain) (omega arith))
 
 -- ---- what is known before
 
 -- The changes put the slot v into the pair p at the site w, and set a move that hides u in the pair o at the site wo.
-pub record IsFirst (t : KeptThread) (sync : Bool) (old_pair : ℕ) (goes : Bool) (new_pair : ℕ) (changes : List PairContentChange) (wo : Site) (o : Pair) (lo : List Slot) (u : Slot) (ro : List Slot) (w : Site) (p : Pair) (l : List Slot) (target : Option Slot) (v : Slot) (r : List Slot)
+pub record IsFirst (t : KeptThread) (sync : Bool) (old_pair : ℕ) (goes : Bool) (new_pair : ℕ) (changes : List PairChange) (wo : Site) (o : Pair) (lo : List Slot) (u : Slot) (ro : List Slot) (w : Site) (p : Pair) (l : List Slot) (target : Option Slot) (v : Slot) (r : List Slot)
     (old_path new_path : Path) (name : Name) : Type 0 where
-  pub ready : IsImageReadyForChange t
-  pub turn : IsTurn t new_pair changes w p (l ++ v ∷ r) (gstate_xor (gstate_naming_moved_slot sync o.at (length lo)) p.content.move)
+  pub ready : IsReadyImage t
+  pub turn : IsTurn t new_pair changes w p (l ++ v ∷ r) (gstate_xor (gstate_naming sync o.at (length lo)) p.content.move)
   pub setting : IsSetting t.disk wo o lo u ro w p l (target_slots target) v r
   pub chain : wo.chain ≡ w.chain
   pub old_place : old_pair ≡ length wo.chain + length (wo.before ++ wo.left)
-  pub old_is : (thread_pair_at_index t old_pair).at ≡ o.at
-  pub logged : IsRawPairContentWellFormed t.disk o.at
+  pub old_is : (thread_pair_at t old_pair).at ≡ o.at
+  pub logged : IsRawFormed t.disk o.at
   pub same_slot : v ≡ record u { name = name }
-  pub follows : (disk : Disk) (q : Pair) (more : List Pair) → HasTurned t.disk w p (l ++ v ∷ r) (gstate_xor (gstate_naming_moved_slot sync o.at (length lo)) p.content.move) disk q more
-      → IsImageAfterTreeChange t.disk (thread_at w (p ∷ [])) disk (thread_at w (q ∷ more)) (tree_after_rename old_path new_path) (walk_by old_path new_path)
-  pub stays : goes ≡ false → ends_in_hard_tail false (wo.before ++ wo.left) ≡ true → 1 < length o.content.slots
-  pub alone : goes ≡ true → (ends_in_hard_tail false (wo.before ++ wo.left) ≡ true) × (length o.content.slots ≡ 1)
-  pub from_slot : slot_of_path (thread_at w (p ∷ [])) old_path ≡ Some u
-  pub to_slot : slot_of_path (thread_at w (p ∷ [])) new_path ≡ target
-  pub to_name : last_name_of_path new_path ≡ name
+  pub follows : (disk : Disk) (q : Pair) (more : List Pair) → HasTurned t.disk w p (l ++ v ∷ r) (gstate_xor (gstate_naming sync o.at (length lo)) p.content.move) disk q more
+      → IsChangedImage t.disk (thread_at w (p ∷ [])) disk (thread_at w (q ∷ more)) (tree_renaming old_path new_path) (walk_by old_path new_path)
+  pub stays : goes ≡ false → ends_joined false (wo.before ++ wo.left) ≡ true → 1 < length o.content.slots
+  pub alone : goes ≡ true → (ends_joined false (wo.before ++ wo.left) ≡ true) × (length o.content.slots ≡ 1)
+  pub from_slot : slot_of (thread_at w (p ∷ [])) old_path ≡ Some u
+  pub to_slot : slot_of (thread_at w (p ∷ [])) new_path ≡ target
+  pub to_name : last_name new_path ≡ name
   pub file : sync ≡ false → IsNoDirectory target
 
-module _ (t : KeptThread) (sync : Bool) (old_pair : ℕ) (goes : Bool) (new_pair : ℕ) (changes : List PairContentChange) (wo : Site) (o : Pair) (lo : List Slot) (u : Slot) (ro : List Slot) (w : Site) (p : Pair) (l : List Slot) (target : Option Slot) (v : Slot) (r : List Slot)
+module _ (t : KeptThread) (sync : Bool) (old_pair : ℕ) (goes : Bool) (new_pair : ℕ) (changes : List PairChange) (wo : Site) (o : Pair) (lo : List Slot) (u : Slot) (ro : List Slot) (w : Site) (p : Pair) (l : List Slot) (target : Option Slot) (v : Slot) (r : List Slot)
     (old_path new_path : Path) (name : Name) (k : IsFirst t sync old_pair goes new_pair changes wo o lo u ro w p l target v r old_path new_path name) where
   abbrev ps : List Pair
   ps = thread_at w (p ∷ [])
@@ -72,32 +72,32 @@ module _ (t : KeptThread) (sync : Bool) (old_pair : ℕ) (goes : Bool) (new_pair
   slots = l ++ v ∷ r
 
   abbrev move : Gstate
-  move = gstate_xor (gstate_naming_moved_slot sync o.at (length lo)) p.content.move
+  move = gstate_xor (gstate_naming sync o.at (length lo)) p.content.move
 
   abbrev pub after : Tree
-  after = tree_after_rename old_path new_path (tree_on_disk t.disk t.pairs)
+  after = tree_renaming old_path new_path (tree_on_disk t.disk t.pairs)
 
   first_taken : (disk : Disk) (q : Pair) (more : List Pair) → HasTurned t.disk w p slots move disk q more
-      → IsWritableImageAfterTreeChange t.disk (thread_at w (p ∷ [])) disk (thread_at w (q ∷ more)) (tree_after_rename old_path new_path) (walk_by old_path new_path)
-  first_taken disk q more x = taken_by t.disk wo o lo u ro w p l (target_slots target) v r k.setting sync disk q more x (tree_after_rename old_path new_path) (walk_by old_path new_path) (k.follows disk q more x)
+      → IsWritableChange t.disk (thread_at w (p ∷ [])) disk (thread_at w (q ∷ more)) (tree_renaming old_path new_path) (walk_by old_path new_path)
+  first_taken disk q more x = taken_by t.disk wo o lo u ro w p l (target_slots target) v r k.setting sync disk q more x (tree_renaming old_path new_path) (walk_by old_path new_path) (k.follows disk q more x)
 
   -- ---- at a stop in the first step
 
-  left_tree : (left : Blocks) → IsLeftByStoppedChangeOrSplit t new_pair changes left → IsLeftOf (disk_with_blocks left t.disk) (tree_on_disk t.disk t.pairs) (tree_after_rename old_path new_path (tree_on_disk t.disk t.pairs))
+  left_tree : (left : Blocks) → LeftByTurn t new_pair changes left → IsLeftOf (with_blocks left t.disk) (tree_on_disk t.disk t.pairs) (tree_renaming old_path new_path (tree_on_disk t.disk t.pairs))
   left_tree left is = go (left_put t new_pair changes w p slots move k.turn (record { used = k.ready.used; size = k.ready.size }) left is)
     where
-      go : Stays t new_pair changes w p slots move k.turn (disk_with_blocks left t.disk) ⊎ TurnedOn t w p slots move (disk_with_blocks left t.disk)
-          → IsLeftOf (disk_with_blocks left t.disk) (tree_on_disk t.disk t.pairs) (tree_after_rename old_path new_path (tree_on_disk t.disk t.pairs))
+      go : Stays t new_pair changes w p slots move k.turn (with_blocks left t.disk) ⊎ TurnedOn t w p slots move (with_blocks left t.disk)
+          → IsLeftOf (with_blocks left t.disk) (tree_on_disk t.disk t.pairs) (tree_renaming old_path new_path (tree_on_disk t.disk t.pairs))
       go (inl d) = left_still t.disk left (thread_at w (p ∷ [])) k.setting.accepted k.setting.writable d (inl (ap (tree_on_disk t.disk) (sym k.turn.there)))
-      go (inr x) = left_after (first_taken (disk_with_blocks left t.disk) x.q x.more x.turned) (inr (ap (λ z. tree_after_rename old_path new_path (tree_on_disk t.disk z)) (sym k.turn.there)))
+      go (inr x) = left_after (first_taken (with_blocks left t.disk) x.q x.more x.turned) (inr (ap (λ z. tree_renaming old_path new_path (tree_on_disk t.disk z)) (sym k.turn.there)))
 
-  pub first_survives : (new : List DeviceCallEvent) → PowerLossLeavesSuchBlocksAfterCleanErases t.history new (IsLeftByStoppedChangeOrSplit t new_pair changes)
-      → SurvivesPowerLossInCallsSince t.disk t.history new (tree_on_disk t.disk t.pairs) (tree_after_rename old_path new_path (tree_on_disk t.disk t.pairs))
-  first_survives new stops clean = IsTrueAfterAnyPowerLossSince-weaker left_tree (stops clean)
+  pub first_survives : (new : List CallEvent) → LossLeavesCleanly t.history new (LeftByTurn t new_pair changes)
+      → SurvivesLossSince t.disk t.history new (tree_on_disk t.disk t.pairs) (tree_renaming old_path new_path (tree_on_disk t.disk t.pairs))
+  first_survives new stops clean = HoldsAtLosses-weaker left_tree (stops clean)
 
   -- ---- after the first step
 
-  pub first_turned : (mid : KeptThread) → IsPairChangedOrSplit t new_pair changes mid → TurnedTo t w p slots move mid
+  pub first_turned : (mid : KeptThread) → IsTurned t new_pair changes mid → TurnedTo t w p slots move mid
   first_turned mid is = put_turned t new_pair changes w p slots move k.turn (record { used = k.ready.used; size = k.ready.size }) mid is
 
   module _ (mid : KeptThread) (x : TurnedTo t w p slots move mid) where
@@ -110,14 +110,14 @@ module _ (t : KeptThread) (sync : Bool) (old_pair : ℕ) (goes : Bool) (new_pair
     abbrev pub arr : Arranged t.disk wo o w p x.q x.more
     arr = arrangement t.disk mid.disk mid.disk wo o lo u ro w p l target v r k.setting x.q x.more sync x.turned
 
-    taken : IsWritableImageAfterTreeChange t.disk (thread_at w (p ∷ [])) mid.disk (thread_at w (x.q ∷ x.more)) (tree_after_rename old_path new_path) (walk_by old_path new_path)
+    taken : IsWritableChange t.disk (thread_at w (p ∷ [])) mid.disk (thread_at w (x.q ∷ x.more)) (tree_renaming old_path new_path) (walk_by old_path new_path)
     taken = first_taken mid.disk x.q x.more x.turned
 
-    pub mid_shows : tree_on_disk mid.disk mid.pairs ≡ tree_after_rename old_path new_path (tree_on_disk t.disk t.pairs)
-    mid_shows = ap (tree_on_disk mid.disk) x.pairs ∙ taken.follows.shows ∙ ap (λ z. tree_after_rename old_path new_path (tree_on_disk t.disk z)) (sym k.turn.there)
+    pub mid_shows : tree_on_disk mid.disk mid.pairs ≡ tree_renaming old_path new_path (tree_on_disk t.disk t.pairs)
+    mid_shows = ap (tree_on_disk mid.disk) x.pairs ∙ taken.follows.shows ∙ ap (λ z. tree_renaming old_path new_path (tree_on_disk t.disk z)) (sym k.turn.there)
 
-    mid_state : gstate_of_pairs mid.pairs ≡ gstate_naming_moved_slot sync o.at (length lo)
-    mid_state = ap gstate_of_pairs x.pairs ∙ state_is t.disk wo o lo u ro w p l (target_slots target) v r k.setting sync mid.disk x.q x.more x.turned
+    mid_state : pairs_gstate mid.pairs ≡ gstate_naming sync o.at (length lo)
+    mid_state = ap pairs_gstate x.pairs ∙ state_is t.disk wo o lo u ro w p l (target_slots target) v r k.setting sync mid.disk x.q x.more x.turned
 
     mid_is : mid.pairs ≡ w.chain ++ (arr.pre ++ o ∷ arr.post)
     mid_is = x.pairs ∙ arr.mid_is
@@ -151,9 +151,9 @@ module _ (t : KeptThread) (sync : Bool) (old_pair : ℕ) (goes : Bool) (new_pair
         omega arith
 
     abbrev pub index : ℕ
-    index = pair_number_after_insertion old_pair new_pair (length mid.pairs - length t.pairs)
+    index = number_after_insertion old_pair new_pair (length mid.pairs - length t.pairs)
 
-    index_is : pair_number_after_insertion old_pair new_pair (length mid.pairs - length t.pairs) ≡ length w.chain + length arr.pre
+    index_is : number_after_insertion old_pair new_pair (length mid.pairs - length t.pairs) ≡ length w.chain + length arr.pre
     index_is = go arr.number
       where
         old_at : old_pair ≡ length w.chain + length (wo.before ++ wo.left)
@@ -161,7 +161,7 @@ module _ (t : KeptThread) (sync : Bool) (old_pair : ℕ) (goes : Bool) (new_pair
 
         go : ((length (wo.before ++ wo.left) < length (w.before ++ w.left)) × (length arr.pre ≡ length (wo.before ++ wo.left)))
             ⊎ ((length (w.before ++ w.left) < length (wo.before ++ wo.left)) × (length arr.pre ≡ length (wo.before ++ wo.left) + length x.more))
-            → pair_number_after_insertion old_pair new_pair (length mid.pairs - length t.pairs) ≡ length w.chain + length arr.pre
+            → number_after_insertion old_pair new_pair (length mid.pairs - length t.pairs) ≡ length w.chain + length arr.pre
         go (inl (less, is)) =
             let e = k.turn.place in let f = old_at in
             ap (λ b. cond b old_pair (old_pair + (length mid.pairs - length t.pairs))) (lt-ltb old_pair new_pair (omega arith)) ∙ omega arith
@@ -172,19 +172,19 @@ module _ (t : KeptThread) (sync : Bool) (old_pair : ℕ) (goes : Bool) (new_pair
     grouped : mid.pairs ≡ (w.chain ++ arr.pre) ++ o ∷ arr.post
     grouped = mid_is ∙ sym (append_assoc w.chain arr.pre (o ∷ arr.post))
 
-    index_at : pair_number_after_insertion old_pair new_pair (length mid.pairs - length t.pairs) ≡ length (w.chain ++ arr.pre)
+    index_at : number_after_insertion old_pair new_pair (length mid.pairs - length t.pairs) ≡ length (w.chain ++ arr.pre)
     index_at = index_is ∙ sym (length-append w.chain arr.pre)
 
-    here : thread_pair_at_index mid index ≡ o
-    here = ap₂ (λ (z : List Pair) (i : ℕ). get_or z i empty_pair_at_anchor) grouped index_at ∙ get_at (w.chain ++ arr.pre) o arr.post empty_pair_at_anchor
+    here : thread_pair_at mid index ≡ o
+    here = ap₂ (λ (z : List Pair) (i : ℕ). get_or z i empty_anchor) grouped index_at ∙ get_at (w.chain ++ arr.pre) o arr.post empty_anchor
 
     -- ---- the old pair isn't written
 
-    both : (b : ℕ) → occurrence_count_of_number b (blocks_of_pairs ps) ≡ occurrence_count_of_number b (blocks_of_pairs w.chain) + (occurrence_count_of_number b (blocks_of_pairs arr.front) + (occurrence_count_of_number b (blocks_of_pairs (o ∷ [])) + (occurrence_count_of_number b (blocks_of_pairs arr.mid) + (occurrence_count_of_number b (blocks_of_pairs (p ∷ [])) + occurrence_count_of_number b (blocks_of_pairs arr.back)))))
-    both b = ap (λ z. occurrence_count_of_number b (blocks_of_pairs z)) arr.old_is ∙ blocks_append w.chain (two arr.b arr.front (o ∷ []) arr.mid (p ∷ []) arr.back) b ∙ ap (λ n. occurrence_count_of_number b (blocks_of_pairs w.chain) + n) (go arr.b)
+    both : (b : ℕ) → number_count b (blocks_of_pairs ps) ≡ number_count b (blocks_of_pairs w.chain) + (number_count b (blocks_of_pairs arr.front) + (number_count b (blocks_of_pairs (o ∷ [])) + (number_count b (blocks_of_pairs arr.mid) + (number_count b (blocks_of_pairs (p ∷ [])) + number_count b (blocks_of_pairs arr.back)))))
+    both b = ap (λ z. number_count b (blocks_of_pairs z)) arr.old_is ∙ blocks_append w.chain (two arr.b arr.front (o ∷ []) arr.mid (p ∷ []) arr.back) b ∙ ap (λ n. number_count b (blocks_of_pairs w.chain) + n) (go arr.b)
       where
-        go : (s : Bool) → occurrence_count_of_number b (blocks_of_pairs (two s arr.front (o ∷ []) arr.mid (p ∷ []) arr.back))
-            ≡ occurrence_count_of_number b (blocks_of_pairs arr.front) + (occurrence_count_of_number b (blocks_of_pairs (o ∷ [])) + (occurrence_count_of_number b (blocks_of_pairs arr.mid) + (occurrence_count_of_number b (blocks_of_pairs (p ∷ [])) + occurrence_count_of_number b (blocks_of_pairs arr.back))))
+        go : (s : Bool) → number_count b (blocks_of_pairs (two s arr.front (o ∷ []) arr.mid (p ∷ []) arr.back))
+            ≡ number_count b (blocks_of_pairs arr.front) + (number_count b (blocks_of_pairs (o ∷ [])) + (number_count b (blocks_of_pairs arr.mid) + (number_count b (blocks_of_pairs (p ∷ [])) + number_count b (blocks_of_pairs arr.back))))
         go true =
             let a = blocks_append arr.front (o ∷ [] ++ (arr.mid ++ (p ∷ [] ++ arr.back))) b in
             let c = blocks_append (o ∷ []) (arr.mid ++ (p ∷ [] ++ arr.back)) b in
@@ -198,31 +198,31 @@ module _ (t : KeptThread) (sync : Bool) (old_pair : ℕ) (goes : Bool) (new_pair
             let e = blocks_append (o ∷ []) arr.back b in
             omega arith
 
-    unwritten : (b : ℕ) → 1 ≤ occurrence_count_of_number b (blocks_of_pairs (o ∷ [])) → block_bytes_on_disk mid.disk b ≡ block_bytes_on_disk t.disk b
+    unwritten : (b : ℕ) → 1 ≤ number_count b (blocks_of_pairs (o ∷ [])) → disk_block mid.disk b ≡ disk_block t.disk b
     unwritten b some = x.turned.same b (
         let once = once_from_distinct ((blocks_of_pairs x.more ++ []) ++ used_blocks t.disk ps) x.turned.free.distinct b in
         let c = count_append b (blocks_of_pairs x.more ++ []) (used_blocks t.disk ps) in
         let d = count_append b (blocks_of_pairs x.more) [] in
-        let e = count_append b (blocks_of_pairs ps) (flat_map (λ s. skip_list_blocks_of_struct t.disk s.struct) (all_slots_not_moved ps)) in
+        let e = count_append b (blocks_of_pairs ps) (flat_map (λ s. struct_blocks t.disk s.struct) (all_slots_not_moved ps)) in
         let f = both b in
         let g = count_append b (blocks_of_pairs x.more) (blocks_of_pairs (p ∷ [])) in
         omega arith)
 
-    raw_same : raw_content_of_pair_at mid.disk o.at ≡ raw_content_of_pair_at t.disk o.at
-    raw_same = ap (λ h. option_and_then (λ block. content_after_log_entries empty_raw_pair_content (log_entries_of_block block)) h) (ap₂ current_block_of_two
+    raw_same : raw_content mid.disk o.at ≡ raw_content t.disk o.at
+    raw_same = ap (λ h. option_and_then (λ block. content_after empty_raw_content (block_entries block)) h) (ap₂ current_of_two
         (unwritten o.at.0 (let e = count_here o.at.0 (o.at.1 ∷ []) in omega arith))
         (unwritten o.at.1 (let e = count_here o.at.1 [] in let f = count_append o.at.1 (o.at.0 ∷ []) (o.at.1 ∷ []) in omega arith)))
 
-    led_same : is_pair_named_by_hard_tail mid.pairs index ≡ ends_in_hard_tail false (wo.before ++ wo.left)
-    led_same = ap (λ z. is_pair_named_by_hard_tail z index) mid_is ∙ led_at w.chain arr.pre (o ∷ arr.post) index mid_chain index_is ∙ arr.led
+    led_same : follows_hard_tail_of mid.pairs index ≡ ends_joined false (wo.before ++ wo.left)
+    led_same = ap (λ z. follows_hard_tail_of z index) mid_is ∙ led_at w.chain arr.pre (o ∷ arr.post) index mid_chain index_is ∙ arr.led
 
-    pub mid_ends : CanEndMoveAt mid (pair_number_after_insertion old_pair new_pair (length mid.pairs - length t.pairs)) (length lo) goes
+    pub mid_ends : CanEndAt mid (number_after_insertion old_pair new_pair (length mid.pairs - length t.pairs)) (length lo) goes
     mid_ends = record {
-      accepted = subst (IsAcceptedImage mid.disk) (sym x.pairs) taken.follows.accepted;
-      writable = subst (IsWritableImage mid.disk) (sym x.pairs) taken.writable;
+      accepted = subst (IsAccepted mid.disk) (sym x.pairs) taken.follows.accepted;
+      writable = subst (IsWritable mid.disk) (sym x.pairs) taken.writable;
       begins = (let e = ap pair_count_before_root mid_is ∙ mid_chain in let f = index_is in omega arith);
       below = (let e = ap length grouped in let f = length-append (w.chain ++ arr.pre) (o ∷ arr.post) in let g = index_at in omega arith);
-      logged = λ raw is. k.logged raw (sym raw_same ∙ ap (λ (z : Pair). raw_content_of_pair_at mid.disk z.at) (sym here) ∙ is);
+      logged = λ raw is. k.logged raw (sym raw_same ∙ ap (λ (z : Pair). raw_content mid.disk z.at) (sym here) ∙ is);
       kind = ap (λ (g : Gstate). g.kind) mid_state;
       named = ap₂ (λ (g : Gstate) (z : Pair). same_pair g.pair z.at) mid_state here ∙ pair_itself o.at;
       id_is = ap (λ (g : Gstate). g.id) mid_state;
@@ -240,25 +240,25 @@ module _ (t : KeptThread) (sync : Bool) (old_pair : ℕ) (goes : Bool) (new_pair
       alone = λ goes. (let a = k.alone goes in (led_same ∙ a.0, ap (λ (z : Pair). length z.content.slots) here ∙ a.1));
     }
 
-    pub same_at : (thread_pair_at_index mid (pair_number_after_insertion old_pair new_pair (length mid.pairs - length t.pairs))).at ≡ (thread_pair_at_index t old_pair).at
+    pub same_at : (thread_pair_at mid (number_after_insertion old_pair new_pair (length mid.pairs - length t.pairs))).at ≡ (thread_pair_at t old_pair).at
     same_at = ap (λ (z : Pair). z.at) here ∙ sym k.old_is
 
     -- ---- after the second step
 
-    module _ (last : KeptThread) (e : HasEndedMoveAt mid (pair_number_after_insertion old_pair new_pair (length mid.pairs - length t.pairs)) (length lo) goes last) where
+    module _ (last : KeptThread) (e : HasEndedAt mid (number_after_insertion old_pair new_pair (length mid.pairs - length t.pairs)) (length lo) goes last) where
       abbrev o2 : Pair
-      o2 = record { at = (thread_pair_at_index mid index).at; content = content_after_move_ends mid index (length lo) }
+      o2 = record { at = (thread_pair_at mid index).at; content = content_move_ended mid index (length lo) }
 
       slots_left : o2.content.slots ≡ lo ++ ro
       slots_left = ap (λ (z : Pair). remove z.content.slots (length lo)) here ∙ ap (λ z. remove z (length lo)) k.setting.held ∙ remove_here lo ro u
 
-      pub last_state : gstate_of_pairs last.pairs ≡ record zero_gstate { sync = sync }
+      pub last_state : pairs_gstate last.pairs ≡ record zero_gstate { sync = sync }
       last_state = e.state ∙ ap gstate_without_move mid_state
 
-      settled_last : sync ≡ false → gstate_of_pairs last.pairs ≡ zero_gstate
+      settled_last : sync ≡ false → pairs_gstate last.pairs ≡ zero_gstate
       settled_last plain = last_state ∙ ap (λ b. record zero_gstate { sync = b }) plain
 
-      filled : goes ≡ false → ends_in_hard_tail false (wo.before ++ wo.left) ≡ true → lo ++ ro ≢ []
+      filled : goes ≡ false → ends_joined false (wo.before ++ wo.left) ≡ true → lo ++ ro ≢ []
       filled stays hard none =
           let m = k.stays stays hard in
           let a = ap length k.setting.held in
@@ -274,7 +274,7 @@ module _ (t : KeptThread) (sync : Bool) (old_pair : ℕ) (goes : Bool) (new_pair
       pub record IsLeftOver : Type 0 where
         pub os : List Pair
         pub stays : OldStays (from_old arr.b arr.front arr.mid p) o (lo ++ ro) os
-        pub alike : ArePairsWithSameAddressesAndSlots (w.chain ++ (arr.pre ++ (os ++ arr.post))) last.pairs
+        pub alike : SameSlots (w.chain ++ (arr.pre ++ (os ++ arr.post))) last.pairs
 
       pub left_over : IsLeftOver
       left_over = go goes refl
@@ -283,120 +283,120 @@ module _ (t : KeptThread) (sync : Bool) (old_pair : ℕ) (goes : Bool) (new_pair
           go false is = record {
             os = o2 ∷ [];
             stays = (ap (λ (z : Pair). z.at) here, slots_left, (λ from. filled is (sym arr.from ∙ from)));
-            alike = subst (λ z. ArePairsWithSameAddressesAndSlots z last.pairs)
+            alike = subst (λ z. SameSlots z last.pairs)
                 (ap₂ (λ (z : List Pair) (i : ℕ). set z i o2) grouped index_at ∙ set_at (w.chain ++ arr.pre) o arr.post o2 ∙ append_assoc w.chain arr.pre (o2 ∷ arr.post))
-                (subst (λ b. ArePairsWithSameAddressesAndSlots (pairs_after_move_ends mid index (length lo) b) last.pairs) is e.alike);
+                (subst (λ b. SameSlots (pairs_move_ended mid index (length lo) b) last.pairs) is e.alike);
           }
           go true is = record {
             os = [];
             stays = (arr.from ∙ (k.alone is).0, nothing_left is);
-            alike = subst (λ z. ArePairsWithSameAddressesAndSlots z last.pairs)
+            alike = subst (λ z. SameSlots z last.pairs)
                 (ap₂ (λ (z : List Pair) (i : ℕ). remove z i) grouped index_at ∙ remove_at (w.chain ++ arr.pre) o arr.post ∙ append_assoc w.chain arr.pre arr.post)
-                (subst (λ b. ArePairsWithSameAddressesAndSlots (pairs_after_move_ends mid index (length lo) b) last.pairs) is e.alike);
+                (subst (λ b. SameSlots (pairs_move_ended mid index (length lo) b) last.pairs) is e.alike);
           }
 
-      second : IsWritableImageAfterTreeChange mid.disk (thread_at w (x.q ∷ x.more)) last.disk last.pairs (λ t. t) (λ d. d)
-      second = subst (λ z. IsWritableImageAfterTreeChange mid.disk z last.disk last.pairs (λ t. t) (λ d. d)) x.pairs e.taken
+      second : IsWritableChange mid.disk (thread_at w (x.q ∷ x.more)) last.disk last.pairs (λ t. t) (λ d. d)
+      second = subst (λ z. IsWritableChange mid.disk z last.disk last.pairs (λ t. t) (λ d. d)) x.pairs e.taken
 
       -- both steps
-      pub last_taken : IsWritableImageAfterTreeChange t.disk t.pairs last.disk last.pairs (tree_after_rename old_path new_path) (walk_by old_path new_path)
-      last_taken = subst (λ z. IsWritableImageAfterTreeChange t.disk z last.disk last.pairs (tree_after_rename old_path new_path) (walk_by old_path new_path)) (sym k.turn.there)
-          (taken_then t.disk mid.disk last.disk (thread_at w (p ∷ [])) (thread_at w (x.q ∷ x.more)) last.pairs (tree_after_rename old_path new_path) (λ t. t) (walk_by old_path new_path) (λ d. d) (ends_same (tree_after_rename old_path new_path)) taken second)
+      pub last_taken : IsWritableChange t.disk t.pairs last.disk last.pairs (tree_renaming old_path new_path) (walk_by old_path new_path)
+      last_taken = subst (λ z. IsWritableChange t.disk z last.disk last.pairs (tree_renaming old_path new_path) (walk_by old_path new_path)) (sym k.turn.there)
+          (taken_then t.disk mid.disk last.disk (thread_at w (p ∷ [])) (thread_at w (x.q ∷ x.more)) last.pairs (tree_renaming old_path new_path) (λ t. t) (walk_by old_path new_path) (λ d. d) (ends_same (tree_renaming old_path new_path)) taken second)
 
-      pub last_firsts : addresses_of_first_pairs_of_directories (directories_in_thread last.pairs) ≡ addresses_of_first_pairs_of_directories (directories_in_thread t.pairs)
-      last_firsts = e.begins ∙ ap (λ z. addresses_of_first_pairs_of_directories (directories_in_thread z)) x.pairs
+      pub last_firsts : first_pair_addresses (all_directories last.pairs) ≡ first_pair_addresses (all_directories t.pairs)
+      last_firsts = e.begins ∙ ap (λ z. first_pair_addresses (all_directories z)) x.pairs
           ∙ set_firsts t.disk mid.disk wo o lo u ro w p [] x.q x.more (blocks_of_pairs x.more) l (target_slots target) v r (set_step t.disk wo o lo u ro w p l (target_slots target) v r k.setting sync mid.disk x.q x.more x.turned)
-          ∙ ap (λ z. addresses_of_first_pairs_of_directories (directories_in_thread z)) (sym k.turn.there)
+          ∙ ap (λ z. first_pair_addresses (all_directories z)) (sym k.turn.there)
 
       -- a pair stays that isn't one of the two, has no slots and ends its directory
-      pub last_kept : (z : Pair) → (p ≡ z → ⊥) → z.content.slots ≡ [] → is_hard_tail z.content.tail ≡ false → IsTrueOfSomeElement (λ y. y ≡ z) t.pairs → IsTrueOfSomeElement (λ y. y ≡ z) last.pairs
-      last_kept z other none soft h = e.kept z none soft (subst (IsTrueOfSomeElement (λ y. y ≡ z)) (sym x.pairs)
-          (past (among_parts (λ y. y ≡ z) w.chain ((w.before ++ w.left) ++ (p ∷ (w.right ++ w.after))) (subst (IsTrueOfSomeElement (λ y. y ≡ z)) k.turn.there h))))
+      pub last_kept : (z : Pair) → (p ≡ z → ⊥) → z.content.slots ≡ [] → is_hard_tail z.content.tail ≡ false → HoldsOfSome (λ y. y ≡ z) t.pairs → HoldsOfSome (λ y. y ≡ z) last.pairs
+      last_kept z other none soft h = e.kept z none soft (subst (HoldsOfSome (λ y. y ≡ z)) (sym x.pairs)
+          (past (among_parts (λ y. y ≡ z) w.chain ((w.before ++ w.left) ++ (p ∷ (w.right ++ w.after))) (subst (HoldsOfSome (λ y. y ≡ z)) k.turn.there h))))
         where
-          behind : IsTrueOfSomeElement (λ y. y ≡ z) (p ∷ (w.right ++ w.after)) → IsTrueOfSomeElement (λ y. y ≡ z) (thread_at w (x.q ∷ x.more))
+          behind : HoldsOfSome (λ y. y ≡ z) (p ∷ (w.right ++ w.after)) → HoldsOfSome (λ y. y ≡ z) (thread_at w (x.q ∷ x.more))
           behind (inl is) = absurd (other is)
           behind (inr h) = among_right (λ y. y ≡ z) w.chain (dirs_at w (x.q ∷ x.more)) (among_right (λ y. y ≡ z) (w.before ++ w.left) (x.q ∷ x.more ++ (w.right ++ w.after)) (among_right (λ y. y ≡ z) (x.q ∷ x.more) (w.right ++ w.after) h))
 
-          within : IsTrueOfSomeElement (λ y. y ≡ z) (w.before ++ w.left) ⊎ IsTrueOfSomeElement (λ y. y ≡ z) (p ∷ (w.right ++ w.after)) → IsTrueOfSomeElement (λ y. y ≡ z) (thread_at w (x.q ∷ x.more))
+          within : HoldsOfSome (λ y. y ≡ z) (w.before ++ w.left) ⊎ HoldsOfSome (λ y. y ≡ z) (p ∷ (w.right ++ w.after)) → HoldsOfSome (λ y. y ≡ z) (thread_at w (x.q ∷ x.more))
           within (inl h) = among_right (λ y. y ≡ z) w.chain (dirs_at w (x.q ∷ x.more)) (among_left (λ y. y ≡ z) (w.before ++ w.left) (x.q ∷ x.more ++ (w.right ++ w.after)) h)
           within (inr h) = behind h
 
-          past : IsTrueOfSomeElement (λ y. y ≡ z) w.chain ⊎ IsTrueOfSomeElement (λ y. y ≡ z) ((w.before ++ w.left) ++ (p ∷ (w.right ++ w.after))) → IsTrueOfSomeElement (λ y. y ≡ z) (thread_at w (x.q ∷ x.more))
+          past : HoldsOfSome (λ y. y ≡ z) w.chain ⊎ HoldsOfSome (λ y. y ≡ z) ((w.before ++ w.left) ++ (p ∷ (w.right ++ w.after))) → HoldsOfSome (λ y. y ≡ z) (thread_at w (x.q ∷ x.more))
           past (inl h) = among_left (λ y. y ≡ z) w.chain (dirs_at w (x.q ∷ x.more)) h
           past (inr h) = within (among_parts (λ y. y ≡ z) (w.before ++ w.left) (p ∷ (w.right ++ w.after)) h)
 
-      pub last_shape : HasSameGeometry t.disk last.disk
+      pub last_shape : SameGeometryAs t.disk last.disk
       last_shape = record { block_size = e.shape.block_size ∙ x.shape.block_size; page = e.shape.page ∙ x.shape.page; order = e.shape.order ∙ x.shape.order; profile = e.shape.profile ∙ x.shape.profile; count = e.shape.count ∙ x.shape.count }
 
-      pub rename_completed : sync ≡ false → (s : Session) (old_bytes new_bytes : List ℕ) → s.tree ≡ tree_on_disk t.disk t.pairs → path_of_bytes_or_root old_bytes ≡ old_path → path_of_bytes_or_root new_bytes ≡ new_path
-          → IsImageAfterCompletedOperation t.disk t.pairs s (ops.Rename old_bytes new_bytes) last.disk last.pairs
-      rename_completed plain s old_bytes new_bytes tree old_as new_as = subst (λ z. IsImageAfterCompletedOperation t.disk z s (ops.Rename old_bytes new_bytes) last.disk last.pairs) (sym k.turn.there)
+      pub rename_completed : sync ≡ false → (s : Session) (old_bytes new_bytes : List ℕ) → s.tree ≡ tree_on_disk t.disk t.pairs → path_or_root old_bytes ≡ old_path → path_or_root new_bytes ≡ new_path
+          → IsCompletion t.disk t.pairs s (ops.Rename old_bytes new_bytes) last.disk last.pairs
+      rename_completed plain s old_bytes new_bytes tree old_as new_as = subst (λ z. IsCompletion t.disk z s (ops.Rename old_bytes new_bytes) last.disk last.pairs) (sym k.turn.there)
           (completed t.disk mid.disk last.disk wo o lo u ro w p l target v r k.setting x.q x.more sync x.turned name k.same_slot old_path new_path (walk_by old_path new_path) taken.follows
           left_over.os last.pairs left_over.stays left_over.alike second (settled_last plain) k.from_slot k.to_slot k.to_name (k.file plain) s old_bytes new_bytes (tree ∙ ap (tree_on_disk t.disk) k.turn.there) old_as new_as)
 
       -- ---- the map
 
       abbrev gone : List ℕ
-      gone = file_blocks_of_slots t.disk (target_slots target)
+      gone = file_blocks t.disk (target_slots target)
 
       abbrev kept : List ℕ
       kept = used_blocks last.disk last.pairs ++ gone
 
-      before_last : (b : ℕ) → occurrence_count_of_number b kept + occurrence_count_of_number b (blocks_dropped_at_move_end mid index goes) ≡ occurrence_count_of_number b (blocks_of_pairs x.more ++ used_blocks t.disk t.pairs)
+      before_last : (b : ℕ) → number_count b kept + number_count b (dropped_at_end mid index goes) ≡ number_count b (blocks_of_pairs x.more ++ used_blocks t.disk t.pairs)
       before_last b =
           let a = e.blocks b in
-          let c = ap (λ z. occurrence_count_of_number b (used_blocks mid.disk z)) x.pairs in
+          let c = ap (λ z. number_count b (used_blocks mid.disk z)) x.pairs in
           let d = set_count t.disk wo o lo u ro w p l (target_slots target) v r k.setting sync mid.disk x.q x.more x.turned b in
-          let f = ap (λ z. occurrence_count_of_number b (used_blocks t.disk z)) k.turn.there in
+          let f = ap (λ z. number_count b (used_blocks t.disk z)) k.turn.there in
           let g = count_append b (blocks_of_pairs x.more) (used_blocks t.disk t.pairs) in
-          let h = count_append b (used_blocks last.disk last.pairs) (file_blocks_of_slots t.disk (target_slots target)) in
+          let h = count_append b (used_blocks last.disk last.pairs) (file_blocks t.disk (target_slots target)) in
           omega arith
 
-      once_before : (b : ℕ) → occurrence_count_of_number b (blocks_of_pairs x.more ++ used_blocks t.disk t.pairs) ≤ 1
+      once_before : (b : ℕ) → number_count b (blocks_of_pairs x.more ++ used_blocks t.disk t.pairs) ≤ 1
       once_before b =
           let once = once_from_distinct ((blocks_of_pairs x.more ++ []) ++ used_blocks t.disk ps) x.turned.free.distinct b in
           let c = count_append b (blocks_of_pairs x.more ++ []) (used_blocks t.disk ps) in
           let d = count_append b (blocks_of_pairs x.more) [] in
-          let f = ap (λ z. occurrence_count_of_number b (used_blocks t.disk z)) k.turn.there in
+          let f = ap (λ z. number_count b (used_blocks t.disk z)) k.turn.there in
           let g = count_append b (blocks_of_pairs x.more) (used_blocks t.disk t.pairs) in
           omega arith
 
-      map_is : HasMapWithout mid.map last.map (used_blocks last.disk last.pairs ++ file_blocks_of_slots t.disk (target_slots target))
+      map_is : HasMapWithout mid.map last.map (used_blocks last.disk last.pairs ++ file_blocks t.disk (target_slots target))
       map_is = map_ended mid index goes (blocks_of_pairs x.more ++ used_blocks t.disk t.pairs) kept (x.used (used_blocks t.disk t.pairs) k.ready.used) once_before before_last last.map e.map
 
-      pub rename_once : (b : ℕ) → occurrence_count_of_number b (used_blocks last.disk last.pairs) + occurrence_count_of_number b (file_blocks_of_slots t.disk (target_slots target)) ≤ 1
+      pub rename_once : (b : ℕ) → number_count b (used_blocks last.disk last.pairs) + number_count b (file_blocks t.disk (target_slots target)) ≤ 1
       rename_once b =
           let a = before_last b in
           let c = once_before b in
-          let h = count_append b (used_blocks last.disk last.pairs) (file_blocks_of_slots t.disk (target_slots target)) in
+          let h = count_append b (used_blocks last.disk last.pairs) (file_blocks t.disk (target_slots target)) in
           omega arith
 
-      pub last_used : AreExactlyTheUsedBlocks last.map (used_blocks last.disk last.pairs ++ file_blocks_of_slots t.disk (target_slots target))
+      pub last_used : AreUsed last.map (used_blocks last.disk last.pairs ++ file_blocks t.disk (target_slots target))
       last_used = map_is.used
 
       pub last_size : length last.map ≡ block_count last.disk
       last_size = map_is.size ∙ x.size ∙ k.ready.size ∙ sym x.shape.count ∙ sym e.shape.count
 
-      pub last_flying : HasSameBlocksInFlight t.map last.map
+      pub last_flying : SameInFlight t.map last.map
       last_flying b = (
         (λ h. x.none_comes b ((map_is.flying b).0 h)),
         (λ h. (map_is.flying b).1 (x.stays b (λ free. absurd (let z : Some InFlight ≡ Some Free = sym h ∙ free in cc)) ∙ h)),
       )
 
       -- the root directory begins where it did
-      pub last_root : KeepsPairCountBeforeRoot t last
+      pub last_root : KeepsRootBeginning t last
       last_root = e.root ∙ ap pair_count_before_root mid_is ∙ mid_chain ∙ sym (ap pair_count_before_root k.turn.there ∙ k.setting.site.chain)
 
-      pub rename_becomes : sync ≡ false → ShowsTreeAfterPairDrops t last (tree_after_rename old_path new_path (tree_on_disk t.disk t.pairs)) (file_blocks_of_slots t.disk (target_slots target))
+      pub rename_becomes : sync ≡ false → ShowsAfterDrops t last (tree_renaming old_path new_path (tree_on_disk t.disk t.pairs)) (file_blocks t.disk (target_slots target))
       rename_becomes plain = record {
         ready = record {
           accepted = e.taken.follows.accepted;
           writable = e.taken.writable;
           settled = settled_last plain;
           used = record {
-            owned = used_blocks last.disk last.pairs ++ file_blocks_of_slots t.disk (target_slots target);
+            owned = used_blocks last.disk last.pairs ++ file_blocks t.disk (target_slots target);
             are = last_used;
-            same = λ b. (let h = count_append b (used_blocks last.disk last.pairs) (file_blocks_of_slots t.disk (target_slots target)) in omega arith);
+            same = λ b. (let h = count_append b (used_blocks last.disk last.pairs) (file_blocks t.disk (target_slots target)) in omega arith);
           };
           size = last_size;
           large = subst (λ n. 1024 ≤ n) (sym (e.shape.block_size ∙ x.shape.block_size)) k.ready.large;

@@ -1,11 +1,11 @@
 -- A rename across pairs onto an empty directory: where the directory's pair stands after the move, and what the last step comes to.
 use Rattle.std.proofs.Common.{ℕ, zero, suc, ◌≡◌, ◌≢◌, ◌<◌, ◌⊎◌, inl, inr, ◌-◌, Bool, true, false, cond, nat_eq, slice_get, take, List, [], ◌∷◌, ◌++◌, length, map, Some, None, sym, ap, ap₂, subst, ◌∙◌, arith, append_assoc, append-nil, refl}
-use Rattle.lfs_operations.proofs.Common.{AllByRecursion, IsDistinct, recursion_from_All, same_Some, last_name_of_path, tree_after_rename, path_without_prefix, Blocks, PairContentChange, IsPairAtAddress, IsPlaceOfNameInDirectory, IsContentFittingPairOnDisk, IsDirectoryUnreachedOrRemoved, Are32BitPairAddresses, Name, HasTreeBeforeOrAfterOperation as IsLeftOf, disk_with_blocks, slot_of_path, pair_with_slots, Branch, Ctz, Inline, Slot, Struct, gstate_xor, zero_gstate, same_pair, path_of_bytes_or_root, ThreadDirectory, Pair, anchor_pair_address, blocks_of_pairs, pairs_from_root_directory_on, first_pair_address, gstate_of_pairs, root_directory_address_of_pairs, pair_count_before_root, Path, branch_address_of_struct, directory_address_at_path, AreNoEmptyPairsAfterHardTails, IsWritableImage, IsAcceptedImage, IsDirectoryAddressReachedBySomePath, IsPathToDirectory, directories_in_thread, entries_by_directory_in_thread, tree_on_disk, used_blocks, ArePairsWithSameAddressesAndSlots, IsImageAfterTreeChange, IsImageAfterCompletedOperation, no_move_from, recovered_from, Each, occurrence_count_of_number, count_append, each_right, each_weaker, HasDirectory, chain_of_thread, site_shows, NoneGoes, joined_parts, none_where, rest_all, entry_only, get_here, place_at, shown_before, shown_behind, some_filled, pair_itself, pair_on, last_is, Gains, Keeps, Piece, Stays, olds_of, segment_of, directory_addresses_after_rename, IsReplaced, avoids_behind, avoids_front, same, site, slot_of_stands, drafts_of, parts_of, IsTrueOfSomeElement, Site, begin_of, dirs_at, thread_at, file_blocks_of_slots, IsWritableImageAfterTreeChange, IsChain, pairs_behind, OldStays, from_old, two, KeptThread, empty_pair_at_anchor, thread_pair_at_index, HasNoMove}
+use Rattle.lfs_operations.proofs.Common.{AllByRecursion, IsDistinct, recursion_from_All, same_Some, last_name, tree_renaming, without_prefix, Blocks, PairChange, IsPairAt, IsPlaceOf, FitsPair, IsDirectoryGone, AreWords, Name, HasEither as IsLeftOf, with_blocks, slot_of, pair_with_slots, Branch, Ctz, Inline, Slot, Struct, gstate_xor, zero_gstate, same_pair, path_or_root, ThreadDirectory, Pair, anchor_address, blocks_of_pairs, pairs_from_root, first_address, pairs_gstate, root_address, pair_count_before_root, Path, branch_address, address_at_path, HasNoEmpties, IsWritable, IsAccepted, IsReachedBySome, LeadsTo, all_directories, all_entries, tree_on_disk, used_blocks, SameSlots, IsChangedImage, IsCompletion, no_move_from, recovered_from, Each, number_count, count_append, each_right, each_weaker, HasDirectory, chain_of_thread, site_shows, NoneGoes, joined_parts, none_where, rest_all, entry_only, get_here, place_at, shown_before, shown_behind, some_filled, pair_itself, pair_on, last_is, Gains, Keeps, Piece, Stays, olds_of, segment_of, renamed_addresses, IsReplaced, avoids_behind, avoids_front, same, site, slot_of_stands, drafts_of, parts_of, HoldsOfSome, Site, begin_of, dirs_at, thread_at, file_blocks, IsWritableChange, IsChain, pairs_behind, OldStays, from_old, two, KeptThread, empty_anchor, thread_pair_at, HasNoMove}
 use Rattle.std.specs.Prelude.{Any}
-use Rattle.lfs_model.specs.TreeEdits.{same_path}
-use Rattle.lfs_model.specs.Layout.{directory_addresses_of_slot, addresses_of_removed_directories}
-use Rattle.lfs_model.specs.Operations as ops
-use Rattle.lfs_model.specs.Thread.{IsAddressOfDirectoryFirstPair}
+use Rattle.lfs_model.specs.session.TreeEdits.{same_path}
+use Rattle.lfs_model.specs.session.Layout.{slot_addresses, removed_addresses}
+use Rattle.lfs_model.specs.session.Operations as ops
+use Rattle.lfs_model.specs.format.Thread.{BeginsAt}
 use Rattle.lfs_model.proofs.Alike.{Stood}
 use Rattle.lfs_model.proofs.Found.{directory_found, links_behind}
 use Rattle.lfs_model.proofs.MoveSets.{all_at_firsts, begins_at_firsts}
@@ -13,13 +13,13 @@ use Rattle.lfs_model.proofs.Pieces.{GoesAt, pieces_stood}
 use Rattle.lfs_model.proofs.RenamedOnto.{IsRenameOnto, onto_completed}
 use Rattle.lfs_model.proofs.Trees.{not_before}
 use Rattle.lfs_model.proofs.TwoPlaces.{fits_fewer}
-use Rattle.lfs_operations.specs.Dropping.{CanDropPairAt, IsNextPairDropped, IsLeftByStoppedPairDrop}
-use Rattle.lfs_operations.specs.Editing.{CanEditEntryOfPair}
-use Rattle.lfs_operations.specs.MoveEnds.{HasEndedMoveAt, gstate_naming_moved_slot}
-use Rattle.lfs_operations.specs.MovingSteps.{IsSlotPutAndMoveEnded, pair_number_after_insertion}
-use Rattle.lfs_operations.specs.MovingAcross.{IsEntryRenamedAcrossPairs, tree_with_moved_entry}
-use Rattle.lfs_operations.specs.MovingOnto.{CanReplaceDirectoryAcrossPairs, IsEntryReplacedAcrossPairs, replace_entry_across_pairs_changes}
-use Rattle.lfs_operations.specs.Removing.{is_pair_dropped_with_slot}
+use Rattle.lfs_operations.specs.Dropping.{CanDropAt, IsPairDropped, LeftByDrop}
+use Rattle.lfs_operations.specs.Editing.{CanEditIn}
+use Rattle.lfs_operations.specs.MoveEnds.{HasEndedAt, gstate_naming}
+use Rattle.lfs_operations.specs.MovingSteps.{IsPutEnded, number_after_insertion}
+use Rattle.lfs_operations.specs.MovingAcross.{IsRenamedAcross, tree_moved}
+use Rattle.lfs_operations.specs.MovingOnto.{CanReplaceDirectoryOver, IsEntryReplaced, entry_over_changes}
+use Rattle.lfs_operations.specs.Removing.{drops_with_its_slot}
 use Rattle.lfs_operations.proofs.Held.{below, fits_there}
 use Rattle.lfs_operations.proofs.MovReplace.{is_first, onto_directory}
 use Rattle.lfs_operations.proofs.MovStep.{IsFirst, IsLeftOver, arr, first_turned, last_firsts, last_flying, last_kept, last_root, last_shape, last_size, last_state, last_taken, last_used, left_over}
@@ -35,28 +35,28 @@ use Rattle.lfs_operations.proofs.LastDrop.{IsAllButDropped, alike_end, can_drop_
 
 -- ---- lists
 
-among_there : (xs : List Pair) (k : ℕ) (o : Pair) → slice_get xs k ≡ Some o → IsTrueOfSomeElement (λ y. y ≡ o) xs
+among_there : (xs : List Pair) (k : ℕ) (o : Pair) → slice_get xs k ≡ Some o → HoldsOfSome (λ y. y ≡ o) xs
 among_there [] k o e = absurd (cc)
 among_there (x ∷ xs) zero o e = inl (same_Some x o e)
 among_there (x ∷ xs) (suc k) o e = inr (among_there xs k o e)
 
-somewhere : (xs : List Pair) (o : Pair) → IsTrueOfSomeElement (λ y. y ≡ o) xs → (k : ℕ) × (slice_get xs k ≡ Some o)
+somewhere : (xs : List Pair) (o : Pair) → HoldsOfSome (λ y. y ≡ o) xs → (k : ℕ) × (slice_get xs k ≡ Some o)
 somewhere [] o h = absurd h
 somewhere (x ∷ xs) o (inl e) = (0, ap Some e)
 somewhere (x ∷ xs) o (inr h) = let s = somewhere xs o h in (suc s.0, s.1)
 
-pub old_below : (t : KeptThread) (old_pair old_id first new_pair new_id : ℕ) (name : Name) (gone : ℕ) → CanReplaceDirectoryAcrossPairs t old_pair old_id first new_pair new_id name gone → old_pair < length t.pairs
+pub old_below : (t : KeptThread) (old_pair old_id first new_pair new_id : ℕ) (name : Name) (gone : ℕ) → CanReplaceDirectoryOver t old_pair old_id first new_pair new_id name gone → old_pair < length t.pairs
 old_below t old_pair old_id first new_pair new_id name gone rename = below t rename.old.ready rename.old.first old_pair rename.old.stands.pair rename.old.stands.rest rename.old.stands.place
 
-pub new_below : (t : KeptThread) (old_pair old_id first new_pair new_id : ℕ) (name : Name) (gone : ℕ) → CanReplaceDirectoryAcrossPairs t old_pair old_id first new_pair new_id name gone → new_pair < length t.pairs
+pub new_below : (t : KeptThread) (old_pair old_id first new_pair new_id : ℕ) (name : Name) (gone : ℕ) → CanReplaceDirectoryOver t old_pair old_id first new_pair new_id name gone → new_pair < length t.pairs
 new_below t old_pair old_id first new_pair new_id name gone rename = below t rename.old.ready rename.to_first new_pair rename.target.pair rename.target.rest rename.target.place
 
-module _ (t : KeptThread) (old_pair old_id first new_pair new_id : ℕ) (name : Name) (gone : ℕ) (rename : CanReplaceDirectoryAcrossPairs t old_pair old_id first new_pair new_id name gone) (address : Are32BitPairAddresses (thread_pair_at_index t old_pair).at)
-    (m : KeptThread) (is : IsSlotPutAndMoveEnded t old_pair old_id (is_pair_dropped_with_slot t old_pair first) new_pair (replace_entry_across_pairs_changes true t old_pair old_id new_pair new_id name) m) where
-  abbrev can : CanEditEntryOfPair t old_pair old_id
+module _ (t : KeptThread) (old_pair old_id first new_pair new_id : ℕ) (name : Name) (gone : ℕ) (rename : CanReplaceDirectoryOver t old_pair old_id first new_pair new_id name gone) (address : AreWords (thread_pair_at t old_pair).at)
+    (m : KeptThread) (is : IsPutEnded t old_pair old_id (drops_with_its_slot t old_pair first) new_pair (entry_over_changes true t old_pair old_id new_pair new_id name) m) where
+  abbrev can : CanEditIn t old_pair old_id
   can = rename.old
 
-  abbrev tb : IsPlaceOfNameInDirectory t.pairs rename.to_first name new_pair new_id
+  abbrev tb : IsPlaceOf t.pairs rename.to_first name new_pair new_id
   tb = rename.target
 
   abbrev p : Pair
@@ -99,36 +99,36 @@ module _ (t : KeptThread) (old_pair old_id first new_pair new_id : ℕ) (name : 
   to = rename.path ++ name ∷ []
 
   abbrev goes : Bool
-  goes = is_pair_dropped_with_slot t old_pair first
+  goes = drops_with_its_slot t old_pair first
 
-  abbrev changes : List PairContentChange
-  changes = replace_entry_across_pairs_changes true t old_pair old_id new_pair new_id name
+  abbrev changes : List PairChange
+  changes = entry_over_changes true t old_pair old_id new_pair new_id name
 
   abbrev o : Pair
-  o = thread_pair_at_index t gone
+  o = thread_pair_at t gone
 
   first_step : IsFirst t true old_pair goes new_pair changes wo q0 lo s ro w p l (Some g) v r from to name
   first_step = is_first true t old_pair old_id first new_pair new_id name (onto_directory rename) address
 
-  x : TurnedTo t w p (l ++ v ∷ r) (gstate_xor (gstate_naming_moved_slot true q0.at (length lo)) p.content.move) is.mid
+  x : TurnedTo t w p (l ++ v ∷ r) (gstate_xor (gstate_naming true q0.at (length lo)) p.content.move) is.mid
   x = first_turned t true old_pair goes new_pair changes wo q0 lo s ro w p l (Some g) v r from to name first_step is.mid is.put
 
-  e : HasEndedMoveAt is.mid (pair_number_after_insertion old_pair new_pair (length is.mid.pairs - length t.pairs)) (length lo) goes m
-  e = subst (λ i. HasEndedMoveAt is.mid (pair_number_after_insertion old_pair new_pair (length is.mid.pairs - length t.pairs)) i goes m) (sym can.stands.stands.number) is.ended
+  e : HasEndedAt is.mid (number_after_insertion old_pair new_pair (length is.mid.pairs - length t.pairs)) (length lo) goes m
+  e = subst (λ i. HasEndedAt is.mid (number_after_insertion old_pair new_pair (length is.mid.pairs - length t.pairs)) i goes m) (sym can.stands.stands.number) is.ended
 
   same_begin : same_pair (begin_of w (p ∷ [])) rename.at ≡ true
   same_begin = same t.disk t.pairs rename.path rename.at can.ready.accepted rename.leads rename.to_first new_pair p tb.rest tb.place rename.begins
 
-  leads : IsPathToDirectory (thread_at w (p ∷ [])) rename.path rename.at
-  leads = subst (λ z. IsPathToDirectory z rename.path rename.at) first_step.turn.there rename.leads
+  leads : LeadsTo (thread_at w (p ∷ [])) rename.path rename.at
+  leads = subst (λ z. LeadsTo z rename.path rename.at) first_step.turn.there rename.leads
 
   -- ---- the directory before
 
-  entry_there : slice_get (entries_by_directory_in_thread (thread_at w (p ∷ [])) rename.at) (place_at w l) ≡ Some g
+  entry_there : slice_get (all_entries (thread_at w (p ∷ [])) rename.at) (place_at w l) ≡ Some g
   entry_there = ap (λ z. slice_get z (place_at w l)) (site_shows t.disk w p l (g ∷ []) r rename.at first_step.setting.accepted first_step.setting.site (no_move_from (thread_at w (p ∷ [])) first_step.setting.settled) same_begin tb.stands.held
       ∙ ap (λ z. shown_before w l ++ (z ++ shown_behind w r)) (entry_only g tb.stands.entry)) ∙ get_here (shown_before w l) (shown_behind w r) g
 
-  led_there : IsPathToDirectory t.pairs (rename.path ++ name ∷ []) rename.to
+  led_there : LeadsTo t.pairs (rename.path ++ name ∷ []) rename.to
   led_there = led_to t can.ready rename.path rename.at rename.leads rename.to_first new_pair new_id name tb rename.begins rename.to rename.branch
 
   own : HasOwnPair t w.chain (dirs_at w (p ∷ [])) gone rename.to
@@ -138,7 +138,7 @@ module _ (t : KeptThread) (old_pair old_id first new_pair new_id : ℕ) (name : 
   front = own.front
 
   o_there : slice_get t.pairs gone ≡ Some o
-  o_there = get_some t.pairs gone empty_pair_at_anchor rename.below
+  o_there = get_some t.pairs gone empty_anchor rename.below
 
   pub gone_above : 0 < gone
   gone_above = let e = own.number in omega arith
@@ -151,53 +151,53 @@ module _ (t : KeptThread) (old_pair old_id first new_pair new_id : ℕ) (name : 
 
   -- ---- and after the move
 
-  moved : IsWritableImageAfterTreeChange t.disk t.pairs m.disk m.pairs (tree_after_rename (can.path ++ can.name ∷ []) (rename.path ++ name ∷ [])) (directory_addresses_after_rename (can.path ++ can.name ∷ []) (rename.path ++ name ∷ []))
+  moved : IsWritableChange t.disk t.pairs m.disk m.pairs (tree_renaming (can.path ++ can.name ∷ []) (rename.path ++ name ∷ [])) (renamed_addresses (can.path ++ can.name ∷ []) (rename.path ++ name ∷ []))
   moved = last_taken t true old_pair goes new_pair changes wo q0 lo s ro w p l (Some g) v r from to name first_step is.mid x m e
 
-  begun : IsAddressOfDirectoryFirstPair (directories_in_thread m.pairs) rename.to
-  begun = begins_at_firsts (directories_in_thread t.pairs) (directories_in_thread m.pairs) (last_firsts t true old_pair goes new_pair changes wo q0 lo s ro w p l (Some g) v r from to name first_step is.mid x m e) rename.to (can.ready.accepted.branches (rename.path ++ name ∷ []) rename.to led_there)
+  begun : BeginsAt (all_directories m.pairs) rename.to
+  begun = begins_at_firsts (all_directories t.pairs) (all_directories m.pairs) (last_firsts t true old_pair goes new_pair changes wo q0 lo s ro w p l (Some g) v r from to name first_step is.mid x m e) rename.to (can.ready.accepted.branches (rename.path ++ name ∷ []) rename.to led_there)
 
-  found : HasDirectory (pairs_from_root_directory_on m.pairs) rename.to
+  found : HasDirectory (pairs_from_root m.pairs) rename.to
   found =
-      let k = links_behind (Some anchor_pair_address) (pair_count_before_root m.pairs) m.pairs moved.follows.accepted.thread.links in
-      directory_found (gstate_of_pairs m.pairs) rename.to k.0 (pairs_from_root_directory_on m.pairs) k.1 begun
+      let k = links_behind (Some anchor_address) (pair_count_before_root m.pairs) m.pairs moved.follows.accepted.thread.links in
+      directory_found (pairs_gstate m.pairs) rename.to k.0 (pairs_from_root m.pairs) k.1 begun
 
-  now : HasFront (pairs_from_root_directory_on m.pairs) rename.to
-  now = front_of (pairs_from_root_directory_on m.pairs) rename.to found (λ none. not_the_root t.disk t.pairs rename.path name rename.to can.ready.accepted led_there
-      (subst (λ z. same_pair z rename.to ≡ true) (sym (ap first_pair_address (found.is ∙ ap (λ z. z ++ (found.first ∷ found.run ++ found.after)) none)) ∙ moved.follows.root) found.at))
+  now : HasFront (pairs_from_root m.pairs) rename.to
+  now = front_of (pairs_from_root m.pairs) rename.to found (λ none. not_the_root t.disk t.pairs rename.path name rename.to can.ready.accepted led_there
+      (subst (λ z. same_pair z rename.to ≡ true) (sym (ap first_address (found.is ∙ ap (λ z. z ++ (found.first ∷ found.run ++ found.after)) none)) ∙ moved.follows.root) found.at))
 
   abbrev chain : List Pair
   chain = take (pair_count_before_root m.pairs) m.pairs
 
-  whole : m.pairs ≡ take (pair_count_before_root m.pairs) m.pairs ++ pairs_from_root_directory_on m.pairs
+  whole : m.pairs ≡ take (pair_count_before_root m.pairs) m.pairs ++ pairs_from_root m.pairs
   whole = (chain_of_thread m.pairs).0
 
-  accepted_now : IsAcceptedImage m.disk (take (pair_count_before_root m.pairs) m.pairs ++ pairs_from_root_directory_on m.pairs)
-  accepted_now = subst (IsAcceptedImage m.disk) whole moved.follows.accepted
+  accepted_now : IsAccepted m.disk (take (pair_count_before_root m.pairs) m.pairs ++ pairs_from_root m.pairs)
+  accepted_now = subst (IsAccepted m.disk) whole moved.follows.accepted
 
   still_there : (k : ℕ) × (slice_get m.pairs k ≡ Some o)
   still_there = somewhere m.pairs o (last_kept t true old_pair goes new_pair changes wo q0 lo s ro w p l (Some g) v r from to name first_step is.mid x m e o not_new rename.empty rename.alone (among_there t.pairs gone o o_there))
 
   now_is : now.first ≡ o
-  now_is = (number_of_first m.disk chain (pairs_from_root_directory_on m.pairs) rename.to accepted_now now still_there.0 o (subst (λ z. slice_get z still_there.0 ≡ Some o) whole still_there.1) rename.alike).1
+  now_is = (number_of_first m.disk chain (pairs_from_root m.pairs) rename.to accepted_now now still_there.0 o (subst (λ z. slice_get z still_there.0 ≡ Some o) whole still_there.1) rename.alike).1
 
-  dirs_now : pairs_from_root_directory_on m.pairs ≡ now.front ++ now.before ∷ o ∷ (now.run ++ now.after)
+  dirs_now : pairs_from_root m.pairs ≡ now.front ++ now.before ∷ o ∷ (now.run ++ now.after)
   dirs_now = now.is ∙ ap (λ z. now.front ++ now.before ∷ z ∷ (now.run ++ now.after)) now_is
 
   there_now : m.pairs ≡ take (pair_count_before_root m.pairs) m.pairs ++ (now.front ++ now.before ∷ o ∷ (now.run ++ now.after))
   there_now = whole ∙ ap (λ z. take (pair_count_before_root m.pairs) m.pairs ++ z) dirs_now
 
-  no_list : (b : ℕ) → occurrence_count_of_number b (file_blocks_of_slots t.disk (g ∷ [])) ≡ 0
-  no_list b = ap (λ z. occurrence_count_of_number b (file_blocks_of_slots t.disk (record g { struct = z } ∷ []))) rename.branch
+  no_list : (b : ℕ) → number_count b (file_blocks t.disk (g ∷ [])) ≡ 0
+  no_list b = ap (λ z. number_count b (file_blocks t.disk (record g { struct = z } ∷ []))) rename.branch
 
-  module _ (n : ℕ) (at : IsPairAtAddress m.pairs (thread_pair_at_index t gone).at n) where
-    no_move_now : HasNoMove (gstate_of_pairs m.pairs)
+  module _ (n : ℕ) (at : IsPairAt m.pairs (thread_pair_at t gone).at n) where
+    no_move_now : HasNoMove (pairs_gstate m.pairs)
     no_move_now = subst HasNoMove (sym (last_state t true old_pair goes new_pair changes wo q0 lo s ro w p l (Some g) v r from to name first_step is.mid x m e)) (record { kind = refl; id = refl; pair = refl })
 
     chain_now : IsChain (take (pair_count_before_root m.pairs) m.pairs) (now.front ++ now.before ∷ o ∷ (now.run ++ now.after))
     chain_now = subst (IsChain (take (pair_count_before_root m.pairs) m.pairs)) dirs_now (chain_of_thread m.pairs).1
 
-    pub replacing_across : IsAllButDropped t m o n (tree_after_rename (can.path ++ can.name ∷ []) (rename.path ++ name ∷ [])) (directory_addresses_after_rename (can.path ++ can.name ∷ []) (rename.path ++ name ∷ []))
+    pub replacing_across : IsAllButDropped t m o n (tree_renaming (can.path ++ can.name ∷ []) (rename.path ++ name ∷ [])) (renamed_addresses (can.path ++ can.name ∷ []) (rename.path ++ name ∷ []))
     replacing_across = record {
       ready = can.ready;
       taken = moved;
@@ -208,19 +208,19 @@ module _ (t : KeptThread) (old_pair old_id first new_pair new_id : ℕ) (name : 
       back = now.run ++ now.after;
       there = there_now;
       is_chain = chain_now;
-      number = sym (number_of_first m.disk chain (pairs_from_root_directory_on m.pairs) rename.to accepted_now now n at.pair (subst (λ z. slice_get z n ≡ Some at.pair) whole at.there)
+      number = sym (number_of_first m.disk chain (pairs_from_root m.pairs) rename.to accepted_now now n at.pair (subst (λ z. slice_get z n ≡ Some at.pair) whole at.there)
           (pair_on at.pair.at o.at rename.to at.same rename.alike)).0;
       soft = now.soft;
       drops = replaced_drops t m from to rename.to (take (pair_count_before_root m.pairs) m.pairs) now.front now.before o (now.run ++ now.after) can.ready moved no_move_now there_now chain_now
-          (subst (λ z. IsReplaced (directory_address_at_path (entries_by_directory_in_thread z) (root_directory_address_of_pairs z)) from to rename.to) (sym first_step.turn.there)
-          (subst (λ (n : Name). IsReplaced (directory_address_at_path (entries_by_directory_in_thread (thread_at w (p ∷ []))) (root_directory_address_of_pairs (thread_at w (p ∷ [])))) from (rename.path ++ n ∷ []) rename.to) tb.stands.named
+          (subst (λ z. IsReplaced (address_at_path (all_entries z) (root_address z)) from to rename.to) (sym first_step.turn.there)
+          (subst (λ (n : Name). IsReplaced (address_at_path (all_entries (thread_at w (p ∷ []))) (root_address (thread_at w (p ∷ [])))) from (rename.path ++ n ∷ []) rename.to) tb.stands.named
           (replaced_by t.disk (thread_at w (p ∷ [])) rename.path rename.at (place_at w l) g rename.to from first_step.setting.accepted leads entry_there rename.branch own.empty
-          (ap (λ (n : Name). path_without_prefix from (rename.path ++ n ∷ [])) tb.stands.named ∙ rename.not_beneath))))
-          (λ Q h. all_at_firsts Q (directories_in_thread t.pairs) (directories_in_thread m.pairs) (last_firsts t true old_pair goes new_pair changes wo q0 lo s ro w p l (Some g) v r from to name first_step is.mid x m e) h)
+          (ap (λ (n : Name). without_prefix from (rename.path ++ n ∷ [])) tb.stands.named ∙ rename.not_beneath))))
+          (λ Q h. all_at_firsts Q (all_directories t.pairs) (all_directories m.pairs) (last_firsts t true old_pair goes new_pair changes wo q0 lo s ro w p l (Some g) v r from to name first_step is.mid x m e) h)
           rename.alike rename.alone;
       empty = rename.empty;
-      used = used_same m.map (used_blocks m.disk m.pairs ++ file_blocks_of_slots t.disk (g ∷ [])) (used_blocks m.disk m.pairs)
-          (λ b. let a = count_append b (used_blocks m.disk m.pairs) (file_blocks_of_slots t.disk (g ∷ [])) in let c = no_list b in omega arith) (last_used t true old_pair goes new_pair changes wo q0 lo s ro w p l (Some g) v r from to name first_step is.mid x m e);
+      used = used_same m.map (used_blocks m.disk m.pairs ++ file_blocks t.disk (g ∷ [])) (used_blocks m.disk m.pairs)
+          (λ b. let a = count_append b (used_blocks m.disk m.pairs) (file_blocks t.disk (g ∷ [])) in let c = no_list b in omega arith) (last_used t true old_pair goes new_pair changes wo q0 lo s ro w p l (Some g) v r from to name first_step is.mid x m e);
       size = last_size t true old_pair goes new_pair changes wo q0 lo s ro w p l (Some g) v r from to name first_step is.mid x m e;
       flying = last_flying t true old_pair goes new_pair changes wo q0 lo s ro w p l (Some g) v r from to name first_step is.mid x m e;
       root = last_root t true old_pair goes new_pair changes wo q0 lo s ro w p l (Some g) v r from to name first_step is.mid x m e;
@@ -229,7 +229,7 @@ module _ (t : KeptThread) (old_pair old_id first new_pair new_id : ℕ) (name : 
 
     -- ---- where the slots stand
 
-    module _ (new : KeptThread) (d : IsNextPairDropped m (n - 1) zero_gstate new) where
+    module _ (new : KeptThread) (d : IsPairDropped m (n - 1) zero_gstate new) where
       abbrev a : Arranged t.disk wo q0 w p x.q x.more
       a = arr t true old_pair goes new_pair changes wo q0 lo s ro w p l (Some g) v r from to name first_step is.mid x
 
@@ -257,7 +257,7 @@ module _ (t : KeptThread) (old_pair old_id first new_pair new_id : ℕ) (name : 
       joined false = joined_stays a.front (Gains p (l ++ v ∷ r) x.q x.more ∷ Stays a.mid ∷ Keeps q0 (lo ++ ro) left.os ∷ Stays a.back ∷ [])
           ∙ ap (λ z. a.front ++ ((x.q ∷ x.more) ++ z)) (joined_stays a.mid (Keeps q0 (lo ++ ro) left.os ∷ Stays a.back ∷ []) ∙ ap (λ z. a.mid ++ (left.os ++ z)) last_piece)
 
-      o_fits : IsContentFittingPairOnDisk t.disk (pair_with_slots (lo ++ ro) q0)
+      o_fits : FitsPair t.disk (pair_with_slots (lo ++ ro) q0)
       o_fits = fits_fewer t.disk q0 lo ro s can.stands.stands.held (fits_there t can.ready can.first old_pair q0 can.stands.rest can.stands.place)
 
       filled : l ++ v ∷ r ≢ []
@@ -273,7 +273,7 @@ module _ (t : KeptThread) (old_pair old_id first new_pair new_id : ℕ) (name : 
       two_chain = ap pair_count_before_root (sym a.old_is) ∙ first_step.setting.site.chain
 
       two_is : dirs_at w (p ∷ []) ≡ two a.b a.front (q0 ∷ []) a.mid (p ∷ []) a.back
-      two_is = sym (pairs_behind w.chain (dirs_at w (p ∷ [])) first_step.setting.site.chain) ∙ ap pairs_from_root_directory_on a.old_is ∙ pairs_behind w.chain (two a.b a.front (q0 ∷ []) a.mid (p ∷ []) a.back) two_chain
+      two_is = sym (pairs_behind w.chain (dirs_at w (p ∷ [])) first_step.setting.site.chain) ∙ ap pairs_from_root a.old_is ∙ pairs_behind w.chain (two a.b a.front (q0 ∷ []) a.mid (p ∷ []) a.back) two_chain
 
       abbrev ahead : List Pair
       ahead = front.front ++ front.before ∷ []
@@ -312,18 +312,18 @@ module _ (t : KeptThread) (old_pair old_id first new_pair new_id : ℕ) (name : 
       distinct_now : IsDistinct nat_eq (blocks_of_pairs (ahead_now ++ o ∷ behind_now))
       distinct_now = subst (λ z. IsDistinct nat_eq (blocks_of_pairs z)) (there_now ∙ regrouped (o ∷ behind_now)) moved.follows.accepted.thread.distinct
 
-      alike_before : ArePairsWithSameAddressesAndSlots ((w.chain ++ cut.left) ++ o ∷ cut.right) (ahead_now ++ o ∷ behind_now)
-      alike_before = subst (λ z. ArePairsWithSameAddressesAndSlots z (ahead_now ++ o ∷ behind_now))
+      alike_before : SameSlots ((w.chain ++ cut.left) ++ o ∷ cut.right) (ahead_now ++ o ∷ behind_now)
+      alike_before = subst (λ z. SameSlots z (ahead_now ++ o ∷ behind_now))
           (ap (λ z. w.chain ++ z) (sym (a.cut left.os) ∙ sym (joined a.b) ∙ cut.were) ∙ sym (append_assoc w.chain cut.left (o ∷ cut.right)))
-          (subst (ArePairsWithSameAddressesAndSlots (w.chain ++ (a.pre ++ (left.os ++ a.post)))) (there_now ∙ regrouped (o ∷ behind_now)) left.alike)
+          (subst (SameSlots (w.chain ++ (a.pre ++ (left.os ++ a.post)))) (there_now ∙ regrouped (o ∷ behind_now)) left.alike)
 
-      alike_after : ArePairsWithSameAddressesAndSlots (w.chain ++ joined_parts (parts_of (map segment_of cut.all))) new.pairs
+      alike_after : SameSlots (w.chain ++ joined_parts (parts_of (map segment_of cut.all))) new.pairs
       unfolding replacing_across
-      alike_after = subst (λ z. ArePairsWithSameAddressesAndSlots z new.pairs) (append_assoc w.chain cut.left cut.right ∙ ap (λ z. w.chain ++ z) (sym cut.are))
+      alike_after = subst (λ z. SameSlots z new.pairs) (append_assoc w.chain cut.left cut.right ∙ ap (λ z. w.chain ++ z) (sym cut.are))
           (alike_then ((w.chain ++ cut.left) ++ cut.right) (ahead_now ++ behind_now) new.pairs
           (alike_without t.disk rename.to o rename.alike rename.alone (w.chain ++ cut.left) cut.right ahead_now behind_now alike_before
           (avoids_front ahead_now o behind_now rename.to distinct_now rename.alike) (avoids_behind ahead_now o behind_now rename.to distinct_now rename.alike))
-          (subst (λ z. ArePairsWithSameAddressesAndSlots z new.pairs) (regrouped behind_now) (alike_end replacing_across new d)))
+          (subst (λ z. SameSlots z new.pairs) (regrouped behind_now) (alike_end replacing_across new d)))
 
       -- ---- the operation
 
@@ -333,80 +333,80 @@ module _ (t : KeptThread) (old_pair old_id first new_pair new_id : ℕ) (name : 
       were : t.pairs ≡ ps
       were = first_step.turn.there ∙ a.old_is
 
-      unreached : NoneGoes (λ z. IsDirectoryAddressReachedBySomePath ps z → ⊥) None (two a.b a.front (q0 ∷ []) a.mid (p ∷ []) a.back)
-      unreached = subst (NoneGoes (λ z. IsDirectoryAddressReachedBySomePath ps z → ⊥) None) (pairs_behind w.chain (two a.b a.front (q0 ∷ []) a.mid (p ∷ []) a.back) two_chain)
-          (none_where (λ z. IsDirectoryAddressReachedBySomePath ps z → ⊥) (gstate_of_pairs ps) None (pairs_from_root_directory_on ps) (λ z f. absurd (cc))
-          (subst (Each (λ (z : ThreadDirectory). (IsDirectoryAddressReachedBySomePath ps z.at → ⊥) → ⊥)) (sym (rest_all (directories_in_thread ps)))
-          (each_weaker (λ (z : ThreadDirectory). IsDirectoryAddressReachedBySomePath ps z.at) (λ (z : ThreadDirectory). (IsDirectoryAddressReachedBySomePath ps z.at → ⊥) → ⊥) (λ z h n. n h) (directories_in_thread ps)
-          (recursion_from_All (λ (z : ThreadDirectory). IsDirectoryAddressReachedBySomePath ps z.at) (directories_in_thread ps) (recovered_from t.disk ps (subst (IsAcceptedImage t.disk) were can.ready.accepted) (ap gstate_of_pairs (sym were) ∙ can.ready.settled)).reached))))
+      unreached : NoneGoes (λ z. IsReachedBySome ps z → ⊥) None (two a.b a.front (q0 ∷ []) a.mid (p ∷ []) a.back)
+      unreached = subst (NoneGoes (λ z. IsReachedBySome ps z → ⊥) None) (pairs_behind w.chain (two a.b a.front (q0 ∷ []) a.mid (p ∷ []) a.back) two_chain)
+          (none_where (λ z. IsReachedBySome ps z → ⊥) (pairs_gstate ps) None (pairs_from_root ps) (λ z f. absurd (cc))
+          (subst (Each (λ (z : ThreadDirectory). (IsReachedBySome ps z.at → ⊥) → ⊥)) (sym (rest_all (all_directories ps)))
+          (each_weaker (λ (z : ThreadDirectory). IsReachedBySome ps z.at) (λ (z : ThreadDirectory). (IsReachedBySome ps z.at → ⊥) → ⊥) (λ z h n. n h) (all_directories ps)
+          (recursion_from_All (λ (z : ThreadDirectory). IsReachedBySome ps z.at) (all_directories ps) (recovered_from t.disk ps (subst (IsAccepted t.disk) were can.ready.accepted) (ap pairs_gstate (sym were) ∙ can.ready.settled)).reached))))
 
-      writable : IsWritableImage t.disk ps
-      writable = subst (IsWritableImage t.disk) were can.ready.writable
+      writable : IsWritable t.disk ps
+      writable = subst (IsWritable t.disk) were can.ready.writable
 
-      stood : Stood t.disk (GoesAt (λ z. IsDirectoryAddressReachedBySomePath ps z → ⊥) rename.to) (length w.chain) None (w.chain ++ drafts_of (map segment_of cut.all)) new.pairs
-      stood = pieces_stood t.disk (λ z. IsDirectoryAddressReachedBySomePath ps z → ⊥) rename.to w.chain cut.all new.pairs
-          (subst (λ z. Each (IsContentFittingPairOnDisk t.disk) (w.chain ++ z)) (sym all_olds) (recursion_from_All (IsContentFittingPairOnDisk t.disk) ps writable.pairs))
-          (subst (AreNoEmptyPairsAfterHardTails false) (pairs_behind w.chain (two a.b a.front (q0 ∷ []) a.mid (p ∷ []) a.back) two_chain ∙ sym all_olds) writable.no_empty_pair)
-          (subst (NoneGoes (λ z. IsDirectoryAddressReachedBySomePath ps z → ⊥) None) (sym all_olds) unreached) cut.there alike_after
+      stood : Stood t.disk (GoesAt (λ z. IsReachedBySome ps z → ⊥) rename.to) (length w.chain) None (w.chain ++ drafts_of (map segment_of cut.all)) new.pairs
+      stood = pieces_stood t.disk (λ z. IsReachedBySome ps z → ⊥) rename.to w.chain cut.all new.pairs
+          (subst (λ z. Each (FitsPair t.disk) (w.chain ++ z)) (sym all_olds) (recursion_from_All (FitsPair t.disk) ps writable.pairs))
+          (subst (HasNoEmpties false) (pairs_behind w.chain (two a.b a.front (q0 ∷ []) a.mid (p ∷ []) a.back) two_chain ∙ sym all_olds) writable.no_empty_pair)
+          (subst (NoneGoes (λ z. IsReachedBySome ps z → ⊥) None) (sym all_olds) unreached) cut.there alike_after
 
-      to_slot : slot_of_path ps to ≡ Some g
-      to_slot = subst (λ z. slot_of_path z to ≡ Some g) were (slot_of_stands t.disk t.pairs rename.path rename.at can.ready.accepted rename.leads rename.to_first new_pair new_id name (no_move_from t.pairs can.ready.settled) tb rename.begins)
+      to_slot : slot_of ps to ≡ Some g
+      to_slot = subst (λ z. slot_of z to ≡ Some g) were (slot_of_stands t.disk t.pairs rename.path rename.at can.ready.accepted rename.leads rename.to_first new_pair new_id name (no_move_from t.pairs can.ready.settled) tb rename.begins)
 
-      removes : (given to_given : List ℕ) → path_of_bytes_or_root given ≡ from → path_of_bytes_or_root to_given ≡ to → addresses_of_removed_directories ps (ops.Rename given to_given) ≡ rename.to ∷ []
-      removes given to_given given_is to_is = ap (λ z. cond z [] (directory_addresses_of_slot (slot_of_path ps (path_of_bytes_or_root to_given)))) (ap₂ same_path given_is to_is ∙ not_before from to rename.not_beneath)
-          ∙ ap directory_addresses_of_slot (ap (slot_of_path ps) to_is ∙ to_slot) ∙ go g.struct rename.branch
+      removes : (given to_given : List ℕ) → path_or_root given ≡ from → path_or_root to_given ≡ to → removed_addresses ps (ops.Rename given to_given) ≡ rename.to ∷ []
+      removes given to_given given_is to_is = ap (λ z. cond z [] (slot_addresses (slot_of ps (path_or_root to_given)))) (ap₂ same_path given_is to_is ∙ not_before from to rename.not_beneath)
+          ∙ ap slot_addresses (ap (slot_of ps) to_is ∙ to_slot) ∙ go g.struct rename.branch
         where
-          go : (z : Struct) → z ≡ Branch rename.to → directory_addresses_of_slot (Some (record g { struct = z })) ≡ rename.to ∷ []
-          go (Branch b) k = ap (λ y. y ∷ []) (same_Some b rename.to (ap branch_address_of_struct k))
+          go : (z : Struct) → z ≡ Branch rename.to → slot_addresses (Some (record g { struct = z })) ≡ rename.to ∷ []
+          go (Branch b) k = ap (λ y. y ∷ []) (same_Some b rename.to (ap branch_address k))
           go (Inline bytes) k = absurd (cc)
           go (Ctz head size) k = absurd (cc)
 
-      laid : (given to_given : List ℕ) → path_of_bytes_or_root given ≡ from → path_of_bytes_or_root to_given ≡ to → IsRenameOnto t.disk new.disk new.pairs a.b w.chain a.front a.mid a.back q0 p lo s ro l g r given to_given name
+      laid : (given to_given : List ℕ) → path_or_root given ≡ from → path_or_root to_given ≡ to → IsRenameOnto t.disk new.disk new.pairs a.b w.chain a.front a.mid a.back q0 p lo s ro l g r given to_given name
       laid given to_given given_is to_is = record {
-        settled = ap gstate_of_pairs (sym were) ∙ can.ready.settled;
+        settled = ap pairs_gstate (sym were) ∙ can.ready.settled;
         still = d.gstate;
-        walk = directory_addresses_after_rename from to;
-        follows = subst (λ y. IsImageAfterTreeChange t.disk ps new.disk new.pairs (tree_after_rename y (path_of_bytes_or_root to_given)) (directory_addresses_after_rename from to)) (sym given_is)
-            (subst (λ y. IsImageAfterTreeChange t.disk ps new.disk new.pairs (tree_after_rename from y) (directory_addresses_after_rename from to)) (sym to_is)
-            (subst (λ z. IsImageAfterTreeChange t.disk z new.disk new.pairs (tree_after_rename from to) (directory_addresses_after_rename from to)) were (taken_end replacing_across new d).follows));
+        walk = renamed_addresses from to;
+        follows = subst (λ y. IsChangedImage t.disk ps new.disk new.pairs (tree_renaming y (path_or_root to_given)) (renamed_addresses from to)) (sym given_is)
+            (subst (λ y. IsChangedImage t.disk ps new.disk new.pairs (tree_renaming from y) (renamed_addresses from to)) (sym to_is)
+            (subst (λ z. IsChangedImage t.disk z new.disk new.pairs (tree_renaming from to) (renamed_addresses from to)) were (taken_end replacing_across new d).follows));
         still_writable = (taken_end replacing_across new d).writable;
         held = can.stands.stands.held;
         was = tb.stands.held;
-        from_slot = ap (slot_of_path ps) given_is ∙ subst (λ z. slot_of_path z from ≡ Some s) were
+        from_slot = ap (slot_of ps) given_is ∙ subst (λ z. slot_of z from ≡ Some s) were
             (slot_of_stands t.disk t.pairs can.path can.at can.ready.accepted can.leads can.first old_pair old_id can.name (no_move_from t.pairs can.ready.settled) can.stands can.begins);
-        to_slot = ap (slot_of_path ps) to_is ∙ to_slot;
-        to_name = ap last_name_of_path to_is ∙ last_is rename.path name;
-        stood = subst (λ k. Stood t.disk (IsDirectoryUnreachedOrRemoved ps (ops.Rename given to_given)) k None (w.chain ++ two a.b a.front (pair_with_slots (lo ++ ro) q0 ∷ []) a.mid (pair_with_slots (l ++ v ∷ r) p ∷ []) a.back) new.pairs) (sym two_chain)
-            (subst (λ z. Stood t.disk (IsDirectoryUnreachedOrRemoved ps (ops.Rename given to_given)) (length w.chain) None (w.chain ++ z) new.pairs) (cut.drafts ∙ drafts a.b)
-            (subst (λ ds. Stood t.disk (λ y. (IsDirectoryAddressReachedBySomePath ps y → ⊥) ⊎ Any (λ at. same_pair y at ≡ true) ds) (length w.chain) None (w.chain ++ drafts_of (map segment_of cut.all)) new.pairs) (sym (removes given to_given given_is to_is)) stood));
+        to_slot = ap (slot_of ps) to_is ∙ to_slot;
+        to_name = ap last_name to_is ∙ last_is rename.path name;
+        stood = subst (λ k. Stood t.disk (IsDirectoryGone ps (ops.Rename given to_given)) k None (w.chain ++ two a.b a.front (pair_with_slots (lo ++ ro) q0 ∷ []) a.mid (pair_with_slots (l ++ v ∷ r) p ∷ []) a.back) new.pairs) (sym two_chain)
+            (subst (λ z. Stood t.disk (IsDirectoryGone ps (ops.Rename given to_given)) (length w.chain) None (w.chain ++ z) new.pairs) (cut.drafts ∙ drafts a.b)
+            (subst (λ ds. Stood t.disk (λ y. (IsReachedBySome ps y → ⊥) ⊎ Any (λ at. same_pair y at ≡ true) ds) (length w.chain) None (w.chain ++ drafts_of (map segment_of cut.all)) new.pairs) (sym (removes given to_given given_is to_is)) stood));
       }
 
-      pub renamed_onto : IsEntryRenamedAcrossPairs t new can.path can.name rename.path name
+      pub renamed_onto : IsRenamedAcross t new can.path can.name rename.path name
       renamed_onto = record {
         now = shows_dropped replacing_across new d;
-        completed = λ z given to_given tree given_is to_is. subst (λ y. IsImageAfterCompletedOperation t.disk y z (ops.Rename given to_given) new.disk new.pairs) (sym were)
+        completed = λ z given to_given tree given_is to_is. subst (λ y. IsCompletion t.disk y z (ops.Rename given to_given) new.disk new.pairs) (sym were)
             (onto_completed t.disk new.disk new.pairs a.b w.chain a.front a.mid a.back q0 p lo s ro l g r given to_given name (laid given to_given given_is to_is) z (tree ∙ ap (tree_on_disk t.disk) were));
       }
 
-    pub left_across : (left : Blocks) → IsLeftByStoppedPairDrop m (n - 1) zero_gstate left → IsLeftOf (disk_with_blocks left t.disk) (tree_on_disk t.disk t.pairs) (tree_with_moved_entry t can.path can.name rename.path name)
+    pub left_across : (left : Blocks) → LeftByDrop m (n - 1) zero_gstate left → IsLeftOf (with_blocks left t.disk) (tree_on_disk t.disk t.pairs) (tree_moved t can.path can.name rename.path name)
     left_across left h = left_last replacing_across left h
 
   pub not_nowhere : AllByRecursion (λ z. same_pair z.at o.at ≡ false) m.pairs → ⊥
   not_nowhere none = go m.pairs none (last_kept t true old_pair goes new_pair changes wo q0 lo s ro w p l (Some g) v r from to name first_step is.mid x m e o not_new rename.empty rename.alone (among_there t.pairs gone o o_there))
     where
-      go : (xs : List Pair) → AllByRecursion (λ z. same_pair z.at o.at ≡ false) xs → IsTrueOfSomeElement (λ y. y ≡ o) xs → ⊥
+      go : (xs : List Pair) → AllByRecursion (λ z. same_pair z.at o.at ≡ false) xs → HoldsOfSome (λ y. y ≡ o) xs → ⊥
       go [] h k = k
       go (y ∷ ys) h (inl k) = absurd (let z = sym h.0 ∙ ap (λ (z : Pair). same_pair z.at o.at) k ∙ pair_itself o.at in cc)
       go (y ∷ ys) h (inr k) = go ys h.1 k
 
 -- ---- after the slot was read
 
-module _ (t : KeptThread) (old_pair old_id first new_pair new_id : ℕ) (name : Name) (gone : ℕ) (rename : CanReplaceDirectoryAcrossPairs t old_pair old_id first new_pair new_id name gone)
-    (m : KeptThread) (h : IsEntryReplacedAcrossPairs t true old_pair old_id first new_pair new_id name m) where
+module _ (t : KeptThread) (old_pair old_id first new_pair new_id : ℕ) (name : Name) (gone : ℕ) (rename : CanReplaceDirectoryOver t old_pair old_id first new_pair new_id name gone)
+    (m : KeptThread) (h : IsEntryReplaced t true old_pair old_id first new_pair new_id name m) where
   abbrev later : KeptThread
   later = with_history t h.from.history
 
-  abbrev there_later : CanReplaceDirectoryAcrossPairs later old_pair old_id first new_pair new_id name gone
+  abbrev there_later : CanReplaceDirectoryOver later old_pair old_id first new_pair new_id name gone
   there_later = record {
     old = edit_later t h.from.history rename.old;
     begins_old = rename.begins_old;
@@ -428,30 +428,30 @@ module _ (t : KeptThread) (old_pair old_id first new_pair new_id : ℕ) (name : 
     fits = rename.fits;
   }
 
-  done_later : IsSlotPutAndMoveEnded later old_pair old_id (is_pair_dropped_with_slot t old_pair first) new_pair (replace_entry_across_pairs_changes true later old_pair old_id new_pair new_id name) m
-  done_later = subst (λ k. IsSlotPutAndMoveEnded k old_pair old_id (is_pair_dropped_with_slot t old_pair first) new_pair (replace_entry_across_pairs_changes true k old_pair old_id new_pair new_id name) m) (read_is t h.from h.only) h.done
+  done_later : IsPutEnded later old_pair old_id (drops_with_its_slot t old_pair first) new_pair (entry_over_changes true later old_pair old_id new_pair new_id name) m
+  done_later = subst (λ k. IsPutEnded k old_pair old_id (drops_with_its_slot t old_pair first) new_pair (entry_over_changes true k old_pair old_id new_pair new_id name) m) (read_is t h.from h.only) h.done
 
-  address_later : Are32BitPairAddresses (thread_pair_at_index later old_pair).at
-  address_later = subst (λ k. Are32BitPairAddresses (thread_pair_at_index k old_pair).at) (read_is t h.from h.only) h.address
+  address_later : AreWords (thread_pair_at later old_pair).at
+  address_later = subst (λ k. AreWords (thread_pair_at k old_pair).at) (read_is t h.from h.only) h.address
 
   pub gone_above_later : 0 < gone
   gone_above_later = gone_above later old_pair old_id first new_pair new_id name gone there_later address_later m done_later
 
-  pub not_nowhere_later : AllByRecursion (λ z. same_pair z.at (thread_pair_at_index t gone).at ≡ false) m.pairs → ⊥
+  pub not_nowhere_later : AllByRecursion (λ z. same_pair z.at (thread_pair_at t gone).at ≡ false) m.pairs → ⊥
   not_nowhere_later = not_nowhere later old_pair old_id first new_pair new_id name gone there_later address_later m done_later
 
-  module _ (n : ℕ) (at : IsPairAtAddress m.pairs (thread_pair_at_index t gone).at n) where
-    pub replacing_later : IsAllButDropped (with_history t h.from.history) m (thread_pair_at_index t gone) n (tree_after_rename (rename.old.path ++ rename.old.name ∷ []) (rename.path ++ name ∷ [])) (directory_addresses_after_rename (rename.old.path ++ rename.old.name ∷ []) (rename.path ++ name ∷ []))
+  module _ (n : ℕ) (at : IsPairAt m.pairs (thread_pair_at t gone).at n) where
+    pub replacing_later : IsAllButDropped (with_history t h.from.history) m (thread_pair_at t gone) n (tree_renaming (rename.old.path ++ rename.old.name ∷ []) (rename.path ++ name ∷ [])) (renamed_addresses (rename.old.path ++ rename.old.name ∷ []) (rename.path ++ name ∷ []))
     replacing_later = replacing_across later old_pair old_id first new_pair new_id name gone there_later address_later m done_later n at
 
-    pub can_drop_later : CanDropPairAt m n zero_gstate
+    pub can_drop_later : CanDropAt m n zero_gstate
     can_drop_later = can_drop_last replacing_later
 
-    pub renamed_directory : (new : KeptThread) → IsNextPairDropped m (n - 1) zero_gstate new → IsEntryRenamedAcrossPairs t new rename.old.path rename.old.name rename.path name
+    pub renamed_directory : (new : KeptThread) → IsPairDropped m (n - 1) zero_gstate new → IsRenamedAcross t new rename.old.path rename.old.name rename.path name
     renamed_directory new d = go (renamed_onto later old_pair old_id first new_pair new_id name gone there_later address_later m done_later n at new d)
       where
-        go : IsEntryRenamedAcrossPairs later new rename.old.path rename.old.name rename.path name → IsEntryRenamedAcrossPairs t new rename.old.path rename.old.name rename.path name
+        go : IsRenamedAcross later new rename.old.path rename.old.name rename.path name → IsRenamedAcross t new rename.old.path rename.old.name rename.path name
         go k = record { now = record { ready = k.now.ready; shows = k.now.shows; flying = k.now.flying; root = k.now.root }; completed = k.completed }
 
-    pub left_directory : (left : Blocks) → IsLeftByStoppedPairDrop m (n - 1) zero_gstate left → IsLeftOf (disk_with_blocks left t.disk) (tree_on_disk t.disk t.pairs) (tree_with_moved_entry t rename.old.path rename.old.name rename.path name)
+    pub left_directory : (left : Blocks) → LeftByDrop m (n - 1) zero_gstate left → IsLeftOf (with_blocks left t.disk) (tree_on_disk t.disk t.pairs) (tree_moved t rename.old.path rename.old.name rename.path name)
     left_directory left d = left_across later old_pair old_id first new_pair new_id name gone there_later address_later m done_later n at left d

@@ -1,6 +1,6 @@
 -- Where slots stand once a pair among others is gone: a piece is cut out.
 use Rattle.std.proofs.Common.{ℕ, ◌≡◌, ◌≢◌, false, true, List, [], ◌∷◌, ◌++◌, map, Option, None, refl, sym, ap, subst, ◌∙◌, append_assoc}
-use Rattle.lfs_operations.proofs.Common.{Disk, IsContentFittingPairOnDisk, directory_address_continued_by_hard_tail, pair_with_slots, same_pair, Pair, is_hard_tail, ArePairsWithSameAddressesAndSlots, Became, Each, each_left, each_right, joined_parts, joined_singles, onward_all, singles, Gains, Keeps, Piece, Stays, olds_of, segment_of, onward_append, drafts_of, parts_of, slots_of_pairs_in_order, OldStays}
+use Rattle.lfs_operations.proofs.Common.{Disk, FitsPair, continued_address, pair_with_slots, same_pair, Pair, is_hard_tail, SameSlots, Became, Each, each_left, each_right, joined_parts, joined_singles, onward_all, singles, Gains, Keeps, Piece, Stays, olds_of, segment_of, onward_append, drafts_of, parts_of, all_slots, OldStays}
 use Rattle.lfs_model.proofs.Layouts.{joined_append}
 use Rattle.lfs_model.proofs.Pieces.{AreThere, Goes}
 
@@ -31,9 +31,9 @@ splits (x ∷ xs) ys (f ∷ front) g back e =
 abbrev pub AreKnown : Disk → Pair → Option (ℕ × ℕ) → List Piece → Type 0
 AreKnown disk g from [] = Unit {0}
 AreKnown disk g from (Stays ps ∷ pieces) = AreKnown disk g (onward_all from ps) pieces
-AreKnown disk g from (Keeps o slots os ∷ pieces) = IsContentFittingPairOnDisk disk (pair_with_slots slots o) × OldStays from o slots os × (o ≡ g → ⊥) × AreKnown disk g (directory_address_continued_by_hard_tail from o) pieces
+AreKnown disk g from (Keeps o slots os ∷ pieces) = FitsPair disk (pair_with_slots slots o) × OldStays from o slots os × (o ≡ g → ⊥) × AreKnown disk g (continued_address from o) pieces
 AreKnown disk g from (Gains p slots q more ∷ pieces) =
-    (q.at ≡ p.at) × (slots_of_pairs_in_order (q ∷ more) ≡ slots) × Became disk p (pair_with_slots slots p) q more × (slots ≢ []) × (p ≡ g → ⊥) × AreKnown disk g (directory_address_continued_by_hard_tail from p) pieces
+    (q.at ≡ p.at) × (all_slots (q ∷ more) ≡ slots) × Became disk p (pair_with_slots slots p) q more × (slots ≢ []) × (p ≡ g → ⊥) × AreKnown disk g (continued_address from p) pieces
 AreKnown disk g from (Goes p ∷ pieces) = ⊥
 
 -- with the pair g cut out
@@ -57,8 +57,8 @@ module _ (disk : Disk) (d : ℕ × ℕ) (g : Pair) (address : same_pair g.at d �
   all_there : (from : Option (ℕ × ℕ)) (pieces : List Piece) → AreKnown disk g from pieces → Each Apart (olds_of pieces) → AreThere disk d from pieces
   all_there from [] k a = tt
   all_there from (Stays ps ∷ pieces) k a = (each_left Apart ps (olds_of pieces) a, all_there (onward_all from ps) pieces k (each_right Apart ps (olds_of pieces) a))
-  all_there from (Keeps o slots os ∷ pieces) k a = (a.0, k.0, k.1, all_there (directory_address_continued_by_hard_tail from o) pieces k.3 a.1)
-  all_there from (Gains p slots q more ∷ pieces) k a = (a.0, k.0, k.1, k.2, k.3, all_there (directory_address_continued_by_hard_tail from p) pieces k.5 a.1)
+  all_there from (Keeps o slots os ∷ pieces) k a = (a.0, k.0, k.1, all_there (continued_address from o) pieces k.3 a.1)
+  all_there from (Gains p slots q more ∷ pieces) k a = (a.0, k.0, k.1, k.2, k.3, all_there (continued_address from p) pieces k.5 a.1)
   all_there from (Goes p ∷ pieces) k a = absurd k
 
   pub cut_out : (from : Option (ℕ × ℕ)) (pieces : List Piece) (front back : List Pair) → olds_of pieces ≡ front ++ g ∷ back → onward_all from front ≡ None → Each Apart front → Each Apart back → AreKnown disk g from pieces
@@ -70,7 +70,7 @@ module _ (disk : Disk) (d : ℕ × ℕ) (g : Pair) (address : same_pair g.at d �
       go : ((rest : List Pair) → olds_of pieces ≡ rest ++ g ∷ back → onward_all (onward_all from ps) rest ≡ None → Each Apart rest → IsCutOut disk d g (onward_all from ps) pieces)
           → Splits ps (olds_of pieces) front g back → IsCutOut disk d g from (Stays ps ∷ pieces)
       go next (Here rest is h) =
-          let ends : onward_all from ps ≡ onward_all (directory_address_continued_by_hard_tail (onward_all from front) g) rest = ap (onward_all from) is ∙ onward_append from front (g ∷ rest) in
+          let ends : onward_all from ps ≡ onward_all (continued_address (onward_all from front) g) rest = ap (onward_all from) is ∙ onward_append from front (g ∷ rest) in
           let apart = subst (Each Apart) h b in
           record {
             all = Stays front ∷ Goes g ∷ Stays rest ∷ pieces;
@@ -88,7 +88,7 @@ module _ (disk : Disk) (d : ℕ × ℕ) (g : Pair) (address : same_pair g.at d �
                 soft,
                 (
                   each_left Apart rest (olds_of pieces) apart,
-                  all_there (onward_all (directory_address_continued_by_hard_tail (onward_all from front) g) rest) pieces (subst (λ z. AreKnown disk g z pieces) ends k) (each_right Apart rest (olds_of pieces) apart),
+                  all_there (onward_all (continued_address (onward_all from front) g) rest) pieces (subst (λ z. AreKnown disk g z pieces) ends k) (each_right Apart rest (olds_of pieces) apart),
                 ),
               ),
             );
@@ -109,7 +109,7 @@ module _ (disk : Disk) (d : ℕ × ℕ) (g : Pair) (address : same_pair g.at d �
   cut_out from (Keeps o slots os ∷ pieces) [] back e n a b k = absurd (k.2 (let h : o ≡ g = cc in h))
   cut_out from (Keeps o slots os ∷ pieces) (f ∷ front) back e n a b k =
       let h : f ≡ o = cc in
-      let c = cut_out (directory_address_continued_by_hard_tail from o) pieces front back (let z : olds_of pieces ≡ front ++ g ∷ back = cc in z) (ap (λ z. onward_all (directory_address_continued_by_hard_tail from z) front) (sym h) ∙ n) a.1 b k.3 in
+      let c = cut_out (continued_address from o) pieces front back (let z : olds_of pieces ≡ front ++ g ∷ back = cc in z) (ap (λ z. onward_all (continued_address from z) front) (sym h) ∙ n) a.1 b k.3 in
       record {
         all = Keeps o slots os ∷ c.all;
         olds = ap (λ z. o ∷ z) c.olds;
@@ -123,7 +123,7 @@ module _ (disk : Disk) (d : ℕ × ℕ) (g : Pair) (address : same_pair g.at d �
   cut_out from (Gains p slots q more ∷ pieces) [] back e n a b k = absurd (k.4 (let h : p ≡ g = cc in h))
   cut_out from (Gains p slots q more ∷ pieces) (f ∷ front) back e n a b k =
       let h : f ≡ p = cc in
-      let c = cut_out (directory_address_continued_by_hard_tail from p) pieces front back (let z : olds_of pieces ≡ front ++ g ∷ back = cc in z) (ap (λ z. onward_all (directory_address_continued_by_hard_tail from z) front) (sym h) ∙ n) a.1 b k.5 in
+      let c = cut_out (continued_address from p) pieces front back (let z : olds_of pieces ≡ front ++ g ∷ back = cc in z) (ap (λ z. onward_all (continued_address from z) front) (sym h) ∙ n) a.1 b k.5 in
       record {
         all = Gains p slots q more ∷ c.all;
         olds = ap (λ z. p ∷ z) c.olds;
@@ -138,20 +138,20 @@ module _ (disk : Disk) (d : ℕ × ℕ) (g : Pair) (address : same_pair g.at d �
 
   -- ---- pairs alike
 
-  none_alike : (xs : List Pair) (y : Pair) (ys zs : List Pair) → y.at ≡ g.at → ArePairsWithSameAddressesAndSlots (xs ++ y ∷ ys) zs → Each Apart zs → ⊥
+  none_alike : (xs : List Pair) (y : Pair) (ys zs : List Pair) → y.at ≡ g.at → SameSlots (xs ++ y ∷ ys) zs → Each Apart zs → ⊥
   none_alike [] y ys [] e h a = h
   none_alike [] y ys (z ∷ zs) e h a = absurd (let k = sym a.0 ∙ ap (λ at. same_pair at d) (h.0 ∙ e) ∙ address in cc)
   none_alike (x ∷ xs) y ys [] e h a = h
   none_alike (x ∷ xs) y ys (z ∷ zs) e h a = none_alike xs y ys zs e h.2 a.1
 
   -- without the pair, too
-  pub alike_without : (xs ys us vs : List Pair) → ArePairsWithSameAddressesAndSlots (xs ++ g ∷ ys) (us ++ g ∷ vs) → Each Apart us → Each Apart vs → ArePairsWithSameAddressesAndSlots (xs ++ ys) (us ++ vs)
+  pub alike_without : (xs ys us vs : List Pair) → SameSlots (xs ++ g ∷ ys) (us ++ g ∷ vs) → Each Apart us → Each Apart vs → SameSlots (xs ++ ys) (us ++ vs)
   alike_without [] ys [] vs h a b = h.2
   alike_without [] ys (u ∷ us) vs h a b = absurd (let k = sym a.0 ∙ ap (λ at. same_pair at d) h.0 ∙ address in cc)
   alike_without (x ∷ xs) ys [] vs h a b = absurd (none_alike xs g ys vs refl h.2 b)
   alike_without (x ∷ xs) ys (u ∷ us) vs h a b = (h.0, h.1, alike_without xs ys us vs h.2 a.1 b)
 
-pub alike_then : (xs ys zs : List Pair) → ArePairsWithSameAddressesAndSlots xs ys → ArePairsWithSameAddressesAndSlots ys zs → ArePairsWithSameAddressesAndSlots xs zs
+pub alike_then : (xs ys zs : List Pair) → SameSlots xs ys → SameSlots ys zs → SameSlots xs zs
 alike_then [] [] zs h k = k
 alike_then [] (y ∷ ys) zs h k = absurd h
 alike_then (x ∷ xs) [] zs h k = absurd h

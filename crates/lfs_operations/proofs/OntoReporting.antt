@@ -1,12 +1,12 @@
 -- What the steps of a rename onto a directory tell, write and leave, one after the other.
 use Rattle.std.proofs.Common.{ℕ, ◌≡◌, ◌-◌, ◌<◌, ◌⊎◌, inl, inr, Bool, true, false, List, length, arith, Result, Ok, sym, ap, subst, ◌∙◌}
 use Rattle.lfs_device.specs.declared.error.Error.{Error}
-use Rattle.lfs_operations.proofs.Common.{Blocks, fault_count_of_history, HasTreeBeforeOrAfterOperation as IsLeftOf, SurvivesPowerLossInCallsSince, disk_with_blocks, zero_gstate, blocks_of_pair_address, Tree, survives_then, IsTrueAfterAnyPowerLossSince-weaker, PairContentChange, PowerLossLeavesSuchBlocksAfterCleanErases, KeptThread, ThreadView, IsThreadOnlyRead, ThreadChangesOnlyTheseBlocks, thread_pair_at_index}
-use Rattle.lfs_operations.specs.Dropping.{IsLeftByStoppedPairDrop}
-use Rattle.lfs_operations.specs.Changing.{has_thread_failed_after_result}
-use Rattle.lfs_operations.specs.MoveEnds.{pair_written_at_move_end}
-use Rattle.lfs_operations.specs.MovingSteps.{ReportsErrorsOfCommitsTakingBlocks, WritesTwoPairsAndTwoFreeBlocks, pair_written_by_second_move_commit}
-use Rattle.lfs_operations.specs.Removing.{ReportsErrorsOfCommitTakingNoBlock, is_pair_dropped_with_slot}
+use Rattle.lfs_operations.proofs.Common.{Blocks, fault_count, HasEither as IsLeftOf, SurvivesLossSince, with_blocks, zero_gstate, address_blocks, Tree, survives_then, HoldsAtLosses-weaker, PairChange, LossLeavesCleanly, KeptThread, ThreadView, OnlyReadsThread, ChangesThreadBlocks, thread_pair_at}
+use Rattle.lfs_operations.specs.Dropping.{LeftByDrop}
+use Rattle.lfs_operations.specs.Changing.{has_failed_after}
+use Rattle.lfs_operations.specs.MoveEnds.{written_at_end}
+use Rattle.lfs_operations.specs.MovingSteps.{ReportsErrorsOfCommitsTakingBlocks, WritesTwoTwo, second_commit_pair}
+use Rattle.lfs_operations.specs.Removing.{ReportsErrorsOfCommitTakingNoBlock, drops_with_its_slot}
 use Rattle.lfs_operations.specs.RenamingOver.{ReportsErrorsOfReadThenCommit, ReportsErrorsOfReadThenCommits}
 
 pub over_from : {X : Type 0} (old new : ThreadView) (result : Result X Error) → ReportsErrorsOfReadThenCommit old new result → ReportsErrorsOfReadThenCommits old new result
@@ -14,38 +14,38 @@ over_from old new result h = record { failed = h.failed; errors = h.reported.err
 
 pub over_then : {X Y : Type 0} (old mid new : ThreadView) (a : X) (first : Result X Error) (second : Result Y Error) → first ≡ Ok a → ReportsErrorsOfReadThenCommit old mid first → ReportsErrorsOfCommitTakingNoBlock mid new second → ReportsErrorsOfReadThenCommits old new second
 over_then old mid new a first second ok one two =
-    let same : fault_count_of_history mid.kept.history ≡ fault_count_of_history old.kept.history = one.reported.no_fault (λ io. absurd (let z = sym ok ∙ io in cc)) in
+    let same : fault_count mid.kept.history ≡ fault_count old.kept.history = one.reported.no_fault (λ io. absurd (let z = sym ok ∙ io in cc)) in
     record {
       failed = inl two.failed;
       errors = two.reported.errors;
-      fault = λ io. subst (λ n. n < fault_count_of_history new.kept.history) same (two.reported.fault io);
+      fault = λ io. subst (λ n. n < fault_count new.kept.history) same (two.reported.fault io);
       no_fault = λ other. two.reported.no_fault other ∙ same;
     }
 
-pub last_survives : (t m new : KeptThread) (gone : ℕ) (bs cs : List ℕ) (before after : Tree) → ThreadChangesOnlyTheseBlocks bs t m → ThreadChangesOnlyTheseBlocks cs m new → SurvivesPowerLossInCallsSince t.disk t.history m.history before after
-    → ((left : Blocks) → IsLeftByStoppedPairDrop m (gone - 1) zero_gstate left → IsLeftOf (disk_with_blocks left t.disk) before after) → PowerLossLeavesSuchBlocksAfterCleanErases m.history new.history (IsLeftByStoppedPairDrop m (gone - 1) zero_gstate)
-    → SurvivesPowerLossInCallsSince t.disk t.history new.history before after
+pub last_survives : (t m new : KeptThread) (gone : ℕ) (bs cs : List ℕ) (before after : Tree) → ChangesThreadBlocks bs t m → ChangesThreadBlocks cs m new → SurvivesLossSince t.disk t.history m.history before after
+    → ((left : Blocks) → LeftByDrop m (gone - 1) zero_gstate left → IsLeftOf (with_blocks left t.disk) before after) → LossLeavesCleanly m.history new.history (LeftByDrop m (gone - 1) zero_gstate)
+    → SurvivesLossSince t.disk t.history new.history before after
 last_survives t m new gone bs cs before after one two first left stops =
-    survives_then t.disk t.history m.history new.history before after one.at_worst two.at_worst first (λ clean. IsTrueAfterAnyPowerLossSince-weaker left (stops clean))
+    survives_then t.disk t.history m.history new.history before after one.at_worst two.at_worst first (λ clean. HoldsAtLosses-weaker left (stops clean))
 
 -- ---- across pairs
 
-pub works_after : {X : Type 0} (old new : ThreadView) (index : ℕ) (changes : List PairContentChange) (r : Result X Error) (x : X) → ReportsErrorsOfCommitsTakingBlocks old new index changes r → r ≡ Ok x → new.failed ≡ false
+pub works_after : {X : Type 0} (old new : ThreadView) (index : ℕ) (changes : List PairChange) (r : Result X Error) (x : X) → ReportsErrorsOfCommitsTakingBlocks old new index changes r → r ≡ Ok x → new.failed ≡ false
 works_after old new index changes r x h is = go h.failed
   where
-    go : (new.failed ≡ has_thread_failed_after_result r) ⊎ ((new.failed ≡ false) × IsThreadOnlyRead old.kept new.kept) → new.failed ≡ false
-    go (inl e) = e ∙ ap has_thread_failed_after_result is
+    go : (new.failed ≡ has_failed_after r) ⊎ ((new.failed ≡ false) × OnlyReadsThread old.kept new.kept) → new.failed ≡ false
+    go (inl e) = e ∙ ap has_failed_after is
     go (inr e) = e.0
 
-pub left_below : (t : KeptThread) (pair first : ℕ) → pair < length t.pairs → pair_written_by_second_move_commit t pair first < length t.pairs
-left_below t pair first l = go (is_pair_dropped_with_slot t pair first)
+pub left_below : (t : KeptThread) (pair first : ℕ) → pair < length t.pairs → second_commit_pair t pair first < length t.pairs
+left_below t pair first l = go (drops_with_its_slot t pair first)
   where
-    go : (b : Bool) → pair_written_at_move_end pair b < length t.pairs
+    go : (b : Bool) → written_at_end pair b < length t.pairs
     go true = omega arith
     go false = l
 
-pub across_survives : (t m new : KeptThread) (one other n : ℕ) (before after : Tree) → WritesTwoPairsAndTwoFreeBlocks t one other m → ThreadChangesOnlyTheseBlocks (blocks_of_pair_address (thread_pair_at_index m (n - 1)).at) m new → SurvivesPowerLossInCallsSince t.disk t.history m.history before after
-    → ((left : Blocks) → IsLeftByStoppedPairDrop m (n - 1) zero_gstate left → IsLeftOf (disk_with_blocks left t.disk) before after) → PowerLossLeavesSuchBlocksAfterCleanErases m.history new.history (IsLeftByStoppedPairDrop m (n - 1) zero_gstate)
-    → SurvivesPowerLossInCallsSince t.disk t.history new.history before after
+pub across_survives : (t m new : KeptThread) (one other n : ℕ) (before after : Tree) → WritesTwoTwo t one other m → ChangesThreadBlocks (address_blocks (thread_pair_at m (n - 1)).at) m new → SurvivesLossSince t.disk t.history m.history before after
+    → ((left : Blocks) → LeftByDrop m (n - 1) zero_gstate left → IsLeftOf (with_blocks left t.disk) before after) → LossLeavesCleanly m.history new.history (LeftByDrop m (n - 1) zero_gstate)
+    → SurvivesLossSince t.disk t.history new.history before after
 across_survives t m new one other n before after w two first left stops =
-    survives_then t.disk t.history m.history new.history before after w.writes.at_worst two.at_worst first (λ clean. IsTrueAfterAnyPowerLossSince-weaker left (stops clean))
+    survives_then t.disk t.history m.history new.history before after w.writes.at_worst two.at_worst first (λ clean. HoldsAtLosses-weaker left (stops clean))

@@ -1,14 +1,14 @@
 -- A rename onto an empty directory within a pair: where the directory's pair stands, and what the two steps come to.
 use Rattle.std.proofs.Common.{subst₂, ℕ, ◌≡◌, ◌-◌, slice_get, List, [], ◌∷◌, ◌++◌, length, Some, None, refl, sym, ap, subst, ◌∙◌, arith, append-nil, length-append}
 use Rattle.std.specs.Prelude.{All}
-use Rattle.lfs_operations.proofs.Common.{recursion_from_All, tree_after_rename, path_without_prefix, AreExactlyTheUsedBlocks, Blocks, Name, HasTreeBeforeOrAfterOperation as IsLeftOf, disk_with_blocks, slot_of_path, pair_with_slots, Slot, gstate_xor, zero_gstate, Pair, gstate_of_pairs, root_directory_address_of_pairs, pair_count_before_root, Path, directory_address_at_path, IsAcceptedImage, IsWritableImage, all_slots_not_moved, directories_in_thread, entries_by_directory_in_thread, tree_on_disk, used_blocks, ArePairsWithSameAddressesAndSlots, fits_same, IsImageAfterTreeChange, SameFiles, HasSameFileBlocksOfStructOnDisks, IsImageAfterCompletedOperation, no_move_from, occurrence_count_of_number, IsStep, entry_only, get_here, place_at, shown_before, shown_behind, site_shows, last_is, directory_addresses_after_rename, sibling_apart, IsReplaced, step_chain, site, slot_of_stands, Site, dirs_at, thread_at, file_blocks_of_slots, IsWritableImageAfterTreeChange, IsChain, KeptThread, IsPairChanged, thread_pair_at_index, sync_bit_delta, HasNoMove, some_filled}
-use Rattle.lfs_model.specs.Operations as ops
+use Rattle.lfs_operations.proofs.Common.{recursion_from_All, tree_renaming, without_prefix, AreUsed, Blocks, Name, HasEither as IsLeftOf, with_blocks, slot_of, pair_with_slots, Slot, gstate_xor, zero_gstate, Pair, pairs_gstate, root_address, pair_count_before_root, Path, address_at_path, IsAccepted, IsWritable, all_slots_not_moved, all_directories, all_entries, tree_on_disk, used_blocks, SameSlots, fits_same, IsChangedImage, SameFiles, SameFileBlocks, IsCompletion, no_move_from, number_count, IsStep, entry_only, get_here, place_at, shown_before, shown_behind, site_shows, last_is, renamed_addresses, sibling_apart, IsReplaced, step_chain, site, slot_of_stands, Site, dirs_at, thread_at, file_blocks, IsWritableChange, IsChain, KeptThread, IsPairCommitted, thread_pair_at, sync_bit_delta, HasNoMove, some_filled}
+use Rattle.lfs_model.specs.session.Operations as ops
 use Rattle.lfs_model.proofs.Moves.{step_each}
 use Rattle.lfs_model.proofs.RenamedWithinOnto.{IsRenameWithinOnto, within_onto_completed}
-use Rattle.lfs_operations.specs.Dropping.{IsNextPairDropped, IsLeftByStoppedPairDrop, HasSameBlocksInFlight}
-use Rattle.lfs_operations.specs.Editing.{CanEditEntryOfPair}
-use Rattle.lfs_operations.specs.Renaming.{tree_with_renamed_entry}
-use Rattle.lfs_operations.specs.RenamingOver.{CanRenameOntoDirectoryInPair, CanReplaceDirectoryInPair, IsEntryRenamedOntoDirectory, replace_directory_in_pair_changes}
+use Rattle.lfs_operations.specs.Dropping.{IsPairDropped, LeftByDrop, SameInFlight}
+use Rattle.lfs_operations.specs.Editing.{CanEditIn}
+use Rattle.lfs_operations.specs.Renaming.{tree_renamed}
+use Rattle.lfs_operations.specs.RenamingOver.{CanRenameOver, CanReplaceDirectory, IsRenamedOver, replace_directory_changes}
 use Rattle.lfs_operations.proofs.OntoGone.{replaced_by, replaced_drops}
 use Rattle.lfs_operations.proofs.Owning.{turned_count, used_same}
 use Rattle.lfs_operations.proofs.RenameOver.{HasOver, has_over, over_changed, over_fits, over_follows, target_held, turning}
@@ -21,11 +21,11 @@ use Rattle.lfs_operations.proofs.PairAt.{HasPairAt, pair_at}
 
 -- ---- the two steps
 
-module _ (t : KeptThread) (index id place : ℕ) (name : Name) (gone : ℕ) (rename : CanRenameOntoDirectoryInPair t index id place name gone) (m : KeptThread) (r : IsPairChanged t index (replace_directory_in_pair_changes t index id place name) m) where
-  abbrev over : CanReplaceDirectoryInPair t index id place name
+module _ (t : KeptThread) (index id place : ℕ) (name : Name) (gone : ℕ) (rename : CanRenameOver t index id place name gone) (m : KeptThread) (r : IsPairCommitted t index (replace_directory_changes t index id place name) m) where
+  abbrev over : CanReplaceDirectory t index id place name
   over = rename.over
 
-  abbrev can : CanEditEntryOfPair t index id
+  abbrev can : CanEditIn t index id
   can = over.can
 
   abbrev p : Pair
@@ -44,7 +44,7 @@ module _ (t : KeptThread) (index id place : ℕ) (name : Name) (gone : ℕ) (ren
   r2 = over.target.stands.right
 
   abbrev o : Pair
-  o = thread_pair_at_index t gone
+  o = thread_pair_at t gone
 
   abbrev w : Site
   w = site t.disk t.pairs can.path can.at can.ready.accepted can.leads can.first index p can.stands.rest can.stands.place can.begins
@@ -58,7 +58,7 @@ module _ (t : KeptThread) (index id place : ℕ) (name : Name) (gone : ℕ) (ren
   abbrev to : Path
   to = can.path ++ name ∷ []
 
-  apart : path_without_prefix (can.path ++ can.name ∷ []) (can.path ++ name ∷ []) ≡ None
+  apart : without_prefix (can.path ++ can.name ∷ []) (can.path ++ name ∷ []) ≡ None
   apart = sibling_apart can.path can.name name over.differs
 
   -- ---- the pair that goes
@@ -66,7 +66,7 @@ module _ (t : KeptThread) (index id place : ℕ) (name : Name) (gone : ℕ) (ren
   held : p.content.slots ≡ l2 ++ target ∷ r2
   held = target_held t index id place name over
 
-  entry_there : slice_get (entries_by_directory_in_thread (thread_at w (p ∷ [])) can.at) (place_at w l2) ≡ Some target
+  entry_there : slice_get (all_entries (thread_at w (p ∷ [])) can.at) (place_at w l2) ≡ Some target
   entry_there = ap (λ s. slice_get s (place_at w l2)) (site_shows t.disk w p l2 (target ∷ []) r2 can.at stand.accepted stand.site (no_move_from (thread_at w (p ∷ [])) stand.settled) stand.begin held
       ∙ ap (λ s. shown_before w l2 ++ (s ++ shown_behind w r2)) (entry_only target over.target.stands.entry)) ∙ get_here (shown_before w l2) (shown_behind w r2) target
 
@@ -94,28 +94,28 @@ module _ (t : KeptThread) (index id place : ℕ) (name : Name) (gone : ℕ) (ren
   stepped : IsStep t.disk m.disk w p [] q [] [] [] h.l h.olds h.news h.r
   stepped = step_turned (turning t index id place name over h) m.disk x.turned
 
-  taken_now : IsWritableImageAfterTreeChange t.disk t.pairs m.disk m.pairs (tree_after_rename (can.path ++ can.name ∷ []) (can.path ++ name ∷ [])) (directory_addresses_after_rename (can.path ++ can.name ∷ []) (can.path ++ name ∷ []))
-  taken_now = subst₂ (λ y z. IsWritableImageAfterTreeChange t.disk y m.disk z (tree_after_rename from to) (directory_addresses_after_rename from to)) (sym stand.there) (sym x.pairs)
-      (taken_turned (turning t index id place name over h) (tree_after_rename from to) (directory_addresses_after_rename from to) (over_follows t index id place name over h) m.disk x.turned)
+  taken_now : IsWritableChange t.disk t.pairs m.disk m.pairs (tree_renaming (can.path ++ can.name ∷ []) (can.path ++ name ∷ [])) (renamed_addresses (can.path ++ can.name ∷ []) (can.path ++ name ∷ []))
+  taken_now = subst₂ (λ y z. IsWritableChange t.disk y m.disk z (tree_renaming from to) (renamed_addresses from to)) (sym stand.there) (sym x.pairs)
+      (taken_turned (turning t index id place name over h) (tree_renaming from to) (renamed_addresses from to) (over_follows t index id place name over h) m.disk x.turned)
 
   placed : HasPlaceOver w p q o over.to (length front.front)
   placed = place_over w p q o over.to rename.at stand.accepted.thread.distinct refl front.front front.before (front.run ++ front.after) own.dirs_are front.soft not_itself
 
-  used_now : (b : ℕ) → occurrence_count_of_number b (used_blocks m.disk m.pairs) ≡ occurrence_count_of_number b (used_blocks t.disk t.pairs)
+  used_now : (b : ℕ) → number_count b (used_blocks m.disk m.pairs) ≡ number_count b (used_blocks t.disk t.pairs)
   used_now b =
       let files : SameFiles t.disk m.disk (all_slots_not_moved t.pairs) = subst (λ z. SameFiles t.disk m.disk (all_slots_not_moved z)) (sym stand.there)
-      (recursion_from_All (λ (x : Slot). HasSameFileBlocksOfStructOnDisks t.disk m.disk x.struct) (all_slots_not_moved (thread_at w (p ∷ []))) stepped.device.files) in
-      let e = turned_count t.disk m.disk w p q [] h.l h.olds h.news h.r (file_blocks_of_slots t.disk (target ∷ [])) [] (record {
+      (recursion_from_All (λ (x : Slot). SameFileBlocks t.disk m.disk x.struct) (all_slots_not_moved (thread_at w (p ∷ []))) stepped.device.files) in
+      let e = turned_count t.disk m.disk w p q [] h.l h.olds h.news h.r (file_blocks t.disk (target ∷ [])) [] (record {
         none = stepped.no_move;
         still = stepped.still_none;
         device = stepped.device;
         at = refl;
         was = h.placed.was;
         is = stepped.is;
-      }) (λ b. let n = blocks_now t index (replace_directory_in_pair_changes t index id place name) w p h.l h.olds h.news h.r (target ∷ []) u (with_name u name) h.placed m.disk stepped.device.geometry files b in omega arith) b in
-      let f = ap (λ z. occurrence_count_of_number b (used_blocks m.disk z)) x.pairs in
-      let g = ap (λ z. occurrence_count_of_number b (used_blocks t.disk z)) stand.there in
-      let none : occurrence_count_of_number b (file_blocks_of_slots t.disk (target ∷ [])) ≡ 0 = ap (λ z. occurrence_count_of_number b (file_blocks_of_slots t.disk (record target { struct = z } ∷ []))) over.branch in
+      }) (λ b. let n = blocks_now t index (replace_directory_changes t index id place name) w p h.l h.olds h.news h.r (target ∷ []) u (with_name u name) h.placed m.disk stepped.device.geometry files b in omega arith) b in
+      let f = ap (λ z. number_count b (used_blocks m.disk z)) x.pairs in
+      let g = ap (λ z. number_count b (used_blocks t.disk z)) stand.there in
+      let none : number_count b (file_blocks t.disk (target ∷ [])) ≡ 0 = ap (λ z. number_count b (file_blocks t.disk (record target { struct = z } ∷ []))) over.branch in
       omega arith
 
   thread_now : m.pairs ≡ w.chain ++ (placed.front ++ placed.x ∷ o ∷ placed.back)
@@ -124,10 +124,10 @@ module _ (t : KeptThread) (index id place : ℕ) (name : Name) (gone : ℕ) (ren
   chain_now : IsChain w.chain (placed.front ++ placed.x ∷ o ∷ placed.back)
   chain_now = subst (IsChain w.chain) placed.there (step_chain t.disk m.disk w p [] q [] [] [] h.l h.olds h.news h.r stepped)
 
-  no_move_now : HasNoMove (gstate_of_pairs m.pairs)
-  no_move_now = subst HasNoMove (sym (ap gstate_of_pairs x.pairs ∙ state_turned (turning t index id place name over h))) (record { kind = refl; id = refl; pair = refl })
+  no_move_now : HasNoMove (pairs_gstate m.pairs)
+  no_move_now = subst HasNoMove (sym (ap pairs_gstate x.pairs ∙ state_turned (turning t index id place name over h))) (record { kind = refl; id = refl; pair = refl })
 
-  pub replacing : IsAllButDropped t m o gone (tree_after_rename (can.path ++ can.name ∷ []) (can.path ++ name ∷ [])) (directory_addresses_after_rename (can.path ++ can.name ∷ []) (can.path ++ name ∷ []))
+  pub replacing : IsAllButDropped t m o gone (tree_renaming (can.path ++ can.name ∷ []) (can.path ++ name ∷ [])) (renamed_addresses (can.path ++ can.name ∷ []) (can.path ++ name ∷ []))
   replacing = record {
     ready = can.ready;
     taken = taken_now;
@@ -141,25 +141,25 @@ module _ (t : KeptThread) (index id place : ℕ) (name : Name) (gone : ℕ) (ren
     number = (let a = length-append w.chain placed.front in let b = length-append w.chain front.front in let n = placed.number in let f = own.number in omega arith);
     soft = placed.soft;
     drops = replaced_drops t m from to over.to w.chain placed.front placed.x o placed.back can.ready taken_now no_move_now thread_now chain_now
-        (subst (λ z. IsReplaced (directory_address_at_path (entries_by_directory_in_thread z) (root_directory_address_of_pairs z)) from to over.to) (sym stand.there)
-        (subst (λ (n : Name). IsReplaced (directory_address_at_path (entries_by_directory_in_thread (thread_at w (p ∷ []))) (root_directory_address_of_pairs (thread_at w (p ∷ [])))) from (can.path ++ n ∷ []) over.to) over.target.stands.named
+        (subst (λ z. IsReplaced (address_at_path (all_entries z) (root_address z)) from to over.to) (sym stand.there)
+        (subst (λ (n : Name). IsReplaced (address_at_path (all_entries (thread_at w (p ∷ []))) (root_address (thread_at w (p ∷ [])))) from (can.path ++ n ∷ []) over.to) over.target.stands.named
         (replaced_by t.disk (thread_at w (p ∷ [])) can.path can.at (place_at w l2) target over.to from stand.accepted stand.leads entry_there over.branch own.empty
-        (ap (λ (n : Name). path_without_prefix from (can.path ++ n ∷ [])) over.target.stands.named ∙ apart))))
-        (λ Q k. subst (λ z. All (λ y. Q y.at) (directories_in_thread z)) (sym x.pairs)
-        (step_each t.disk m.disk w p [] q [] [] [] h.l h.olds h.news h.r stepped can.path can.at stand.leads stand.begin Q (subst (λ z. All (λ y. Q y.at) (directories_in_thread z)) stand.there k)))
+        (ap (λ (n : Name). without_prefix from (can.path ++ n ∷ [])) over.target.stands.named ∙ apart))))
+        (λ Q k. subst (λ z. All (λ y. Q y.at) (all_directories z)) (sym x.pairs)
+        (step_each t.disk m.disk w p [] q [] [] [] h.l h.olds h.news h.r stepped can.path can.at stand.leads stand.begin Q (subst (λ z. All (λ y. Q y.at) (all_directories z)) stand.there k)))
         rename.at rename.alone;
     empty = rename.empty;
-    used = subst (λ s. AreExactlyTheUsedBlocks s (used_blocks m.disk m.pairs)) (sym r.map) (used_same t.map (used_blocks t.disk t.pairs) (used_blocks m.disk m.pairs) used_now can.ready.used);
+    used = subst (λ s. AreUsed s (used_blocks m.disk m.pairs)) (sym r.map) (used_same t.map (used_blocks t.disk t.pairs) (used_blocks m.disk m.pairs) used_now can.ready.used);
     size = ap length r.map ∙ can.ready.size ∙ sym r.written.shape.count;
-    flying = subst (HasSameBlocksInFlight t.map) (sym r.map) (λ b. ((λ k. k), (λ k. k)));
+    flying = subst (SameInFlight t.map) (sym r.map) (λ b. ((λ k. k), (λ k. k)));
     root = ap pair_count_before_root x.pairs ∙ step_chain t.disk m.disk w p [] q [] [] [] h.l h.olds h.news h.r stepped ∙ sym (ap pair_count_before_root stand.there ∙ stand.site.chain);
     shape = r.written.shape;
   }
 
   -- ---- both
 
-  module _ (new : KeptThread) (g : IsNextPairDropped m (gone - 1) zero_gstate new) where
-    ended : IsWritableImageAfterTreeChange t.disk t.pairs new.disk new.pairs (tree_after_rename (can.path ++ can.name ∷ []) (can.path ++ name ∷ [])) (directory_addresses_after_rename (can.path ++ can.name ∷ []) (can.path ++ name ∷ []))
+  module _ (new : KeptThread) (g : IsPairDropped m (gone - 1) zero_gstate new) where
+    ended : IsWritableChange t.disk t.pairs new.disk new.pairs (tree_renaming (can.path ++ can.name ∷ []) (can.path ++ name ∷ [])) (renamed_addresses (can.path ++ can.name ∷ []) (can.path ++ name ∷ []))
     ended = taken_end replacing new g
 
     laid : IsRenameWithinOnto t.disk new.disk new.pairs placed.b w.chain placed.one placed.mid placed.other p o q [] can.stands.stands.left u can.stands.stands.right h.x target h.y over.to
@@ -167,12 +167,12 @@ module _ (t : KeptThread) (index id place : ℕ) (name : Name) (gone : ℕ) (ren
     unfolding replacing
     laid = record {
       is_chain = ap pair_count_before_root (sym placed.were) ∙ stand.site.chain;
-      accepted = subst (IsAcceptedImage t.disk) placed.were stand.accepted;
-      writable = subst (IsWritableImage t.disk) placed.were stand.writable;
-      settled = ap gstate_of_pairs (sym placed.were) ∙ stand.settled;
+      accepted = subst (IsAccepted t.disk) placed.were stand.accepted;
+      writable = subst (IsWritable t.disk) placed.were stand.writable;
+      settled = ap pairs_gstate (sym placed.were) ∙ stand.settled;
       still = g.gstate;
-      walk = directory_addresses_after_rename from to;
-      follows = subst (λ z. IsImageAfterTreeChange t.disk z new.disk new.pairs (tree_after_rename from to) (directory_addresses_after_rename from to)) (stand.there ∙ placed.were) ended.follows;
+      walk = renamed_addresses from to;
+      follows = subst (λ z. IsChangedImage t.disk z new.disk new.pairs (tree_renaming from to) (renamed_addresses from to)) (stand.there ∙ placed.were) ended.follows;
       still_writable = ended.writable;
       held = can.stands.stands.held;
       left_over = h.over.0;
@@ -184,22 +184,22 @@ module _ (t : KeptThread) (index id place : ℕ) (name : Name) (gone : ℕ) (ren
       soft = rename.alone;
       begins = placed.begins;
       apart = placed.apart;
-      alike = subst (λ z. ArePairsWithSameAddressesAndSlots (w.chain ++ z) new.pairs) (sym placed.are) (alike_end replacing new g);
-      from_slot = subst (λ z. slot_of_path z from ≡ Some u) (stand.there ∙ placed.were)
+      alike = subst (λ z. SameSlots (w.chain ++ z) new.pairs) (sym placed.are) (alike_end replacing new g);
+      from_slot = subst (λ z. slot_of z from ≡ Some u) (stand.there ∙ placed.were)
           (slot_of_stands t.disk t.pairs can.path can.at can.ready.accepted can.leads can.first index id can.name (no_move_from t.pairs can.ready.settled) can.stands can.begins);
-      to_slot = subst (λ z. slot_of_path z to ≡ Some target) (stand.there ∙ placed.were)
+      to_slot = subst (λ z. slot_of z to ≡ Some target) (stand.there ∙ placed.were)
           (slot_of_stands t.disk t.pairs can.path can.at can.ready.accepted can.leads can.first index place name (no_move_from t.pairs can.ready.settled) over.target can.begins);
       to_name = last_is can.path name;
       not_beneath = apart;
     }
 
-    pub renamed_onto_directory : IsEntryRenamedOntoDirectory t new rename.over.can.path rename.over.can.name name
+    pub renamed_onto_directory : IsRenamedOver t new rename.over.can.path rename.over.can.name name
     renamed_onto_directory = record {
       now = shows_dropped replacing new g;
-      completed = λ s given to_given tree given_is to_is. subst (λ z. IsImageAfterCompletedOperation t.disk z s (ops.Rename given to_given) new.disk new.pairs) (sym (stand.there ∙ placed.were))
+      completed = λ s given to_given tree given_is to_is. subst (λ z. IsCompletion t.disk z s (ops.Rename given to_given) new.disk new.pairs) (sym (stand.there ∙ placed.were))
           (within_onto_completed t.disk new.disk new.pairs placed.b w.chain placed.one placed.mid placed.other p o q [] can.stands.stands.left u can.stands.stands.right h.x target h.y over.to from to name laid s given to_given
           (tree ∙ ap (tree_on_disk t.disk) (stand.there ∙ placed.were)) given_is to_is);
     }
 
-  pub left_within : (left : Blocks) → IsLeftByStoppedPairDrop m (gone - 1) zero_gstate left → IsLeftOf (disk_with_blocks left t.disk) (tree_on_disk t.disk t.pairs) (tree_with_renamed_entry t rename.over.can.path rename.over.can.name name)
+  pub left_within : (left : Blocks) → LeftByDrop m (gone - 1) zero_gstate left → IsLeftOf (with_blocks left t.disk) (tree_on_disk t.disk t.pairs) (tree_renamed t rename.over.can.path rename.over.can.name name)
   left_within left g = left_last replacing left g

@@ -1,33 +1,33 @@
 -- At a site of an accepted image a pair becomes others, on a disk where only its blocks and some that nobody owned differ.
 use Rattle.std.proofs.Common.{ℕ, ◌≡◌, ◌≢◌, ◌⊎◌, inl, inr, ◌+◌, ◌≤◌, true, cond, nat_eq, List, [], ◌∷◌, ◌++◌, take, Some, refl, sym, ap, subst, ◌∙◌, arith, append_assoc}
 use Rattle.std.specs.Prelude.{All}
-use Rattle.lfs_operations.proofs.Common.{IsDistinct, flat_map, All-from_recursion, flat_map-append, Disk, block_bytes_on_disk, SameGeometry, Blocks, HasTreeBeforeOrAfterOperation, disk_with_blocks, IsSlotWithinWritableLimits, IsWritableImage, IsContentFittingPair, Slot, DirectoryAddressByPath, Tree, content_of_pair_at, current_block_of_pair_at, Pair, blocks_of_pairs, first_pair_address, pair_count_before_root, pairs_from_root_directory_on, starts_with_superblock, BeginsWithLogEntry, superblock_name_log_entry, IsAcceptedImage, first_pair_slots, all_slots_not_moved, tree_on_disk, used_blocks, skip_list_blocks_of_struct, Each, occurrence_count_of_number, count_append, once_from_distinct, each_from_counted, Site, thread_at, IsDevice, IsImageAfterTreeChange, chain_of_thread, IsChain, HasFirst}
+use Rattle.lfs_operations.proofs.Common.{IsDistinct, flat_map, All-from_recursion, flat_map-append, Disk, disk_block, SameGeometry, Blocks, HasEither, with_blocks, IsWritableSlot, IsWritable, FitsInPair, Slot, PathAddresses, Tree, content_at, current_block, Pair, blocks_of_pairs, first_address, pair_count_before_root, pairs_from_root, starts_superblock, BeginsWith, superblock_entry, IsAccepted, first_slots, all_slots_not_moved, tree_on_disk, used_blocks, struct_blocks, Each, number_count, count_append, once_from_distinct, each_from_counted, Site, thread_at, IsDevice, IsChangedImage, chain_of_thread, IsChain, HasFirst}
 use Rattle.std.proofs.lemmas.List.{append-nil}
 use Rattle.lfs_model.specs.declared.limits.Profile.{Profile}
-use Rattle.lfs_model.specs.Steps.{IsWritableImageAfterTreeChange}
-use Rattle.lfs_model.specs.Thread.{pairs_from_first_with_slots, has_slots}
-use Rattle.lfs_model.specs.View.{first_slot_name}
+use Rattle.lfs_model.specs.layers.Steps.{IsWritableChange}
+use Rattle.lfs_model.specs.format.Thread.{from_first_slots, has_slots}
+use Rattle.lfs_model.specs.tree.View.{first_slot_name}
 use Rattle.lfs_model.proofs.Devices.{device_from, first_same}
 use Rattle.lfs_model.proofs.Superblocks.{Behind, FromSlots, InFront, first_counted, from_front}
 use Rattle.lfs_model.proofs.Unchanged.{accepted_first, same_follows}
 
 -- ---- blocks
 
-pub all_apart : (bs : List ℕ) (b : ℕ) → occurrence_count_of_number b bs ≡ 0 → All (λ k. k ≢ b) bs
-all_apart bs b none = All-from_recursion (λ k. k ≢ b) bs (each_from_counted (λ k. k ≢ b) bs (λ k some e. absurd (let h = ap (λ z. occurrence_count_of_number z bs) e in omega arith)))
+pub all_apart : (bs : List ℕ) (b : ℕ) → number_count b bs ≡ 0 → All (λ k. k ≢ b) bs
+all_apart bs b none = All-from_recursion (λ k. k ≢ b) bs (each_from_counted (λ k. k ≢ b) bs (λ k some e. absurd (let h = ap (λ z. number_count z bs) e in omega arith)))
 
-pub blocks_append : (xs ys : List Pair) (b : ℕ) → occurrence_count_of_number b (blocks_of_pairs (xs ++ ys)) ≡ occurrence_count_of_number b (blocks_of_pairs xs) + occurrence_count_of_number b (blocks_of_pairs ys)
-blocks_append xs ys b = ap (occurrence_count_of_number b) (flat_map-append (λ (s : Pair). s.at.0 ∷ s.at.1 ∷ []) xs ys) ∙ count_append b (blocks_of_pairs xs) (blocks_of_pairs ys)
+pub blocks_append : (xs ys : List Pair) (b : ℕ) → number_count b (blocks_of_pairs (xs ++ ys)) ≡ number_count b (blocks_of_pairs xs) + number_count b (blocks_of_pairs ys)
+blocks_append xs ys b = ap (number_count b) (flat_map-append (λ (s : Pair). s.at.0 ∷ s.at.1 ∷ []) xs ys) ∙ count_append b (blocks_of_pairs xs) (blocks_of_pairs ys)
 
 -- ---- one pair became others
 
 pub record IsPlaced (old disk : Disk) (p q : Pair) (more : List Pair) (extra : List ℕ) : Type 0 where
   pub geometry : SameGeometry old disk
-  pub same : (b : ℕ) → occurrence_count_of_number b (extra ++ blocks_of_pairs (p ∷ [])) ≡ 0 → block_bytes_on_disk disk b ≡ block_bytes_on_disk old b
-  pub contents : Each (λ x. content_of_pair_at disk x.at ≡ Some x.content) (q ∷ more)
-  pub first : HasFirst p.content.slots → BeginsWithLogEntry (current_block_of_pair_at old p.at) superblock_name_log_entry → BeginsWithLogEntry (current_block_of_pair_at disk p.at) superblock_name_log_entry
+  pub same : (b : ℕ) → number_count b (extra ++ blocks_of_pairs (p ∷ [])) ≡ 0 → disk_block disk b ≡ disk_block old b
+  pub contents : Each (λ x. content_at disk x.at ≡ Some x.content) (q ∷ more)
+  pub first : HasFirst p.content.slots → BeginsWith (current_block old p.at) superblock_entry → BeginsWith (current_block disk p.at) superblock_entry
 
-module _ (old disk : Disk) (w : Site) (p q : Pair) (more : List Pair) (extra : List ℕ) (ok : IsAcceptedImage old (thread_at w (p ∷ [])))
+module _ (old disk : Disk) (w : Site) (p q : Pair) (more : List Pair) (extra : List ℕ) (ok : IsAccepted old (thread_at w (p ∷ [])))
     (free : IsDistinct nat_eq (extra ++ used_blocks old (thread_at w (p ∷ [])))) (is : IsPlaced old disk p q more extra) where
   abbrev ps : List Pair
   ps = thread_at w (p ∷ [])
@@ -42,74 +42,74 @@ module _ (old disk : Disk) (w : Site) (p q : Pair) (more : List Pair) (extra : L
   grouped = sym (append_assoc w.chain (w.before ++ w.left) (p ∷ (w.right ++ w.after)))
 
   -- no extra block is one of the thread's
-  apart : (b : ℕ) → 1 ≤ occurrence_count_of_number b (blocks_of_pairs ps) → occurrence_count_of_number b extra ≡ 0
+  apart : (b : ℕ) → 1 ≤ number_count b (blocks_of_pairs ps) → number_count b extra ≡ 0
   apart b some =
       let n = once_from_distinct (extra ++ used_blocks old ps) free b in
       let e = count_append b extra (used_blocks old ps) in
-      let f = count_append b (blocks_of_pairs ps) (flat_map (λ (s : Slot). skip_list_blocks_of_struct old s.struct) (all_slots_not_moved ps)) in
+      let f = count_append b (blocks_of_pairs ps) (flat_map (λ (s : Slot). struct_blocks old s.struct) (all_slots_not_moved ps)) in
       omega arith
 
   abbrev Begins : ℕ × ℕ → Type 0
-  Begins at = BeginsWithLogEntry (current_block_of_pair_at disk at) superblock_name_log_entry
+  Begins at = BeginsWith (current_block disk at) superblock_entry
 
   -- a pair of the others, whose blocks are none that changed
-  other_first : (c : Pair) → first_pair_address (pairs_from_first_with_slots ps) ≡ c.at → 1 ≤ occurrence_count_of_number c.at.0 (blocks_of_pairs front) + occurrence_count_of_number c.at.0 (blocks_of_pairs back) → 1 ≤ occurrence_count_of_number c.at.1 (blocks_of_pairs front) + occurrence_count_of_number c.at.1 (blocks_of_pairs back) → Begins (first_pair_address (pairs_from_first_with_slots ps))
-  other_first c e f s = subst Begins (sym e) (first_same old disk c.at (still c.at.0 f) (still c.at.1 s) (subst (λ at. BeginsWithLogEntry (current_block_of_pair_at old at) superblock_name_log_entry) e ok.first))
+  other_first : (c : Pair) → first_address (from_first_slots ps) ≡ c.at → 1 ≤ number_count c.at.0 (blocks_of_pairs front) + number_count c.at.0 (blocks_of_pairs back) → 1 ≤ number_count c.at.1 (blocks_of_pairs front) + number_count c.at.1 (blocks_of_pairs back) → Begins (first_address (from_first_slots ps))
+  other_first c e f s = subst Begins (sym e) (first_same old disk c.at (still c.at.0 f) (still c.at.1 s) (subst (λ at. BeginsWith (current_block old at) superblock_entry) e ok.first))
     where
-      still : (b : ℕ) → 1 ≤ occurrence_count_of_number b (blocks_of_pairs front) + occurrence_count_of_number b (blocks_of_pairs back) → block_bytes_on_disk disk b ≡ block_bytes_on_disk old b
+      still : (b : ℕ) → 1 ≤ number_count b (blocks_of_pairs front) + number_count b (blocks_of_pairs back) → disk_block disk b ≡ disk_block old b
       still b some = is.same b (
           let n = once_from_distinct (blocks_of_pairs ps) ok.thread.distinct b in
-          let w = ap (λ z. occurrence_count_of_number b (blocks_of_pairs z)) grouped ∙ blocks_append front (p ∷ back) b in
+          let w = ap (λ z. number_count b (blocks_of_pairs z)) grouped ∙ blocks_append front (p ∷ back) b in
           let v = blocks_append (p ∷ []) back b in
           let a = apart b in
           let k = count_append b extra (blocks_of_pairs (p ∷ [])) in
           let none = a (omega arith) in
           omega arith)
 
-  still_first : Begins (first_pair_address (pairs_from_first_with_slots ps))
+  still_first : Begins (first_address (from_first_slots ps))
   still_first = go (from_front front)
     where
-      is_front : (qs : List Pair) → pairs_from_first_with_slots (front ++ p ∷ back) ≡ qs → pairs_from_first_with_slots ps ≡ qs
-      is_front qs e = ap pairs_from_first_with_slots grouped ∙ e
+      is_front : (qs : List Pair) → from_first_slots (front ++ p ∷ back) ≡ qs → from_first_slots ps ≡ qs
+      is_front qs e = ap from_first_slots grouped ∙ e
 
-      behind : ((qs : List Pair) → pairs_from_first_with_slots (front ++ qs) ≡ pairs_from_first_with_slots qs) → (slots : List Slot) → p.content.slots ≡ slots → FromSlots back → Begins (first_pair_address (pairs_from_first_with_slots ps))
+      behind : ((qs : List Pair) → from_first_slots (front ++ qs) ≡ from_first_slots qs) → (slots : List Slot) → p.content.slots ≡ slots → FromSlots back → Begins (first_address (from_first_slots ps))
       behind all (s ∷ slots) e f =
-          let here = is_front (p ∷ back) (all (p ∷ back) ∙ ap (λ z. cond (has_slots z) (p ∷ back) (pairs_from_first_with_slots back)) e) in
-          subst Begins (sym (ap first_pair_address here)) (is.first (accepted_first old ps p back ok here) (subst (λ at. BeginsWithLogEntry (current_block_of_pair_at old at) superblock_name_log_entry) (ap first_pair_address here) ok.first))
+          let here = is_front (p ∷ back) (all (p ∷ back) ∙ ap (λ z. cond (has_slots z) (p ∷ back) (from_first_slots back)) e) in
+          subst Begins (sym (ap first_address here)) (is.first (accepted_first old ps p back ok here) (subst (λ at. BeginsWith (current_block old at) superblock_entry) (ap first_address here) ok.first))
       behind all [] e (InFront c rest there more) =
-          let here = is_front (c ∷ rest) (all (p ∷ back) ∙ ap (λ z. cond (has_slots z) (p ∷ back) (pairs_from_first_with_slots back)) e ∙ there) in
+          let here = is_front (c ∷ rest) (all (p ∷ back) ∙ ap (λ z. cond (has_slots z) (p ∷ back) (from_first_slots back)) e ∙ there) in
           let n = first_counted back c rest there in
-          other_first c (ap first_pair_address here) (let l = n.0 in omega arith) (let l = n.1 in omega arith)
+          other_first c (ap first_address here) (let l = n.0 in omega arith) (let l = n.1 in omega arith)
       behind all [] e (Behind none more) =
-          let here = is_front [] (all (p ∷ back) ∙ ap (λ z. cond (has_slots z) (p ∷ back) (pairs_from_first_with_slots back)) e ∙ ap pairs_from_first_with_slots (sym (append-nil back)) ∙ more []) in
+          let here = is_front [] (all (p ∷ back) ∙ ap (λ z. cond (has_slots z) (p ∷ back) (from_first_slots back)) e ∙ ap from_first_slots (sym (append-nil back)) ∙ more []) in
           absurd (let k = ap first_slot_name (sym here) ∙ ok.named in cc)
 
-      go : FromSlots front → Begins (first_pair_address (pairs_from_first_with_slots ps))
+      go : FromSlots front → Begins (first_address (from_first_slots ps))
       go (InFront c rest there all) =
           let n = first_counted front c rest there in
-          other_first c (ap first_pair_address (is_front (c ∷ rest ++ p ∷ back) (all (p ∷ back)))) (let l = n.0 in omega arith) (let l = n.1 in omega arith)
+          other_first c (ap first_address (is_front (c ∷ rest ++ p ∷ back) (all (p ∷ back)))) (let l = n.0 in omega arith) (let l = n.1 in omega arith)
       go (Behind none all) = behind all p.content.slots refl (from_front back)
 
   pub device : IsDevice old disk (thread_at w (p ∷ [])) (thread_at w (q ∷ more))
   device = device_from old disk w.chain (w.before ++ w.left) p [] q more (w.right ++ w.after) extra ok free
-      (record { geometry = is.geometry; same = is.same }) still_first (All-from_recursion (λ x. content_of_pair_at disk x.at ≡ Some x.content) (q ∷ more) is.contents)
+      (record { geometry = is.geometry; same = is.same }) still_first (All-from_recursion (λ x. content_at disk x.at ≡ Some x.content) (q ∷ more) is.contents)
 
 -- ---- nothing came of it
 
 -- the disk has the thread and the files that it had: it is accepted as before, and shows the same tree
-pub nothing_came : (old disk : Disk) (ps : List Pair) → IsAcceptedImage old ps → IsDevice old disk ps ps → IsImageAfterTreeChange old ps disk ps (λ t. t) (λ d. d)
-nothing_came old disk ps ok device = go (take (pair_count_before_root ps) ps) (pairs_from_root_directory_on ps) (chain_of_thread ps).0 (chain_of_thread ps).1 ok.root
+pub nothing_came : (old disk : Disk) (ps : List Pair) → IsAccepted old ps → IsDevice old disk ps ps → IsChangedImage old ps disk ps (λ t. t) (λ d. d)
+nothing_came old disk ps ok device = go (take (pair_count_before_root ps) ps) (pairs_from_root ps) (chain_of_thread ps).0 (chain_of_thread ps).1 ok.root
   where
-    go : (chain rest : List Pair) → ps ≡ chain ++ rest → IsChain chain rest → starts_with_superblock (first_pair_slots rest) ≡ true → IsImageAfterTreeChange old ps disk ps (λ t. t) (λ d. d)
+    go : (chain rest : List Pair) → ps ≡ chain ++ rest → IsChain chain rest → starts_superblock (first_slots rest) ≡ true → IsChangedImage old ps disk ps (λ t. t) (λ d. d)
     go chain [] e is_chain root = absurd (cc)
-    go chain (x ∷ rest) e is_chain root = subst (λ z. IsImageAfterTreeChange old z disk z (λ t. t) (λ d. d)) (sym e)
-        (same_follows old disk chain x rest is_chain (subst (IsAcceptedImage old) e ok) (subst (λ z. IsDevice old disk z z) e device))
+    go chain (x ∷ rest) e is_chain root = subst (λ z. IsChangedImage old z disk z (λ t. t) (λ d. d)) (sym e)
+        (same_follows old disk chain x rest is_chain (subst (IsAccepted old) e ok) (subst (λ z. IsDevice old disk z z) e device))
 
-pub profile_same : (disk new : Disk) (ps : List Pair) → new.block_size ≡ disk.block_size → new.page ≡ disk.page → new.profile ≡ disk.profile → IsWritableImage disk ps → IsWritableImage new ps
+pub profile_same : (disk new : Disk) (ps : List Pair) → new.block_size ≡ disk.block_size → new.page ≡ disk.page → new.profile ≡ disk.profile → IsWritable disk ps → IsWritable new ps
 profile_same disk new ps e f g h = record {
-  pairs = subst (λ (n : ℕ). All (λ p. IsContentFittingPair n new.page p.content) ps) (sym e) (subst (λ (n : ℕ). All (λ p. IsContentFittingPair disk.block_size n p.content) ps) (sym f) h.pairs);
-  slots = subst (λ (x : Profile). All (λ p. All (IsSlotWithinWritableLimits x new.block_size new.page) p.content.slots) ps) (sym g)
-      (subst (λ (n : ℕ). All (λ p. All (IsSlotWithinWritableLimits disk.profile n new.page) p.content.slots) ps) (sym e) (subst (λ (n : ℕ). All (λ p. All (IsSlotWithinWritableLimits disk.profile disk.block_size n) p.content.slots) ps) (sym f) h.slots));
+  pairs = subst (λ (n : ℕ). All (λ p. FitsInPair n new.page p.content) ps) (sym e) (subst (λ (n : ℕ). All (λ p. FitsInPair disk.block_size n p.content) ps) (sym f) h.pairs);
+  slots = subst (λ (x : Profile). All (λ p. All (IsWritableSlot x new.block_size new.page) p.content.slots) ps) (sym g)
+      (subst (λ (n : ℕ). All (λ p. All (IsWritableSlot disk.profile n new.page) p.content.slots) ps) (sym e) (subst (λ (n : ℕ). All (λ p. All (IsWritableSlot disk.profile disk.block_size n) p.content.slots) ps) (sym f) h.slots));
   no_empty_pair = h.no_empty_pair;
 }
 
@@ -120,11 +120,11 @@ either f g (inl a) = inl (f a)
 either f g (inr b) = inr (g b)
 
 -- what is left has the thread after the step
-pub left_after : {old new : Disk} {ps qs : List Pair} {change : Tree → Tree} {walk : DirectoryAddressByPath → DirectoryAddressByPath} {before after : Tree} → IsWritableImageAfterTreeChange old ps new qs change walk
-    → (change (tree_on_disk old ps) ≡ before) ⊎ (change (tree_on_disk old ps) ≡ after) → HasTreeBeforeOrAfterOperation new before after
+pub left_after : {old new : Disk} {ps qs : List Pair} {change : Tree → Tree} {walk : PathAddresses → PathAddresses} {before after : Tree} → IsWritableChange old ps new qs change walk
+    → (change (tree_on_disk old ps) ≡ before) ⊎ (change (tree_on_disk old ps) ≡ after) → HasEither new before after
 left_after {qs = qs} f shows = record { pairs = qs; accepted = f.follows.accepted; writable = f.writable; tree = either (λ e. f.follows.shows ∙ e) (λ e. f.follows.shows ∙ e) shows }
 
 -- or the thread that was there
-pub left_still : (old : Disk) (left : Blocks) (ps : List Pair) {before after : Tree} → IsAcceptedImage old ps → IsWritableImage old ps → IsDevice old (disk_with_blocks left old) ps ps → (tree_on_disk old ps ≡ before) ⊎ (tree_on_disk old ps ≡ after)
-    → HasTreeBeforeOrAfterOperation (disk_with_blocks left old) before after
-left_still old left ps ok writable device = left_after (record { follows = nothing_came old (disk_with_blocks left old) ps ok device; writable = profile_same old (disk_with_blocks left old) ps refl refl refl writable })
+pub left_still : (old : Disk) (left : Blocks) (ps : List Pair) {before after : Tree} → IsAccepted old ps → IsWritable old ps → IsDevice old (with_blocks left old) ps ps → (tree_on_disk old ps ≡ before) ⊎ (tree_on_disk old ps ≡ after)
+    → HasEither (with_blocks left old) before after
+left_still old left ps ok writable device = left_after (record { follows = nothing_came old (with_blocks left old) ps ok device; writable = profile_same old (with_blocks left old) ps refl refl refl writable })

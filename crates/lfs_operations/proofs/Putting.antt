@@ -3,27 +3,27 @@ use Rattle.std.proofs.Common.{true, ℕ, ◌≡◌, ◌≢◌, ◌∙◌, ◌≤
 use Rattle.std.specs.Prelude.{All, IfErr, is_err}
 use Rattle.lfs_device.specs.declared.error.Error.{Error}
 use Rattle.lfs_device.specs.declared.error.Error.TheVariants.{Io, NoMemory, NoSpace}
-use Rattle.lfs_operations.proofs.Common.{Blocks, BlockStateList, Free, InFlight, PairContentChange, Disk, PairContent, DeviceCallEvent, AreCallsSinceOnlyReads, fault_count_of_history, slice_get-set_same, slice_get-set_other, IsTrueAfterAnyPowerLossSince-weaker, IsTrueAfterAnyPowerLossSince-trans, AreBytesStillUnprogrammed-refl, AreBytesStillUnprogrammed-trans, IsTrueOfEachCallSince-until, IsTrueOfEachCallSince-behind, AreCallsSinceOnlyReads-trans, AreBytesStillUnprogrammed-read_count_of_history, IsTrueAfterAnyPowerLossSince-read_count_of_history, ArePossibleBlocksAfterPowerLossInCall-read, PowerLossLeavesSuchBlocksAfterCleanErases, KeptThread, ThreadView, thread_pair_at_index, AreBothSplitPartsOnDisk, SplitPartsFitPairs, CanSplitPairAtIndex, PowerLossLeavesPairOldOrChanged, IoMeantFaultNoMemoryWroteNothing, HasPairOldContentOnDisk, PowerLossLeavesPairOldOrSplit, IsThreadOnlyRead, IsPairSplitInTwo, ThreadChangesOnlyTheseBlocks, blocks_of_two_pair_addresses, AreBlocksEqualExceptThese-trans, AreBlocksEqualExceptThese-wider, AreBytesStillUnprogrammed-wider}
+use Rattle.lfs_operations.proofs.Common.{Blocks, BlockStates, Free, InFlight, PairChange, Disk, PairContent, CallEvent, OnlyReadsSince, fault_count, slice_get-set_same, slice_get-set_other, HoldsAtLosses-weaker, HoldsAtLosses-trans, StayUnprogrammed-refl, StayUnprogrammed-trans, AllCallsSince-until, AllCallsSince-behind, OnlyReadsSince-trans, StayUnprogrammed-read_count, HoldsAtLosses-read_count, LossLeavesAtWorst-read, LossLeavesCleanly, KeptThread, ThreadView, thread_pair_at, BothOnDisk, PartsFitPairs, CanSplitAt, LossLeavesPairChanged, IoMeantFaultNoMemoryWroteNothing, HasOldPair, LossLeavesPairSplit, OnlyReadsThread, IsSplitInTwo, ChangesThreadBlocks, addresses_blocks, SameExceptThese-trans, SameExceptThese-wider, StayUnprogrammed-wider}
 use Rattle.lfs_model.proofs.Histories.{began}
-use Rattle.lfs_thread.specs.CachedLog.{read_count_unless_cached}
-use Rattle.lfs_thread.specs.Steps.{AreFreshBlocksInFlight}
-use Rattle.lfs_operations.specs.Changing.{AreTwoFreeBlocks, CanChangeOrSplitPair, IsPairSplit, IsPairSplitInto, IsLeftByStoppedChangeOrSplit, IsChangedContentTooLarge, IsLeftByStoppedSplit, ReportsFaultsChangingNothingAtNoSpace, WritesPairAndTwoFreeBlocks, map_with_two_blocks_in_flight, ReportsErrorsOfCommitTakingBlocks, has_thread_failed_after_result}
+use Rattle.lfs_thread.specs.CachedLog.{reads_unless_cached}
+use Rattle.lfs_thread.specs.ThreadSteps.{FreshInFlight}
+use Rattle.lfs_operations.specs.Changing.{AreTwoFree, CanTurn, IsPairSplit, IsSplitInto, LeftByTurn, ChangeIsTooLarge, LeftBySplit, ReportsFaultsChangingNothingAtNoSpace, WritesPairTwo, map_taking_two, ReportsErrorsOfCommitTakingBlocks, has_failed_after}
 use Rattle.lfs_operations.proofs.Taking.{within}
 
 -- ---- the blocks that steps change
 
-pub writes_wider : {bs : List ℕ} (cs : List ℕ) {old new : KeptThread} → ((b : ℕ) → All (λ c. c ≢ b) cs → All (λ c. c ≢ b) bs) → ThreadChangesOnlyTheseBlocks bs old new → ThreadChangesOnlyTheseBlocks cs old new
+pub writes_wider : {bs : List ℕ} (cs : List ℕ) {old new : KeptThread} → ((b : ℕ) → All (λ c. c ≢ b) cs → All (λ c. c ≢ b) bs) → ChangesThreadBlocks bs old new → ChangesThreadBlocks cs old new
 writes_wider cs f h = record {
-  others = AreBlocksEqualExceptThese-wider cs f h.others;
-  elsewhere = AreBytesStillUnprogrammed-wider cs f h.elsewhere;
+  others = SameExceptThese-wider cs f h.others;
+  elsewhere = StayUnprogrammed-wider cs f h.elsewhere;
   shape = h.shape;
-  at_worst = IsTrueAfterAnyPowerLossSince-weaker (λ blocks k. AreBlocksEqualExceptThese-wider cs f k) h.at_worst;
+  at_worst = HoldsAtLosses-weaker (λ blocks k. SameExceptThese-wider cs f k) h.at_worst;
 }
 
-pub writes_trans : {bs : List ℕ} {old mid new : KeptThread} → ThreadChangesOnlyTheseBlocks bs old mid → ThreadChangesOnlyTheseBlocks bs mid new → ThreadChangesOnlyTheseBlocks bs old new
+pub writes_trans : {bs : List ℕ} {old mid new : KeptThread} → ChangesThreadBlocks bs old mid → ChangesThreadBlocks bs mid new → ChangesThreadBlocks bs old new
 writes_trans first second = record {
-  others = AreBlocksEqualExceptThese-trans first.others second.others;
-  elsewhere = AreBytesStillUnprogrammed-trans first.elsewhere second.elsewhere;
+  others = SameExceptThese-trans first.others second.others;
+  elsewhere = StayUnprogrammed-trans first.elsewhere second.elsewhere;
   shape = record {
     block_size = second.shape.block_size ∙ first.shape.block_size;
     page = second.shape.page ∙ first.shape.page;
@@ -31,16 +31,16 @@ writes_trans first second = record {
     profile = second.shape.profile ∙ first.shape.profile;
     count = second.shape.count ∙ first.shape.count;
   };
-  at_worst = IsTrueAfterAnyPowerLossSince-trans first.at_worst (IsTrueAfterAnyPowerLossSince-weaker (λ blocks k. AreBlocksEqualExceptThese-trans first.others k) second.at_worst);
+  at_worst = HoldsAtLosses-trans first.at_worst (HoldsAtLosses-weaker (λ blocks k. SameExceptThese-trans first.others k) second.at_worst);
 }
 
 -- ---- a thread that is read on
 
 -- with other states of the blocks
-abbrev pub with_map : KeptThread → BlockStateList → KeptThread
+abbrev pub with_map : KeptThread → BlockStates → KeptThread
 with_map t sets = record t { map = sets }
 
-pub held : (sets : BlockStateList) (fresh : ℕ × ℕ) → AreTwoFreeBlocks sets fresh → AreFreshBlocksInFlight (map_with_two_blocks_in_flight sets fresh) fresh
+pub held : (sets : BlockStates) (fresh : ℕ × ℕ) → AreTwoFree sets fresh → FreshInFlight (map_taking_two sets fresh) fresh
 held sets fresh two = record {
   apart = two.apart;
   first = slice_get-set_other first_taken fresh.1 fresh.0 InFlight two.apart ∙ slice_get-set_same sets fresh.0 InFlight (within sets fresh.0 Free two.first);
@@ -48,10 +48,10 @@ held sets fresh two = record {
       (within first_taken fresh.1 Free (slice_get-set_other sets fresh.0 fresh.1 InFlight (λ e. two.apart (sym e)) ∙ two.second));
 }
   where
-    first_taken : BlockStateList
+    first_taken : BlockStates
     first_taken = set sets fresh.0 InFlight
 
-pub can_split : (t : KeptThread) (index : ℕ) (fresh : ℕ × ℕ) (changes : List PairContentChange) → CanChangeOrSplitPair t index changes → AreTwoFreeBlocks t.map fresh → CanSplitPairAtIndex (with_map t (map_with_two_blocks_in_flight t.map fresh)) index fresh changes
+pub can_split : (t : KeptThread) (index : ℕ) (fresh : ℕ × ℕ) (changes : List PairChange) → CanTurn t index changes → AreTwoFree t.map fresh → CanSplitAt (with_map t (map_taking_two t.map fresh)) index fresh changes
 can_split t index fresh changes can two = record {
   can = record { below = can.can.below; content = can.can.content; made = can.can.made; next = can.can.next };
   held = held t.map fresh two;
@@ -62,14 +62,14 @@ can_split t index fresh changes can two = record {
 
 -- ---- what it comes to
 
-module _ (t : KeptThread) (index : ℕ) (fresh : ℕ × ℕ) (changes : List PairContentChange) (two : AreTwoFreeBlocks t.map fresh) where
+module _ (t : KeptThread) (index : ℕ) (fresh : ℕ × ℕ) (changes : List PairChange) (two : AreTwoFree t.map fresh) where
   abbrev mid : KeptThread
-  mid = with_map t (map_with_two_blocks_in_flight t.map fresh)
+  mid = with_map t (map_taking_two t.map fresh)
 
-  parts_same : {content : PairContent} {cut : ℕ} {disk : Disk} → SplitPartsFitPairs mid index content cut fresh disk → SplitPartsFitPairs t index content cut fresh disk
+  parts_same : {content : PairContent} {cut : ℕ} {disk : Disk} → PartsFitPairs mid index content cut fresh disk → PartsFitPairs t index content cut fresh disk
   parts_same p = record { front_fits = p.front_fits; back_fits = p.back_fits; inside = p.inside; first = p.first }
 
-  pub cut_in : (new : KeptThread) → IsPairSplitInTwo mid index fresh changes new → ThreadChangesOnlyTheseBlocks (blocks_of_two_pair_addresses (thread_pair_at_index t index).at fresh) mid new → IsPairSplitInto t index fresh changes new
+  pub cut_in : (new : KeptThread) → IsSplitInTwo mid index fresh changes new → ChangesThreadBlocks (addresses_blocks (thread_pair_at t index).at fresh) mid new → IsSplitInto t index fresh changes new
   cut_in new is writes = record {
     free = two;
     content = is.content;
@@ -84,18 +84,18 @@ module _ (t : KeptThread) (index : ℕ) (fresh : ℕ × ℕ) (changes : List Pai
     writes = record { others = writes.others; elsewhere = writes.elsewhere; shape = writes.shape; at_worst = writes.at_worst };
   }
 
-  pub left_by_cut : (left : Blocks) → PowerLossLeavesPairOldOrSplit mid index fresh changes left → IsLeftByStoppedSplit t index changes left
+  pub left_by_cut : (left : Blocks) → LossLeavesPairSplit mid index fresh changes left → LeftBySplit t index changes left
   left_by_cut left l = (fresh, (two, record { others = l.others; content = go l.content }))
     where
-      go : HasPairOldContentOnDisk mid index (record t.disk { blocks = left }) ⊎ AreBothSplitPartsOnDisk mid index changes fresh (record t.disk { blocks = left })
-          → HasPairOldContentOnDisk t index (record t.disk { blocks = left }) ⊎ AreBothSplitPartsOnDisk t index changes fresh (record t.disk { blocks = left })
+      go : HasOldPair mid index (record t.disk { blocks = left }) ⊎ BothOnDisk mid index changes fresh (record t.disk { blocks = left })
+          → HasOldPair t index (record t.disk { blocks = left }) ⊎ BothOnDisk t index changes fresh (record t.disk { blocks = left })
       go (inl b) = inl (record { holds = b.holds; first = b.first })
       go (inr h) = inr (record { content = h.content; made = h.made; cut = h.cut; front = h.front; back = h.back; parts = parts_same h.parts })
 
-  pub stops_by_cut : (new : List DeviceCallEvent) → PowerLossLeavesSuchBlocksAfterCleanErases t.history new (PowerLossLeavesPairOldOrSplit mid index fresh changes) → PowerLossLeavesSuchBlocksAfterCleanErases t.history new (IsLeftByStoppedSplit t index changes)
-  stops_by_cut new stops clean = IsTrueAfterAnyPowerLossSince-weaker left_by_cut (stops clean)
+  pub stops_by_cut : (new : List CallEvent) → LossLeavesCleanly t.history new (LossLeavesPairSplit mid index fresh changes) → LossLeavesCleanly t.history new (LeftBySplit t index changes)
+  stops_by_cut new stops clean = HoldsAtLosses-weaker left_by_cut (stops clean)
 
-  pub writes_in : (new : KeptThread) → ThreadChangesOnlyTheseBlocks (blocks_of_two_pair_addresses (thread_pair_at_index t index).at fresh) mid new → WritesPairAndTwoFreeBlocks t index new
+  pub writes_in : (new : KeptThread) → ChangesThreadBlocks (addresses_blocks (thread_pair_at t index).at fresh) mid new → WritesPairTwo t index new
   writes_in new w = record {
     fresh = fresh.0 ∷ fresh.1 ∷ [];
     few = omega arith;
@@ -111,7 +111,7 @@ same_err a b r h k = cc
 pub not_both : {A : Type 0} (r : Result A Error) (a : A) (e : Error) → r ≡ Ok a → r ≡ Err e → ⊥
 not_both r a e h k = absurd (cc)
 
-pub reports : {X Y : Type 0} (t new : KeptThread) (sets : BlockStateList) (e : Error) (result : Result X Error) (given : Result Y Error) → result ≡ Err e → given ≡ Err e → IoMeantFaultNoMemoryWroteNothing (with_map t sets) new result → ReportsFaultsChangingNothingAtNoSpace t new given
+pub reports : {X Y : Type 0} (t new : KeptThread) (sets : BlockStates) (e : Error) (result : Result X Error) (given : Result Y Error) → result ≡ Err e → given ≡ Err e → IoMeantFaultNoMemoryWroteNothing (with_map t sets) new result → ReportsFaultsChangingNothingAtNoSpace t new given
 reports t new sets e result given is same reported = record {
   errors = subst (λ r. IfErr r (λ x. (x ≡ Io) ⊎ ((x ≡ NoMemory) ⊎ (x ≡ NoSpace)))) (sym same) (widen is_one);
   fault = λ io. reported.fault (is ∙ ap Err (same_err e Io given same io));
@@ -134,14 +134,14 @@ reports t new sets e result given is same reported = record {
 
 -- ---- nothing was done
 
-pub writes_none : (t : KeptThread) (index : ℕ) → WritesPairAndTwoFreeBlocks t index t
+pub writes_none : (t : KeptThread) (index : ℕ) → WritesPairTwo t index t
 writes_none t index = record {
   fresh = [];
   few = omega arith;
   free = tt;
   writes = record {
     others = record { count = refl; sizes = λ b. refl; others = λ b apart. refl };
-    elsewhere = AreBytesStillUnprogrammed-refl ((thread_pair_at_index t index).at.0 ∷ (thread_pair_at_index t index).at.1 ∷ []) t.history;
+    elsewhere = StayUnprogrammed-refl ((thread_pair_at t index).at.0 ∷ (thread_pair_at t index).at.1 ∷ []) t.history;
     shape = record { block_size = refl; page = refl; order = refl; profile = refl; count = refl };
     at_worst = began;
   };
@@ -150,25 +150,25 @@ writes_none t index = record {
 -- ---- after reads
 
 -- with a later history
-abbrev pub with_history : KeptThread → List DeviceCallEvent → KeptThread
+abbrev pub with_history : KeptThread → List CallEvent → KeptThread
 with_history t h = record t { history = h }
 
-pub read_is : (t mid : KeptThread) → IsThreadOnlyRead t mid → mid ≡ with_history t mid.history
+pub read_is : (t mid : KeptThread) → OnlyReadsThread t mid → mid ≡ with_history t mid.history
 read_is t mid r = λ j. record { disk = r.disk j; history = mid.history; pairs = r.pairs j; map = r.map j }
 
-module _ (t : KeptThread) (h : List DeviceCallEvent) (reads : AreCallsSinceOnlyReads t.disk.blocks t.history h) (index : ℕ) (changes : List PairContentChange) where
+module _ (t : KeptThread) (h : List CallEvent) (reads : OnlyReadsSince t.disk.blocks t.history h) (index : ℕ) (changes : List PairChange) where
   abbrev later : KeptThread
   later = with_history t h
 
-  parts_earlier : {content : PairContent} {cut : ℕ} {fresh : ℕ × ℕ} {disk : Disk} → SplitPartsFitPairs later index content cut fresh disk → SplitPartsFitPairs t index content cut fresh disk
+  parts_earlier : {content : PairContent} {cut : ℕ} {fresh : ℕ × ℕ} {disk : Disk} → PartsFitPairs later index content cut fresh disk → PartsFitPairs t index content cut fresh disk
   parts_earlier p = record { front_fits = p.front_fits; back_fits = p.back_fits; inside = p.inside; first = p.first }
 
-  writes_behind : (bs : List ℕ) (new : KeptThread) → ThreadChangesOnlyTheseBlocks bs later new → ThreadChangesOnlyTheseBlocks bs t new
+  writes_behind : (bs : List ℕ) (new : KeptThread) → ChangesThreadBlocks bs later new → ChangesThreadBlocks bs t new
   writes_behind bs new w = record {
     others = w.others;
-    elsewhere = AreBytesStillUnprogrammed-trans (AreBytesStillUnprogrammed-read_count_of_history bs reads) w.elsewhere;
+    elsewhere = StayUnprogrammed-trans (StayUnprogrammed-read_count bs reads) w.elsewhere;
     shape = w.shape;
-    at_worst = IsTrueAfterAnyPowerLossSince-trans (IsTrueAfterAnyPowerLossSince-read_count_of_history ArePossibleBlocksAfterPowerLossInCall-read reads (record { count = refl; sizes = λ b. refl; others = λ b apart. refl })) w.at_worst;
+    at_worst = HoldsAtLosses-trans (HoldsAtLosses-read_count LossLeavesAtWorst-read reads (record { count = refl; sizes = λ b. refl; others = λ b apart. refl })) w.at_worst;
   }
 
   pub cut_later : (new : KeptThread) → IsPairSplit later index changes new → IsPairSplit t index changes new
@@ -185,49 +185,49 @@ module _ (t : KeptThread) (h : List DeviceCallEvent) (reads : AreCallsSinceOnlyR
       pairs = is.pairs;
       thread = is.thread;
       map = is.map;
-      writes = writes_behind (blocks_of_two_pair_addresses (thread_pair_at_index t index).at fresh) new is.writes;
+      writes = writes_behind (addresses_blocks (thread_pair_at t index).at fresh) new is.writes;
     },
   )
 
-  pub left_later : (left : Blocks) → IsLeftByStoppedSplit later index changes left → IsLeftByStoppedSplit t index changes left
+  pub left_later : (left : Blocks) → LeftBySplit later index changes left → LeftBySplit t index changes left
   left_later left (fresh, (two, l)) = (fresh, (two, record { others = l.others; content = go l.content }))
     where
-      go : HasPairOldContentOnDisk later index (record t.disk { blocks = left }) ⊎ AreBothSplitPartsOnDisk later index changes fresh (record t.disk { blocks = left })
-          → HasPairOldContentOnDisk t index (record t.disk { blocks = left }) ⊎ AreBothSplitPartsOnDisk t index changes fresh (record t.disk { blocks = left })
+      go : HasOldPair later index (record t.disk { blocks = left }) ⊎ BothOnDisk later index changes fresh (record t.disk { blocks = left })
+          → HasOldPair t index (record t.disk { blocks = left }) ⊎ BothOnDisk t index changes fresh (record t.disk { blocks = left })
       go (inl b) = inl (record { holds = b.holds; first = b.first })
       go (inr k) = inr (record { content = k.content; made = k.made; cut = k.cut; front = k.front; back = k.back; parts = parts_earlier k.parts })
 
-  pub reports_later : {X : Type 0} (new : KeptThread) (result : Result X Error) → fault_count_of_history h ≡ fault_count_of_history t.history → ReportsFaultsChangingNothingAtNoSpace later new result → ReportsFaultsChangingNothingAtNoSpace t new result
+  pub reports_later : {X : Type 0} (new : KeptThread) (result : Result X Error) → fault_count h ≡ fault_count t.history → ReportsFaultsChangingNothingAtNoSpace later new result → ReportsFaultsChangingNothingAtNoSpace t new result
   reports_later new result same reported = record {
     errors = reported.errors;
     fault = λ io. (let k = reported.fault io in omega (arith, k, same));
     no_fault = λ other. reported.no_fault other ∙ same;
-    unwritten = λ none. (let u = reported.unwritten none in record { disk = u.disk; reads = AreCallsSinceOnlyReads-trans reads u.reads refl });
-    unchanged = λ none. (let u = reported.unchanged none in record { disk = u.disk; reads = AreCallsSinceOnlyReads-trans reads u.reads refl; pairs = u.pairs; map = u.map });
+    unwritten = λ none. (let u = reported.unwritten none in record { disk = u.disk; reads = OnlyReadsSince-trans reads u.reads refl });
+    unchanged = λ none. (let u = reported.unchanged none in record { disk = u.disk; reads = OnlyReadsSince-trans reads u.reads refl; pairs = u.pairs; map = u.map });
     no_space = reported.no_space;
   }
 
-  pub writes_later : (new : KeptThread) → WritesPairAndTwoFreeBlocks later index new → WritesPairAndTwoFreeBlocks t index new
+  pub writes_later : (new : KeptThread) → WritesPairTwo later index new → WritesPairTwo t index new
   writes_later new w = record {
     fresh = w.fresh;
     few = w.few;
     free = w.free;
-    writes = writes_behind ((thread_pair_at_index t index).at.0 ∷ (thread_pair_at_index t index).at.1 ∷ w.fresh) new w.writes;
+    writes = writes_behind ((thread_pair_at t index).at.0 ∷ (thread_pair_at t index).at.1 ∷ w.fresh) new w.writes;
   }
 
-  pub stops_later : (new : KeptThread) → IsChangedContentTooLarge t index changes → WritesPairAndTwoFreeBlocks later index new → PowerLossLeavesSuchBlocksAfterCleanErases t.history h (PowerLossLeavesPairOldOrChanged t index changes) → PowerLossLeavesSuchBlocksAfterCleanErases h new.history (IsLeftByStoppedSplit later index changes)
-      → PowerLossLeavesSuchBlocksAfterCleanErases t.history new.history (IsLeftByStoppedChangeOrSplit t index changes)
+  pub stops_later : (new : KeptThread) → ChangeIsTooLarge t index changes → WritesPairTwo later index new → LossLeavesCleanly t.history h (LossLeavesPairChanged t index changes) → LossLeavesCleanly h new.history (LeftBySplit later index changes)
+      → LossLeavesCleanly t.history new.history (LeftByTurn t index changes)
   stops_later new large w first second clean =
-      IsTrueAfterAnyPowerLossSince-trans (IsTrueAfterAnyPowerLossSince-weaker (λ left l. inl l) (first (IsTrueOfEachCallSince-until clean reads w.writes.at_worst)))
-      (IsTrueAfterAnyPowerLossSince-weaker (λ left l. inr (large, left_later left l)) (second (IsTrueOfEachCallSince-behind clean reads w.writes.at_worst)))
+      HoldsAtLosses-trans (HoldsAtLosses-weaker (λ left l. inl l) (first (AllCallsSince-until clean reads w.writes.at_worst)))
+      (HoldsAtLosses-weaker (λ left l. inr (large, left_later left l)) (second (AllCallsSince-behind clean reads w.writes.at_worst)))
 
 -- ---- with whether the thread has failed
 
-failing : {Y : Type 0} (e : Error) (given : Result Y Error) → given ≡ Err e → (e ≡ Io) ⊎ (e ≡ NoMemory) → has_thread_failed_after_result given ≡ true
-failing e given same (inl io) = ap has_thread_failed_after_result (same ∙ ap Err io)
-failing e given same (inr memory) = ap has_thread_failed_after_result (same ∙ ap Err memory)
+failing : {Y : Type 0} (e : Error) (given : Result Y Error) → given ≡ Err e → (e ≡ Io) ⊎ (e ≡ NoMemory) → has_failed_after given ≡ true
+failing e given same (inl io) = ap has_failed_after (same ∙ ap Err io)
+failing e given same (inr memory) = ap has_failed_after (same ∙ ap Err memory)
 
-pub reports_state : {X Y : Type 0} (old new : ThreadView) (sets : BlockStateList) (e : Error) (result : Result X Error) (given : Result Y Error) → result ≡ Err e → given ≡ Err e → new.failed ≡ is_err result
+pub reports_state : {X Y : Type 0} (old new : ThreadView) (sets : BlockStates) (e : Error) (result : Result X Error) (given : Result Y Error) → result ≡ Err e → given ≡ Err e → new.failed ≡ is_err result
     → IoMeantFaultNoMemoryWroteNothing (with_map old.kept sets) new.kept result → ReportsErrorsOfCommitTakingBlocks old new given
 reports_state old new sets e result given is same failed reported = record {
   failed = failed ∙ ap is_err is ∙ sym (failing e given same (subst (λ r. IfErr r (λ x. (x ≡ Io) ⊎ (x ≡ NoMemory))) is reported.errors));
@@ -236,6 +236,6 @@ reports_state old new sets e result given is same failed reported = record {
 
 -- ---- how often a step reads
 
-pub read_at_most : (block : Option (List ℕ)) → read_count_unless_cached block ≤ 1
+pub read_at_most : (block : Option (List ℕ)) → reads_unless_cached block ≤ 1
 read_at_most None = omega arith
 read_at_most (Some bytes) = omega arith

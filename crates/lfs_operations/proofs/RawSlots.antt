@@ -2,41 +2,41 @@
 use Rattle.std.proofs.Common.{ℕ, ◌≡◌, ◌≤◌, ◌+◌, Bool, true, false, cond, not, nat_eq, List, [], ◌∷◌, ◌++◌, length, Option, Some, None, refl, ap, ◌∙◌, arith}
 use Rattle.std.specs.Prelude.{is_some}
 use Rattle.std.specs.Option.{option_and_then, option_map}
-use Rattle.lfs_operations.proofs.Common.{same_Some, sum_by-cons, RawSlot, slot_if_name_and_struct_present, slots_if_names_and_structs_present, kind_of_name_type, slot_of_id, struct_of_type_and_bytes, attributes_without_attribute, Attributes, Slot, complete_parts}
-use Rattle.lfs_model.specs.Slots.{attributes_size}
+use Rattle.lfs_operations.proofs.Common.{same_Some, sum_by-cons, RawSlot, complete_slot, complete_slots, kind_of_type, slot_of_id, read_struct, attributes_without, Attributes, Slot, complete_parts}
+use Rattle.lfs_model.specs.format.Slots.{attributes_size}
 
 -- it has a name
-pub is_named : (s : RawSlot) (t : Slot) → slot_if_name_and_struct_present s ≡ Some t → is_some s.name ≡ true
+pub is_named : (s : RawSlot) (t : Slot) → complete_slot s ≡ Some t → is_some s.name ≡ true
 is_named s t h = go s.name h
   where
     go : (o : Option (ℕ × List ℕ)) → option_and_then (λ name. option_map (λ struct. record {
-      kind = kind_of_name_type name.0;
+      kind = kind_of_type name.0;
       name = name.1;
-      struct = struct_of_type_and_bytes struct.0 struct.1;
+      struct = read_struct struct.0 struct.1;
       attributes = s.attributes;
     }) s.struct) o ≡ Some t → is_some o ≡ true
     go None k = absurd (cc)
     go (Some n) k = refl
 
 -- with other attributes
-pub complete_with : (s : RawSlot) (t : Slot) (f : Attributes → Attributes) → slot_if_name_and_struct_present s ≡ Some t → slot_if_name_and_struct_present (record s { attributes = f s.attributes }) ≡ Some (record t { attributes = f t.attributes })
+pub complete_with : (s : RawSlot) (t : Slot) (f : Attributes → Attributes) → complete_slot s ≡ Some t → complete_slot (record s { attributes = f s.attributes }) ≡ Some (record t { attributes = f t.attributes })
 complete_with s t f h = go s.name s.struct h
   where
     go : (o q : Option (ℕ × List ℕ)) → option_and_then (λ name. option_map (λ struct. record {
-      kind = kind_of_name_type name.0;
+      kind = kind_of_type name.0;
       name = name.1;
-      struct = struct_of_type_and_bytes struct.0 struct.1;
+      struct = read_struct struct.0 struct.1;
       attributes = s.attributes;
     }) q) o ≡ Some t → option_and_then (λ name. option_map (λ struct. record {
-      kind = kind_of_name_type name.0;
+      kind = kind_of_type name.0;
       name = name.1;
-      struct = struct_of_type_and_bytes struct.0 struct.1;
+      struct = read_struct struct.0 struct.1;
       attributes = f s.attributes;
     }) q) o ≡ Some (record t { attributes = f t.attributes })
     go None q k = absurd (cc)
     go (Some n) None k = absurd (cc)
     go (Some n) (Some q) k =
-        let same = same_Some (record { kind = kind_of_name_type n.0; name = n.1; struct = struct_of_type_and_bytes q.0 q.1; attributes = s.attributes }) t k in
+        let same = same_Some (record { kind = kind_of_type n.0; name = n.1; struct = read_struct q.0 q.1; attributes = s.attributes }) t k in
         ap (λ (x : Slot). Some (record x { attributes = f x.attributes })) same
 
 -- ---- one of several
@@ -44,12 +44,12 @@ complete_with s t f h = go s.name s.struct h
 pub record IsRaw (xs : List RawSlot) (front : List Slot) (u : Slot) : Type 0 where
   pub here : RawSlot
   pub there : slot_of_id xs (length front) ≡ here
-  pub is : slot_if_name_and_struct_present here ≡ Some u
+  pub is : complete_slot here ≡ Some u
 
-pub is_raw : (xs : List RawSlot) (front : List Slot) (u : Slot) (back : List Slot) → slots_if_names_and_structs_present xs ≡ Some (front ++ u ∷ back) → IsRaw xs front u
+pub is_raw : (xs : List RawSlot) (front : List Slot) (u : Slot) (back : List Slot) → complete_slots xs ≡ Some (front ++ u ∷ back) → IsRaw xs front u
 is_raw [] front u back e = absurd (none front e)
   where
-    none : (front : List Slot) → slots_if_names_and_structs_present [] ≡ Some (front ++ u ∷ back) → ⊥
+    none : (front : List Slot) → complete_slots [] ≡ Some (front ++ u ∷ back) → ⊥
     none [] k = cc
     none (t ∷ front) k = cc
 is_raw (x ∷ xs) [] u back e =
@@ -68,31 +68,31 @@ is_raw (x ∷ xs) (t ∷ front) u back e =
 
 -- ---- attributes
 
-pub fewer_attributes : (kind : ℕ) (attributes : Attributes) → attributes_size (attributes_without_attribute kind attributes) ≤ attributes_size attributes
+pub fewer_attributes : (kind : ℕ) (attributes : Attributes) → attributes_size (attributes_without kind attributes) ≤ attributes_size attributes
 fewer_attributes kind [] = omega arith
 fewer_attributes kind (a ∷ rest) = go (nat_eq a.0 kind) (fewer_attributes kind rest)
   where
-    go : (b : Bool) → attributes_size (attributes_without_attribute kind rest) ≤ attributes_size rest → attributes_size (cond (not b) (a ∷ attributes_without_attribute kind rest) (attributes_without_attribute kind rest)) ≤ attributes_size (a ∷ rest)
+    go : (b : Bool) → attributes_size (attributes_without kind rest) ≤ attributes_size rest → attributes_size (cond (not b) (a ∷ attributes_without kind rest) (attributes_without kind rest)) ≤ attributes_size (a ∷ rest)
     go true l = omega (arith, sum_by-cons (λ (x : ℕ × List ℕ). 4 + length x.1) a rest)
-    go false l = omega (arith, sum_by-cons (λ (x : ℕ × List ℕ). 4 + length x.1) a rest, sum_by-cons (λ (x : ℕ × List ℕ). 4 + length x.1) a (attributes_without_attribute kind rest))
+    go false l = omega (arith, sum_by-cons (λ (x : ℕ × List ℕ). 4 + length x.1) a rest, sum_by-cons (λ (x : ℕ × List ℕ). 4 + length x.1) a (attributes_without kind rest))
 
 -- with another struct
-pub complete_struct : (s : RawSlot) (t : Slot) (part : ℕ × List ℕ) → slot_if_name_and_struct_present s ≡ Some t → slot_if_name_and_struct_present (record s { struct = Some part }) ≡ Some (record t { struct = struct_of_type_and_bytes part.0 part.1 })
+pub complete_struct : (s : RawSlot) (t : Slot) (part : ℕ × List ℕ) → complete_slot s ≡ Some t → complete_slot (record s { struct = Some part }) ≡ Some (record t { struct = read_struct part.0 part.1 })
 complete_struct s t part h = go s.name s.struct h
   where
     go : (o q : Option (ℕ × List ℕ)) → option_and_then (λ name. option_map (λ struct. record {
-      kind = kind_of_name_type name.0;
+      kind = kind_of_type name.0;
       name = name.1;
-      struct = struct_of_type_and_bytes struct.0 struct.1;
+      struct = read_struct struct.0 struct.1;
       attributes = s.attributes;
     }) q) o ≡ Some t → option_and_then (λ name. option_map (λ struct. record {
-      kind = kind_of_name_type name.0;
+      kind = kind_of_type name.0;
       name = name.1;
-      struct = struct_of_type_and_bytes struct.0 struct.1;
+      struct = read_struct struct.0 struct.1;
       attributes = s.attributes;
-    }) (Some part)) o ≡ Some (record t { struct = struct_of_type_and_bytes part.0 part.1 })
+    }) (Some part)) o ≡ Some (record t { struct = read_struct part.0 part.1 })
     go None q k = absurd (cc)
     go (Some n) None k = absurd (cc)
     go (Some n) (Some q) k =
-        let same = same_Some (record { kind = kind_of_name_type n.0; name = n.1; struct = struct_of_type_and_bytes q.0 q.1; attributes = s.attributes }) t k in
-        ap (λ (x : Slot). Some (record x { struct = struct_of_type_and_bytes part.0 part.1 })) same
+        let same = same_Some (record { kind = kind_of_type n.0; name = n.1; struct = read_struct q.0 q.1; attributes = s.attributes }) t k in
+        ap (λ (x : Slot). Some (record x { struct = read_struct part.0 part.1 })) same

@@ -1,10 +1,10 @@
 -- Where slots stand after a recovery of an image whose set move was ended, they stand after one of the image from before.
 use Rattle.std.proofs.Common.{ℕ, zero, suc, ◌≡◌, ◌≤◌, inl, inr, Bool, true, false, cond, List, [], ◌∷◌, ◌++◌, map, length, Option, Some, None, refl, sym, ap, ap₂, subst, ◌∙◌, arith}
 use Rattle.std.specs.Prelude.{is_none}
-use Rattle.lfs_operations.proofs.Common.{Disk, IsContentFittingPairOnDisk, IsDirectoryUnreachedOrRemoved, directory_address_of_pair, directory_address_continued_by_hard_tail, pair_with_slots, pairs_without_moved_slot, IsContentFittingPair, Gstate, same_pair, Pair, gstate_of_pairs, is_hard_tail, pair_count_before_root, slots_not_moved, IsDirectoryAddressReachedBySomePath, fits_same, IsImageAfterTreeChange, Each, HasNoMove, unmoved_all, joined_parts, unmoved_elsewhere, KeptThread, HasSameGeometry}
-use Rattle.lfs_model.specs.Layout.{ArePairsKeptSplitOrDropped, IsPairKeptSplitOrDropped}
-use Rattle.lfs_model.specs.Operations as ops
-use Rattle.lfs_operations.specs.EndingMove.{IsEachRecoveryOfNewAllowedForOld}
+use Rattle.lfs_operations.proofs.Common.{Disk, FitsPair, IsDirectoryGone, directory_address, continued_address, pair_with_slots, pairs_without_moved, FitsInPair, Gstate, same_pair, Pair, pairs_gstate, is_hard_tail, pair_count_before_root, slots_not_moved, IsReachedBySome, fits_same, IsChangedImage, Each, HasNoMove, unmoved_all, joined_parts, unmoved_elsewhere, KeptThread, SameGeometryAs}
+use Rattle.lfs_model.specs.session.Layout.{ArePairsAfter, IsPairAfter}
+use Rattle.lfs_model.specs.session.Operations as ops
+use Rattle.lfs_operations.specs.EndingMove.{RecoveriesAreAllowed}
 
 -- ---- pairs of the same addresses and slots, which hard tails join alike
 
@@ -34,83 +34,83 @@ pub record GoAlike (disk other : Disk) (G H : ℕ × ℕ → Type 0) : Type 0 wh
   pub there : (a : ℕ × ℕ) → H a → G a
   pub back : (a : ℕ × ℕ) → G a → H a
 
-begin_kin : (from : Option (ℕ × ℕ)) (d e : Pair) → e.at ≡ d.at → directory_address_of_pair from e ≡ directory_address_of_pair from d
+begin_kin : (from : Option (ℕ × ℕ)) (d e : Pair) → e.at ≡ d.at → directory_address from e ≡ directory_address from d
 begin_kin None d e h = h
 begin_kin (Some a) d e h = refl
 
-onward_kin : (from : Option (ℕ × ℕ)) (d e : Pair) → IsKin d e → directory_address_continued_by_hard_tail from e ≡ directory_address_continued_by_hard_tail from d
+onward_kin : (from : Option (ℕ × ℕ)) (d e : Pair) → IsKin d e → continued_address from e ≡ continued_address from d
 onward_kin from d e k = ap₂ (λ (b : Bool) (a : ℕ × ℕ). cond b (Some a) None) k.hard (begin_kin from d e k.at)
 
 module _ (disk other : Disk) (G H : ℕ × ℕ → Type 0) (alike : GoAlike disk other G H) where
-  fits_on : (p : Pair) → IsContentFittingPairOnDisk other p → IsContentFittingPairOnDisk disk p
-  fits_on p h = subst (λ b. IsContentFittingPair b disk.page p.content) alike.block_size (subst (λ z. IsContentFittingPair other.block_size z p.content) alike.page h)
+  fits_on : (p : Pair) → FitsPair other p → FitsPair disk p
+  fits_on p h = subst (λ b. FitsInPair b disk.page p.content) alike.block_size (subst (λ z. FitsInPair other.block_size z p.content) alike.page h)
 
-  fits_off : (p : Pair) → IsContentFittingPairOnDisk disk p → IsContentFittingPairOnDisk other p
-  fits_off p h = subst (λ b. IsContentFittingPair b other.page p.content) (sym alike.block_size) (subst (λ z. IsContentFittingPair disk.block_size z p.content) (sym alike.page) h)
+  fits_off : (p : Pair) → FitsPair disk p → FitsPair other p
+  fits_off p h = subst (λ b. FitsInPair b other.page p.content) (sym alike.block_size) (subst (λ z. FitsInPair disk.block_size z p.content) (sym alike.page) h)
 
-  fits_kin : (d e : Pair) → e.content.slots ≡ d.content.slots → IsContentFittingPairOnDisk other e → IsContentFittingPairOnDisk disk d
+  fits_kin : (d e : Pair) → e.content.slots ≡ d.content.slots → FitsPair other e → FitsPair disk d
   fits_kin d e slots h = fits_same disk e d (sym slots) (fits_on e h)
 
-  fits_from : (d e : Pair) → e.content.slots ≡ d.content.slots → IsContentFittingPairOnDisk disk d → IsContentFittingPairOnDisk other e
+  fits_from : (d e : Pair) → e.content.slots ≡ d.content.slots → FitsPair disk d → FitsPair other e
   fits_from d e slots h = fits_off e (fits_same disk d e slots h)
 
-  stands_kin : (first : Bool) (g h : Type 0) (d e : Pair) (now : List Pair) → (h → g) → (g → h) → e.at ≡ d.at → e.content.slots ≡ d.content.slots → IsPairKeptSplitOrDropped other first h e now → IsPairKeptSplitOrDropped disk first g d now
+  stands_kin : (first : Bool) (g h : Type 0) (d e : Pair) (now : List Pair) → (h → g) → (g → h) → e.at ≡ d.at → e.content.slots ≡ d.content.slots → IsPairAfter other first h e now → IsPairAfter disk first g d now
   stands_kin first g h d e [] f b at slots (inl goes) = inl (f goes)
   stands_kin first g h d e [] f b at slots (inr k) = inr (k.0, sym slots ∙ k.1)
   stands_kin first g h d e (q ∷ []) f b at slots s = (s.0 ∙ at, s.1 ∙ slots, fits_kin d e slots s.2, (λ x. s.3 (b x)), λ n none. s.4 n (slots ∙ none))
   stands_kin first g h d e (q ∷ r ∷ []) f b at slots s = (s.0 ∙ at, s.1 ∙ slots, (λ x. s.2 (fits_from d e slots x)), fits_on q s.3, fits_on r s.4, λ x. s.5 (b x))
   stands_kin first g h d e (q ∷ r ∷ t ∷ now) f b at slots s = absurd s
 
-  here_kin : (from : Option (ℕ × ℕ)) (d e : Pair) (now : List Pair) → e.at ≡ d.at → e.content.slots ≡ d.content.slots → IsPairKeptSplitOrDropped other (is_none from) (H (directory_address_of_pair from e)) e now → IsPairKeptSplitOrDropped disk (is_none from) (G (directory_address_of_pair from d)) d now
-  here_kin from d e now at slots s = stands_kin (is_none from) (G (directory_address_of_pair from d)) (H (directory_address_of_pair from e)) d e now
-      (λ x. subst G (begin_kin from d e at) (alike.there (directory_address_of_pair from e) x)) (λ x. alike.back (directory_address_of_pair from e) (subst G (sym (begin_kin from d e at)) x)) at slots s
+  here_kin : (from : Option (ℕ × ℕ)) (d e : Pair) (now : List Pair) → e.at ≡ d.at → e.content.slots ≡ d.content.slots → IsPairAfter other (is_none from) (H (directory_address from e)) e now → IsPairAfter disk (is_none from) (G (directory_address from d)) d now
+  here_kin from d e now at slots s = stands_kin (is_none from) (G (directory_address from d)) (H (directory_address from e)) d e now
+      (λ x. subst G (begin_kin from d e at) (alike.there (directory_address from e) x)) (λ x. alike.back (directory_address from e) (subst G (sym (begin_kin from d e at)) x)) at slots s
 
-  pub stand_kin : (n : ℕ) (from : Option (ℕ × ℕ)) (ds es : List Pair) (parts : List (List Pair)) → AreKin ds es → ArePairsKeptSplitOrDropped other H n from es parts → ArePairsKeptSplitOrDropped disk G n from ds parts
+  pub stand_kin : (n : ℕ) (from : Option (ℕ × ℕ)) (ds es : List Pair) (parts : List (List Pair)) → AreKin ds es → ArePairsAfter other H n from es parts → ArePairsAfter disk G n from ds parts
   stand_kin n from [] [] [] k s = tt
   stand_kin n from [] [] (now ∷ parts) k s = absurd s
   stand_kin n from [] (e ∷ es) parts k s = absurd k
   stand_kin n from (d ∷ ds) [] parts k s = absurd k
   stand_kin n from (d ∷ ds) (e ∷ es) [] k s = absurd s
   stand_kin zero from (d ∷ ds) (e ∷ es) (now ∷ parts) k s =
-      (here_kin from d e now k.0.at k.0.slots s.0, stand_kin zero (directory_address_continued_by_hard_tail from d) ds es parts k.1 (subst (λ z. ArePairsKeptSplitOrDropped other H zero z es parts) (onward_kin from d e k.0) s.1))
+      (here_kin from d e now k.0.at k.0.slots s.0, stand_kin zero (continued_address from d) ds es parts k.1 (subst (λ z. ArePairsAfter other H zero z es parts) (onward_kin from d e k.0) s.1))
   stand_kin (suc n) from (d ∷ ds) (e ∷ es) (now ∷ parts) k s = (stands_kin true ⊥ ⊥ d e now (λ x. x) (λ x. x) k.0.at k.0.slots s.0, stand_kin n None ds es parts k.1 s.1)
 
   -- ---- a pair without slots goes
 
   pub record Filled (n : ℕ) (from : Option (ℕ × ℕ)) (ds joined : List Pair) : Type 0 where
     pub parts : List (List Pair)
-    pub stand : ArePairsKeptSplitOrDropped disk G n from ds parts
+    pub stand : ArePairsAfter disk G n from ds parts
     pub same : joined_parts parts ≡ joined
 
-  gap_here : (from : Option (ℕ × ℕ)) (d x e : Pair) (ds es : List Pair) (parts : List (List Pair)) → IsGap d x e → AreKin ds es → ArePairsKeptSplitOrDropped other H 0 from (e ∷ es) parts → Filled 0 from (d ∷ x ∷ ds) (joined_parts parts)
+  gap_here : (from : Option (ℕ × ℕ)) (d x e : Pair) (ds es : List Pair) (parts : List (List Pair)) → IsGap d x e → AreKin ds es → ArePairsAfter other H 0 from (e ∷ es) parts → Filled 0 from (d ∷ x ∷ ds) (joined_parts parts)
   gap_here from d x e ds es [] gap k s = absurd s
   gap_here from d x e ds es (now ∷ parts) gap k s = record {
     parts = now ∷ [] ∷ parts;
     stand = (
       here_kin from d e now gap.at gap.slots s.0,
-      subst (λ (z : Option (ℕ × ℕ)). ArePairsKeptSplitOrDropped disk G 0 z (x ∷ ds) ([] ∷ parts)) (sym on) (
+      subst (λ (z : Option (ℕ × ℕ)). ArePairsAfter disk G 0 z (x ∷ ds) ([] ∷ parts)) (sym on) (
         inr (refl, gap.none),
-        stand_kin 0 (directory_address_continued_by_hard_tail (Some (directory_address_of_pair from d)) x) ds es parts k (subst (λ z. ArePairsKeptSplitOrDropped other H 0 z es parts) same s.1),
+        stand_kin 0 (continued_address (Some (directory_address from d)) x) ds es parts k (subst (λ z. ArePairsAfter other H 0 z es parts) same s.1),
       ),
     );
     same = refl;
   }
     where
-      on : directory_address_continued_by_hard_tail from d ≡ Some (directory_address_of_pair from d)
-      on = ap (λ b. cond b (Some (directory_address_of_pair from d)) None) gap.led
+      on : continued_address from d ≡ Some (directory_address from d)
+      on = ap (λ b. cond b (Some (directory_address from d)) None) gap.led
 
-      same : directory_address_continued_by_hard_tail from e ≡ directory_address_continued_by_hard_tail (Some (directory_address_of_pair from d)) x
+      same : continued_address from e ≡ continued_address (Some (directory_address from d)) x
       same = ap₂ (λ (b : Bool) (a : ℕ × ℕ). cond b (Some a) None) gap.tail (begin_kin from d e gap.at)
 
   pub stand_gap : (n : ℕ) (from : Option (ℕ × ℕ)) (xs : List Pair) (d x : Pair) (ds ys : List Pair) (e : Pair) (es : List Pair) (parts : List (List Pair)) → n ≤ length xs → AreKin xs ys → IsGap d x e → AreKin ds es
-      → ArePairsKeptSplitOrDropped other H n from (ys ++ e ∷ es) parts → Filled n from (xs ++ d ∷ x ∷ ds) (joined_parts parts)
+      → ArePairsAfter other H n from (ys ++ e ∷ es) parts → Filled n from (xs ++ d ∷ x ∷ ds) (joined_parts parts)
   stand_gap zero from [] d x ds [] e es parts low k gap l s = gap_here from d x e ds es parts gap l s
   stand_gap (suc n) from [] d x ds ys e es parts low k gap l s = absurd (omega arith)
   stand_gap n from [] d x ds (y ∷ ys) e es parts low k gap l s = absurd k
   stand_gap n from (w ∷ xs) d x ds [] e es parts low k gap l s = absurd k
   stand_gap n from (w ∷ xs) d x ds (y ∷ ys) e es [] low k gap l s = absurd s
   stand_gap zero from (w ∷ xs) d x ds (y ∷ ys) e es (now ∷ parts) low k gap l s =
-      let r = stand_gap zero (directory_address_continued_by_hard_tail from w) xs d x ds ys e es parts (omega arith) k.1 gap l (subst (λ z. ArePairsKeptSplitOrDropped other H zero z (ys ++ e ∷ es) parts) (onward_kin from w y k.0) s.1) in
+      let r = stand_gap zero (continued_address from w) xs d x ds ys e es parts (omega arith) k.1 gap l (subst (λ z. ArePairsAfter other H zero z (ys ++ e ∷ es) parts) (onward_kin from w y k.0) s.1) in
       record { parts = now ∷ r.parts; stand = (here_kin from w y now k.0.at k.0.slots s.0, r.stand); same = ap (λ z. now ++ z) r.same }
   stand_gap (suc n) from (w ∷ xs) d x ds (y ∷ ys) e es (now ∷ parts) low k gap l s =
       let r = stand_gap n None xs d x ds ys e es parts (omega arith) k.1 gap l s.1 in
@@ -146,55 +146,55 @@ hidden_in_none g (p ∷ ps) n = ap₂ (λ (s : Pair) (z : List Pair). s ∷ z) (
 -- ---- of two threads
 
 -- paths lead to the same directories
-pub go_alike : (old new : KeptThread) (walk : IsImageAfterTreeChange old.disk old.pairs new.disk new.pairs (λ t. t) (λ d. d)) → HasSameGeometry old.disk new.disk → GoAlike old.disk new.disk (IsDirectoryUnreachedOrRemoved old.pairs ops.Recover) (IsDirectoryUnreachedOrRemoved new.pairs ops.Recover)
+pub go_alike : (old new : KeptThread) (walk : IsChangedImage old.disk old.pairs new.disk new.pairs (λ t. t) (λ d. d)) → SameGeometryAs old.disk new.disk → GoAlike old.disk new.disk (IsDirectoryGone old.pairs ops.Recover) (IsDirectoryGone new.pairs ops.Recover)
 go_alike old new walk shape = record { block_size = shape.block_size; page = shape.page; there = there; back = back }
   where
-    on : (a : ℕ × ℕ) → IsDirectoryAddressReachedBySomePath old.pairs a → IsDirectoryAddressReachedBySomePath new.pairs a
+    on : (a : ℕ × ℕ) → IsReachedBySome old.pairs a → IsReachedBySome new.pairs a
     on a (path, at, (l, s)) = (path, at, (ap (λ z. z path) walk.leads ∙ l, s))
 
-    off : (a : ℕ × ℕ) → IsDirectoryAddressReachedBySomePath new.pairs a → IsDirectoryAddressReachedBySomePath old.pairs a
+    off : (a : ℕ × ℕ) → IsReachedBySome new.pairs a → IsReachedBySome old.pairs a
     off a (path, at, (l, s)) = (path, at, (ap (λ z. z path) (sym walk.leads) ∙ l, s))
 
-    there : (a : ℕ × ℕ) → IsDirectoryUnreachedOrRemoved new.pairs ops.Recover a → IsDirectoryUnreachedOrRemoved old.pairs ops.Recover a
+    there : (a : ℕ × ℕ) → IsDirectoryGone new.pairs ops.Recover a → IsDirectoryGone old.pairs ops.Recover a
     there a (inl n) = inl (λ r. n (on a r))
     there a (inr k) = inr k
 
-    back : (a : ℕ × ℕ) → IsDirectoryUnreachedOrRemoved old.pairs ops.Recover a → IsDirectoryUnreachedOrRemoved new.pairs ops.Recover a
+    back : (a : ℕ × ℕ) → IsDirectoryGone old.pairs ops.Recover a → IsDirectoryGone new.pairs ops.Recover a
     back a (inl n) = inl (λ r. n (off a r))
     back a (inr k) = inr k
 
-module _ (old new : KeptThread) (alike : GoAlike old.disk new.disk (IsDirectoryUnreachedOrRemoved old.pairs ops.Recover) (IsDirectoryUnreachedOrRemoved new.pairs ops.Recover)) (none : HasNoMove (gstate_of_pairs new.pairs)) (same : pair_count_before_root new.pairs ≡ pair_count_before_root old.pairs) where
-  stand_now : (drafts : List Pair) (parts : List (List Pair)) → drafts ≡ pairs_without_moved_slot new.pairs → ArePairsKeptSplitOrDropped new.disk (IsDirectoryUnreachedOrRemoved new.pairs ops.Recover) (pair_count_before_root new.pairs) None drafts parts
-      → ArePairsKeptSplitOrDropped new.disk (IsDirectoryUnreachedOrRemoved new.pairs ops.Recover) (pair_count_before_root old.pairs) None new.pairs parts
-  stand_now drafts parts e s = subst (λ n. ArePairsKeptSplitOrDropped new.disk (IsDirectoryUnreachedOrRemoved new.pairs ops.Recover) n None new.pairs parts) same
-      (subst (λ z. ArePairsKeptSplitOrDropped new.disk (IsDirectoryUnreachedOrRemoved new.pairs ops.Recover) (pair_count_before_root new.pairs) None z parts) (e ∙ hidden_in_none (gstate_of_pairs new.pairs) new.pairs none) s)
+module _ (old new : KeptThread) (alike : GoAlike old.disk new.disk (IsDirectoryGone old.pairs ops.Recover) (IsDirectoryGone new.pairs ops.Recover)) (none : HasNoMove (pairs_gstate new.pairs)) (same : pair_count_before_root new.pairs ≡ pair_count_before_root old.pairs) where
+  stand_now : (drafts : List Pair) (parts : List (List Pair)) → drafts ≡ pairs_without_moved new.pairs → ArePairsAfter new.disk (IsDirectoryGone new.pairs ops.Recover) (pair_count_before_root new.pairs) None drafts parts
+      → ArePairsAfter new.disk (IsDirectoryGone new.pairs ops.Recover) (pair_count_before_root old.pairs) None new.pairs parts
+  stand_now drafts parts e s = subst (λ n. ArePairsAfter new.disk (IsDirectoryGone new.pairs ops.Recover) n None new.pairs parts) same
+      (subst (λ z. ArePairsAfter new.disk (IsDirectoryGone new.pairs ops.Recover) (pair_count_before_root new.pairs) None z parts) (e ∙ hidden_in_none (pairs_gstate new.pairs) new.pairs none) s)
 
-  pub laid_out_kin : AreKin (pairs_without_moved_slot old.pairs) new.pairs → IsEachRecoveryOfNewAllowedForOld old new
+  pub laid_out_kin : AreKin (pairs_without_moved old.pairs) new.pairs → RecoveriesAreAllowed old new
   laid_out_kin kin s disk qs h = record {
-    drafts = pairs_without_moved_slot old.pairs;
+    drafts = pairs_without_moved old.pairs;
     parts = h.parts;
     front = h.front;
     fresh = h.fresh;
     back = h.back;
     edits = (h.edits.0, refl);
-    stand = stand_kin old.disk new.disk (IsDirectoryUnreachedOrRemoved old.pairs ops.Recover) (IsDirectoryUnreachedOrRemoved new.pairs ops.Recover) alike (pair_count_before_root old.pairs) None (pairs_without_moved_slot old.pairs) new.pairs h.parts kin (stand_now h.drafts h.parts h.edits.1 h.stand);
+    stand = stand_kin old.disk new.disk (IsDirectoryGone old.pairs ops.Recover) (IsDirectoryGone new.pairs ops.Recover) alike (pair_count_before_root old.pairs) None (pairs_without_moved old.pairs) new.pairs h.parts kin (stand_now h.drafts h.parts h.edits.1 h.stand);
     joined = h.joined;
     is = h.is;
   }
 
-  pub laid_out_gap : (xs : List Pair) (d x : Pair) (ds ys : List Pair) (e : Pair) (es : List Pair) → pairs_without_moved_slot old.pairs ≡ xs ++ d ∷ x ∷ ds → new.pairs ≡ ys ++ e ∷ es → pair_count_before_root old.pairs ≤ length xs
-      → AreKin xs ys → IsGap d x e → AreKin ds es → IsEachRecoveryOfNewAllowedForOld old new
+  pub laid_out_gap : (xs : List Pair) (d x : Pair) (ds ys : List Pair) (e : Pair) (es : List Pair) → pairs_without_moved old.pairs ≡ xs ++ d ∷ x ∷ ds → new.pairs ≡ ys ++ e ∷ es → pair_count_before_root old.pairs ≤ length xs
+      → AreKin xs ys → IsGap d x e → AreKin ds es → RecoveriesAreAllowed old new
   laid_out_gap xs d x ds ys e es was is low k gap l s disk qs h =
-      let now = subst (λ z. ArePairsKeptSplitOrDropped new.disk (IsDirectoryUnreachedOrRemoved new.pairs ops.Recover) (pair_count_before_root old.pairs) None z h.parts) is (stand_now h.drafts h.parts h.edits.1 h.stand) in
-      let r = stand_gap old.disk new.disk (IsDirectoryUnreachedOrRemoved old.pairs ops.Recover) (IsDirectoryUnreachedOrRemoved new.pairs ops.Recover) alike (pair_count_before_root old.pairs) None xs d x ds ys e es h.parts low k gap l now in
+      let now = subst (λ z. ArePairsAfter new.disk (IsDirectoryGone new.pairs ops.Recover) (pair_count_before_root old.pairs) None z h.parts) is (stand_now h.drafts h.parts h.edits.1 h.stand) in
+      let r = stand_gap old.disk new.disk (IsDirectoryGone old.pairs ops.Recover) (IsDirectoryGone new.pairs ops.Recover) alike (pair_count_before_root old.pairs) None xs d x ds ys e es h.parts low k gap l now in
       record {
-        drafts = pairs_without_moved_slot old.pairs;
+        drafts = pairs_without_moved old.pairs;
         parts = r.parts;
         front = h.front;
         fresh = h.fresh;
         back = h.back;
         edits = (h.edits.0, refl);
-        stand = subst (λ z. ArePairsKeptSplitOrDropped old.disk (IsDirectoryUnreachedOrRemoved old.pairs ops.Recover) (pair_count_before_root old.pairs) None z r.parts) (sym was) r.stand;
+        stand = subst (λ z. ArePairsAfter old.disk (IsDirectoryGone old.pairs ops.Recover) (pair_count_before_root old.pairs) None z r.parts) (sym was) r.stand;
         joined = r.same ∙ h.joined;
         is = h.is;
       }

@@ -1,68 +1,68 @@
 -- The lists of pairs that go in a recovery: they are known by the pairs' numbers, and stay on the disk.
 use Rattle.std.proofs.Common.{ℕ, zero, suc, ◌≡◌, ◌≢◌, ◌+◌, ◌≤◌, inl, inr, List, [], ◌∷◌, ◌++◌, length, Option, refl, sym, ap, subst, ◌∙◌, arith, append-nil, length-append, append_assoc}
 use Rattle.std.specs.Prelude.{slice_index_or}
-use Rattle.lfs_operations.proofs.Common.{flat_map-append, All-from_recursion, SameGeometry, block_bytes_on_disk, directory_address_continued_by_hard_tail, Slot, Pair, blocks_of_pairs, gstate_of_pairs, IsAcceptedImage, skip_list_blocks_of_struct, used_blocks, SameFiles, slots_files, Each, occurrence_count_of_number, count_append, each_always, each_from_counted, each_joined, each_left, each_pieces, each_right, once_from_distinct, HasSameFileBlocksOfStructOnDisks, HasNoMove, file_blocks_of_slots, slots_of_pairs_in_order, KeptThread, ThreadChangesOnlyTheseBlocks, empty_pair_at_anchor}
-use Rattle.lfs_operations.specs.Recovering.{AreUnreachedPairNumbersFrom, list_blocks_of_numbered_pairs, slots_of_numbered_pairs}
+use Rattle.lfs_operations.proofs.Common.{flat_map-append, All-from_recursion, SameGeometry, disk_block, continued_address, Slot, Pair, blocks_of_pairs, pairs_gstate, IsAccepted, struct_blocks, used_blocks, SameFiles, slots_files, Each, number_count, count_append, each_always, each_from_counted, each_joined, each_left, each_pieces, each_right, once_from_distinct, SameFileBlocks, HasNoMove, file_blocks, all_slots, KeptThread, ChangesThreadBlocks, empty_anchor}
+use Rattle.lfs_operations.specs.Recovering.{AreUnreachedFrom, numbered_blocks, numbered_slots}
 use Rattle.lfs_operations.proofs.RecoverWrites.{none_there}
 use Rattle.lfs_operations.proofs.Owning.{count_used}
 
 -- ---- numbers
 
 -- the same pairs have the same numbers
-pub reported_once : (R : ℕ × ℕ → Type 0) (n : ℕ) (from : Option (ℕ × ℕ)) (xs : List Pair) (us vs : List ℕ) → AreUnreachedPairNumbersFrom R n from xs us → AreUnreachedPairNumbersFrom R n from xs vs → us ≡ vs
+pub reported_once : (R : ℕ × ℕ → Type 0) (n : ℕ) (from : Option (ℕ × ℕ)) (xs : List Pair) (us vs : List ℕ) → AreUnreachedFrom R n from xs us → AreUnreachedFrom R n from xs vs → us ≡ vs
 reported_once R n from [] us vs h k = h ∙ sym k
-reported_once R n from (x ∷ xs) us vs (inl h) (inl k) = reported_once R (suc n) (directory_address_continued_by_hard_tail from x) xs us vs h.1 k.1
+reported_once R n from (x ∷ xs) us vs (inl h) (inl k) = reported_once R (suc n) (continued_address from x) xs us vs h.1 k.1
 reported_once R n from (x ∷ xs) us vs (inl h) (inr k) = absurd (k.1.1.0 h.0)
 reported_once R n from (x ∷ xs) us vs (inr h) (inl k) = absurd (h.1.1.0 k.0)
-reported_once R n from (x ∷ xs) us vs (inr h) (inr k) = h.1.0 ∙ ap (λ z. n ∷ z) (reported_once R (suc n) (directory_address_continued_by_hard_tail from x) xs h.0 k.0 h.1.1.1 k.1.1.1) ∙ sym k.1.0
+reported_once R n from (x ∷ xs) us vs (inr h) (inr k) = h.1.0 ∙ ap (λ z. n ∷ z) (reported_once R (suc n) (continued_address from x) xs h.0 k.0 h.1.1.1 k.1.1.1) ∙ sym k.1.0
 
-there : (xs : List Pair) (x : Pair) (ys : List Pair) → slice_index_or (xs ++ x ∷ ys) (length xs) empty_pair_at_anchor ≡ x
+there : (xs : List Pair) (x : Pair) (ys : List Pair) → slice_index_or (xs ++ x ∷ ys) (length xs) empty_anchor ≡ x
 there [] x ys = refl
 there (z ∷ xs) x ys = there xs x ys
 
 -- the pair behind so many
-pub numbered : (ps chain seen : List Pair) (x : Pair) (todo : List Pair) (number : ℕ) → ps ≡ chain ++ (seen ++ x ∷ todo) → number ≡ length chain + length seen → slice_index_or ps number empty_pair_at_anchor ≡ x
+pub numbered : (ps chain seen : List Pair) (x : Pair) (todo : List Pair) (number : ℕ) → ps ≡ chain ++ (seen ++ x ∷ todo) → number ≡ length chain + length seen → slice_index_or ps number empty_anchor ≡ x
 numbered ps chain seen x todo number are is =
-    ap (λ z. slice_index_or ps z empty_pair_at_anchor) (is ∙ sym (length-append chain seen)) ∙ ap (λ z. slice_index_or z (length (chain ++ seen)) empty_pair_at_anchor) (are ∙ sym (append_assoc chain seen (x ∷ todo))) ∙ there (chain ++ seen) x todo
+    ap (λ z. slice_index_or ps z empty_anchor) (is ∙ sym (length-append chain seen)) ∙ ap (λ z. slice_index_or z (length (chain ++ seen)) empty_anchor) (are ∙ sym (append_assoc chain seen (x ∷ todo))) ∙ there (chain ++ seen) x todo
 
-pub lists_more : (t : KeptThread) (took : List ℕ) (number : ℕ) (x : Pair) → slice_index_or t.pairs number empty_pair_at_anchor ≡ x → list_blocks_of_numbered_pairs t (took ++ number ∷ []) ≡ list_blocks_of_numbered_pairs t took ++ file_blocks_of_slots t.disk x.content.slots
+pub lists_more : (t : KeptThread) (took : List ℕ) (number : ℕ) (x : Pair) → slice_index_or t.pairs number empty_anchor ≡ x → numbered_blocks t (took ++ number ∷ []) ≡ numbered_blocks t took ++ file_blocks t.disk x.content.slots
 lists_more t took number x is =
-    ap (file_blocks_of_slots t.disk) (flat_map-append (λ n. (slice_index_or t.pairs n empty_pair_at_anchor).content.slots) took (number ∷ []))
-    ∙ flat_map-append (λ (s : Slot). skip_list_blocks_of_struct t.disk s.struct) (slots_of_numbered_pairs t.pairs took) (slots_of_numbered_pairs t.pairs (number ∷ []))
-    ∙ ap (λ z. list_blocks_of_numbered_pairs t took ++ file_blocks_of_slots t.disk z) (append-nil (slice_index_or t.pairs number empty_pair_at_anchor).content.slots ∙ ap (λ (p : Pair). p.content.slots) is)
+    ap (file_blocks t.disk) (flat_map-append (λ n. (slice_index_or t.pairs n empty_anchor).content.slots) took (number ∷ []))
+    ∙ flat_map-append (λ (s : Slot). struct_blocks t.disk s.struct) (numbered_slots t.pairs took) (numbered_slots t.pairs (number ∷ []))
+    ∙ ap (λ z. numbered_blocks t took ++ file_blocks t.disk z) (append-nil (slice_index_or t.pairs number empty_anchor).content.slots ∙ ap (λ (p : Pair). p.content.slots) is)
 
 -- ---- on the disk
 
 -- no block of a list is a pair's
-pub files_kept : (t u : KeptThread) → IsAcceptedImage t.disk t.pairs → HasNoMove (gstate_of_pairs t.pairs) → ThreadChangesOnlyTheseBlocks (blocks_of_pairs t.pairs) t u → SameFiles t.disk u.disk (slots_of_pairs_in_order t.pairs)
-files_kept t u ok none w = go (slots_of_pairs_in_order t.pairs) (λ b. omega arith)
+pub files_kept : (t u : KeptThread) → IsAccepted t.disk t.pairs → HasNoMove (pairs_gstate t.pairs) → ChangesThreadBlocks (blocks_of_pairs t.pairs) t u → SameFiles t.disk u.disk (all_slots t.pairs)
+files_kept t u ok none w = go (all_slots t.pairs) (λ b. omega arith)
   where
-    go : (slots : List Slot) → ((b : ℕ) → occurrence_count_of_number b (file_blocks_of_slots t.disk slots) ≤ occurrence_count_of_number b (file_blocks_of_slots t.disk (slots_of_pairs_in_order t.pairs))) → SameFiles t.disk u.disk slots
+    go : (slots : List Slot) → ((b : ℕ) → number_count b (file_blocks t.disk slots) ≤ number_count b (file_blocks t.disk (all_slots t.pairs))) → SameFiles t.disk u.disk slots
     go [] fewer = tt
     go (s ∷ slots) fewer = (
-      each_from_counted (λ b. block_bytes_on_disk u.disk b ≡ block_bytes_on_disk t.disk b) (skip_list_blocks_of_struct t.disk s.struct) (λ b some. w.others.others b (All-from_recursion (λ c. c ≢ b) (blocks_of_pairs t.pairs) (none_there b (blocks_of_pairs t.pairs) (
-          let a = count_append b (skip_list_blocks_of_struct t.disk s.struct) (file_blocks_of_slots t.disk slots) in
+      each_from_counted (λ b. disk_block u.disk b ≡ disk_block t.disk b) (struct_blocks t.disk s.struct) (λ b some. w.others.others b (All-from_recursion (λ c. c ≢ b) (blocks_of_pairs t.pairs) (none_there b (blocks_of_pairs t.pairs) (
+          let a = count_append b (struct_blocks t.disk s.struct) (file_blocks t.disk slots) in
           let f = fewer b in
           let c = count_used b t.disk t.pairs none in
           let o = once_from_distinct (used_blocks t.disk t.pairs) ok.owned_once b in
           omega arith)))),
-      go slots (λ b. let a = count_append b (skip_list_blocks_of_struct t.disk s.struct) (file_blocks_of_slots t.disk slots) in let f = fewer b in omega arith),
+      go slots (λ b. let a = count_append b (struct_blocks t.disk s.struct) (file_blocks t.disk slots) in let f = fewer b in omega arith),
     )
 
 -- what holds of each slot holds of those of the pairs of some numbers
-pub each_at : (P : Slot → Type 0) (ps : List Pair) (numbers : List ℕ) → Each P (slots_of_pairs_in_order ps) → Each P (slots_of_numbered_pairs ps numbers)
-each_at P ps numbers h = each_joined P (λ n. (slice_index_or ps n empty_pair_at_anchor).content.slots) numbers (each_always (λ n. Each P (slice_index_or ps n empty_pair_at_anchor).content.slots) (λ n. one ps n h) numbers)
+pub each_at : (P : Slot → Type 0) (ps : List Pair) (numbers : List ℕ) → Each P (all_slots ps) → Each P (numbered_slots ps numbers)
+each_at P ps numbers h = each_joined P (λ n. (slice_index_or ps n empty_anchor).content.slots) numbers (each_always (λ n. Each P (slice_index_or ps n empty_anchor).content.slots) (λ n. one ps n h) numbers)
   where
-    one : (ps : List Pair) (n : ℕ) → Each P (slots_of_pairs_in_order ps) → Each P (slice_index_or ps n empty_pair_at_anchor).content.slots
+    one : (ps : List Pair) (n : ℕ) → Each P (all_slots ps) → Each P (slice_index_or ps n empty_anchor).content.slots
     one [] n h = tt
-    one (p ∷ ps) zero h = each_left P p.content.slots (slots_of_pairs_in_order ps) h
-    one (p ∷ ps) (suc n) h = one ps n (each_right P p.content.slots (slots_of_pairs_in_order ps) h)
+    one (p ∷ ps) zero h = each_left P p.content.slots (all_slots ps) h
+    one (p ∷ ps) (suc n) h = one ps n (each_right P p.content.slots (all_slots ps) h)
 
 -- the lists of the pair behind so many are as they were
-pub lists_kept : (t u : KeptThread) (chain seen : List Pair) (x : Pair) (todo : List Pair) → t.pairs ≡ chain ++ (seen ++ x ∷ todo) → IsAcceptedImage t.disk t.pairs → HasNoMove (gstate_of_pairs t.pairs) → ThreadChangesOnlyTheseBlocks (blocks_of_pairs t.pairs) t u
-    → file_blocks_of_slots u.disk x.content.slots ≡ file_blocks_of_slots t.disk x.content.slots
+pub lists_kept : (t u : KeptThread) (chain seen : List Pair) (x : Pair) (todo : List Pair) → t.pairs ≡ chain ++ (seen ++ x ∷ todo) → IsAccepted t.disk t.pairs → HasNoMove (pairs_gstate t.pairs) → ChangesThreadBlocks (blocks_of_pairs t.pairs) t u
+    → file_blocks u.disk x.content.slots ≡ file_blocks t.disk x.content.slots
 lists_kept t u chain seen x todo are ok none w = slots_files t.disk u.disk x.content.slots geometry (each_right Q seen (x ∷ todo) (each_right Q chain (seen ++ x ∷ todo) (subst (Each Q) are
-    (each_pieces (λ (s : Slot). HasSameFileBlocksOfStructOnDisks t.disk u.disk s.struct) (λ (p : Pair). p.content.slots) t.pairs (files_kept t u ok none w))))).0
+    (each_pieces (λ (s : Slot). SameFileBlocks t.disk u.disk s.struct) (λ (p : Pair). p.content.slots) t.pairs (files_kept t u ok none w))))).0
   where
     Q : Pair → Type 0
     Q p = SameFiles t.disk u.disk p.content.slots

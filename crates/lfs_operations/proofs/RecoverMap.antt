@@ -1,36 +1,36 @@
 -- Which blocks the map has on the way: those of the image, and those of lists that only pairs had that are gone.
 use Rattle.std.proofs.Common.{ℕ, ◌-◌, ◌≡◌, ◌+◌, ◌≤◌, List, [], ◌∷◌, ◌++◌, length, refl, sym, ap, ap₂, subst, ◌∙◌, arith}
-use Rattle.lfs_operations.proofs.Common.{AreExactlyTheUsedBlocks, SameGeometry, block_count, Gstate, Pair, blocks_of_pairs, blocks_of_pair_address, gstate_of_pairs, all_slots_not_moved, used_blocks, ArePairsWithSameAddressesAndSlots, SameFiles, slots_files, occurrence_count_of_number, count_append, HasNoMove, Site, file_blocks_of_slots, slots_of_pairs_in_order, unmoved_in, KeptThread}
-use Rattle.lfs_operations.specs.Dropping.{HasSameBlocksInFlight, IsNextPairDropped}
+use Rattle.lfs_operations.proofs.Common.{AreUsed, SameGeometry, block_count, Gstate, Pair, blocks_of_pairs, address_blocks, pairs_gstate, all_slots_not_moved, used_blocks, SameSlots, SameFiles, slots_files, number_count, count_append, HasNoMove, Site, file_blocks, all_slots, unmoved_in, KeptThread}
+use Rattle.lfs_operations.specs.Dropping.{SameInFlight, IsPairDropped}
 use Rattle.lfs_operations.proofs.Dropped.{HasMapWithout, IsToBeDropped, map_left, map_without, used_left}
 pub use Rattle.lfs_operations.proofs.Owning.{count_used}
 
 -- the map has the image's blocks and those that are gone, each once
 pub record HasMap (t : KeptThread) (gone : List ℕ) : Type 0 where
   pub owned : List ℕ
-  pub are : AreExactlyTheUsedBlocks t.map owned
-  pub same : (b : ℕ) → occurrence_count_of_number b owned ≡ occurrence_count_of_number b (used_blocks t.disk t.pairs) + occurrence_count_of_number b gone
-  pub once : (b : ℕ) → occurrence_count_of_number b owned ≤ 1
+  pub are : AreUsed t.map owned
+  pub same : (b : ℕ) → number_count b owned ≡ number_count b (used_blocks t.disk t.pairs) + number_count b gone
+  pub once : (b : ℕ) → number_count b owned ≤ 1
   pub size : length t.map ≡ block_count t.disk
 
 -- ---- a pair goes
 
 -- the map then has the lists of its slots beside the image's blocks
-pub map_drops : {now : KeptThread} {index : ℕ} {state : Gstate} {w : Site} {before x : Pair} (k : IsToBeDropped now index state w before x) (new : KeptThread) → IsNextPairDropped now (index - 1) state new → HasNoMove (gstate_of_pairs now.pairs) → HasNoMove state
-    → (gone : List ℕ) → HasMap now gone → HasMap new (gone ++ file_blocks_of_slots now.disk x.content.slots) × HasSameBlocksInFlight now.map new.map
+pub map_drops : {now : KeptThread} {index : ℕ} {state : Gstate} {w : Site} {before x : Pair} (k : IsToBeDropped now index state w before x) (new : KeptThread) → IsPairDropped now (index - 1) state new → HasNoMove (pairs_gstate now.pairs) → HasNoMove state
+    → (gone : List ℕ) → HasMap now gone → HasMap new (gone ++ file_blocks now.disk x.content.slots) × SameInFlight now.map new.map
 map_drops {now} {index} {state} {w} {before} {x} k new d none still gone h = (
   record { owned = owned; are = m.used; same = λ b. count_append b (used_blocks new.disk new.pairs) (gone ++ lists); once = λ b. let l = less b in let o = h.once b in omega arith; size = m.size ∙ h.size ∙ sym d.written.shape.count },
   m.flying,
 )
   where
     lists : List ℕ
-    lists = file_blocks_of_slots now.disk x.content.slots
+    lists = file_blocks now.disk x.content.slots
 
     owned : List ℕ
     owned = used_blocks new.disk new.pairs ++ (gone ++ lists)
 
     -- without the pair's own blocks
-    less : (b : ℕ) → occurrence_count_of_number b owned + occurrence_count_of_number b (blocks_of_pair_address x.at) ≡ occurrence_count_of_number b h.owned
+    less : (b : ℕ) → number_count b owned + number_count b (address_blocks x.at) ≡ number_count b h.owned
     less b =
         let c = count_append b (used_blocks new.disk new.pairs) (gone ++ lists) in
         let e = count_append b gone lists in
@@ -43,31 +43,31 @@ map_drops {now} {index} {state} {w} {before} {x} k new d none still gone h = (
 
 -- ---- the same addresses and slots
 
-pub alike_blocks : (xs ys : List Pair) → ArePairsWithSameAddressesAndSlots xs ys → blocks_of_pairs ys ≡ blocks_of_pairs xs
+pub alike_blocks : (xs ys : List Pair) → SameSlots xs ys → blocks_of_pairs ys ≡ blocks_of_pairs xs
 alike_blocks [] [] h = refl
 alike_blocks [] (y ∷ ys) h = absurd h
 alike_blocks (x ∷ xs) [] h = absurd h
 alike_blocks (x ∷ xs) (y ∷ ys) h = ap₂ (λ (a : ℕ × ℕ) (bs : List ℕ). a.0 ∷ a.1 ∷ bs) h.0 (alike_blocks xs ys h.2)
 
-alike_slots : (xs ys : List Pair) → ArePairsWithSameAddressesAndSlots xs ys → slots_of_pairs_in_order ys ≡ slots_of_pairs_in_order xs
+alike_slots : (xs ys : List Pair) → SameSlots xs ys → all_slots ys ≡ all_slots xs
 alike_slots [] [] h = refl
 alike_slots [] (y ∷ ys) h = absurd h
 alike_slots (x ∷ xs) [] h = absurd h
 alike_slots (x ∷ xs) (y ∷ ys) h = ap₂ (λ a b. a ++ b) h.1 (alike_slots xs ys h.2)
 
-module _ (now new : KeptThread) (alike : ArePairsWithSameAddressesAndSlots now.pairs new.pairs) (none : HasNoMove (gstate_of_pairs now.pairs)) (still : HasNoMove (gstate_of_pairs new.pairs))
+module _ (now new : KeptThread) (alike : SameSlots now.pairs new.pairs) (none : HasNoMove (pairs_gstate now.pairs)) (still : HasNoMove (pairs_gstate new.pairs))
     (geometry : SameGeometry now.disk new.disk) (files : SameFiles now.disk new.disk (all_slots_not_moved now.pairs)) where
-  pub files_stay : (b : ℕ) → occurrence_count_of_number b (file_blocks_of_slots new.disk (slots_of_pairs_in_order new.pairs)) ≡ occurrence_count_of_number b (file_blocks_of_slots now.disk (slots_of_pairs_in_order now.pairs))
-  files_stay b = ap (λ z. occurrence_count_of_number b (file_blocks_of_slots new.disk z)) (alike_slots now.pairs new.pairs alike)
-      ∙ ap (occurrence_count_of_number b) (slots_files now.disk new.disk (slots_of_pairs_in_order now.pairs) geometry (subst (SameFiles now.disk new.disk) (unmoved_in (gstate_of_pairs now.pairs) none now.pairs) files))
+  pub files_stay : (b : ℕ) → number_count b (file_blocks new.disk (all_slots new.pairs)) ≡ number_count b (file_blocks now.disk (all_slots now.pairs))
+  files_stay b = ap (λ z. number_count b (file_blocks new.disk z)) (alike_slots now.pairs new.pairs alike)
+      ∙ ap (number_count b) (slots_files now.disk new.disk (all_slots now.pairs) geometry (subst (SameFiles now.disk new.disk) (unmoved_in (pairs_gstate now.pairs) none now.pairs) files))
 
   pub map_stays : (gone : List ℕ) → new.map ≡ now.map → HasMap now gone → HasMap new gone
   map_stays gone map_is h = record {
     owned = h.owned;
-    are = subst (λ m. AreExactlyTheUsedBlocks m h.owned) (sym map_is) h.are;
+    are = subst (λ m. AreUsed m h.owned) (sym map_is) h.are;
     same = λ b.
         let f = files_stay b in
-        let k = ap (occurrence_count_of_number b) (alike_blocks now.pairs new.pairs alike) in
+        let k = ap (number_count b) (alike_blocks now.pairs new.pairs alike) in
         let u = count_used b new.disk new.pairs still in let v = count_used b now.disk now.pairs none in
         let s = h.same b in
         omega arith;

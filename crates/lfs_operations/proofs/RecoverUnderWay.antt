@@ -1,11 +1,11 @@
 -- How far a recovery is, from its beginning to its end.
 use Rattle.std.proofs.Common.{ℕ, suc, zero, ◌≡◌, ◌≢◌, ◌+◌, ◌-◌, ◌<◌, ◌≤◌, ◌⊎◌, inl, inr, true, false, cond, nat_eq, eq-eqb, List, [], ◌∷◌, ◌++◌, length, take, drop, Option, Some, None, refl, sym, ap, ap₂, subst, ◌∙◌, arith, append_assoc, length-append, slice_get}
 use Rattle.std.specs.Prelude.{is_some, slice_index_or}
-use Rattle.lfs_operations.proofs.Common.{ne_eqb, Blocks, Disk, directory_address_of_pair, directory_address_continued_by_hard_tail, IsTrueOfEachCallSince, HasTreeBeforeOrAfterOperation as IsLeftOf, SurvivesPowerLossInCallsSince, disk_with_blocks, Gstate, zero_gstate, same_pair, Pair, blocks_of_pairs, pairs_from_root_directory_on, first_pair_address, gstate_of_pairs, pair_count_before_root, blocks_of_pair_address, IsAcceptedImage, IsDirectoryAddressReachedBySomePath, tree_on_disk, used_blocks, IsWritableImage, survives_then, occurrence_count_of_number, count_append, once_from_distinct, HasDirectory, chain_of_thread, led_directory, HasNoMove, IsTrueAfterAnyPowerLossSince-weaker, joined_singles, onward_all, Ends, pair_back, pair_itself, pair_on, same_number, file_blocks_of_slots, slots_of_pairs_in_order, IsReady, IsUnthreaded, same_parts, PowerLossLeavesSuchBlocksAfterCleanErases, KeptThread, HasSameGeometry, ThreadChangesOnlyTheseBlocks, empty_pair_at_anchor, thread_pair_at_index}
-use Rattle.lfs_model.proofs.Histories.{IsTrueOfEachCallSince-weaker, goes_on_by}
+use Rattle.lfs_operations.proofs.Common.{ne_eqb, Blocks, Disk, directory_address, continued_address, AllCallsSince, HasEither as IsLeftOf, SurvivesLossSince, with_blocks, Gstate, zero_gstate, same_pair, Pair, blocks_of_pairs, pairs_from_root, first_address, pairs_gstate, pair_count_before_root, address_blocks, IsAccepted, IsReachedBySome, tree_on_disk, used_blocks, IsWritable, survives_then, number_count, count_append, once_from_distinct, HasDirectory, chain_of_thread, led_directory, HasNoMove, HoldsAtLosses-weaker, joined_singles, onward_all, Ends, pair_back, pair_itself, pair_on, same_number, file_blocks, all_slots, IsReady, IsUnthreaded, same_parts, LossLeavesCleanly, KeptThread, SameGeometryAs, ChangesThreadBlocks, empty_anchor, thread_pair_at}
+use Rattle.lfs_model.proofs.Histories.{AllCallsSince-weaker, goes_on_by}
 use Rattle.lfs_model.proofs.Recovering.{recovery_begins}
-use Rattle.lfs_operations.specs.Recovering.{AreUnreachedPairNumbers, AreUnreachedPairNumbersFrom, CanDropUnreachedPairs, list_blocks_of_numbered_pairs, gstate_zero_after_last_unreached_pair_drop}
-use Rattle.lfs_operations.specs.Dropping.{HasSameBlocksInFlight, CanDropPairAt, IsLeftByStoppedPairDrop, IsNextPairDropped, content_after_next_pair_drop}
+use Rattle.lfs_operations.specs.Recovering.{AreUnreachedNumbers, AreUnreachedFrom, CanDropPairs, numbered_blocks, gstate_after_drops}
+use Rattle.lfs_operations.specs.Dropping.{SameInFlight, CanDropAt, LeftByDrop, IsPairDropped, content_after_drop}
 use Rattle.lfs_operations.proofs.RecoverLists.{lists_kept, lists_more, numbered}
 use Rattle.lfs_operations.proofs.RecoverLoop.{FirstsOnly, IsAtDrop, IsAtEnd, IsOnWay, all_but, drops, goes_to, ready, soft, stands, sync_set, unled}
 use Rattle.lfs_operations.proofs.RecoverMap.{HasMap, map_drops}
@@ -20,8 +20,8 @@ use Rattle.lfs_operations.proofs.Threads.{get_behind}
 
 -- as many blocks and pages, of the same sizes; and the history goes on
 pub record StaysOn (old new : KeptThread) : Type 0 where
-  pub shape : HasSameGeometry old.disk new.disk
-  pub calls : IsTrueOfEachCallSince (λ e. Unit {0}) old.history new.history
+  pub shape : SameGeometryAs old.disk new.disk
+  pub calls : AllCallsSince (λ e. Unit {0}) old.history new.history
 
 pub stays_itself : (t : KeptThread) → StaysOn t t
 stays_itself t = record { shape = record { block_size = refl; page = refl; order = refl; profile = refl; count = refl }; calls = record { events = []; extends = refl; each = tt } }
@@ -32,30 +32,30 @@ stays_then a b c h k = record {
   calls = goes_on_by h.calls k.calls;
 }
 
-pub stays_by : (bs : List ℕ) (a b : KeptThread) → ThreadChangesOnlyTheseBlocks bs a b → StaysOn a b
-stays_by bs a b w = record { shape = w.shape; calls = IsTrueOfEachCallSince-weaker (λ e k. tt) w.at_worst }
+pub stays_by : (bs : List ℕ) (a b : KeptThread) → ChangesThreadBlocks bs a b → StaysOn a b
+stays_by bs a b w = record { shape = w.shape; calls = AllCallsSince-weaker (λ e k. tt) w.at_worst }
 
 -- ---- the beginning
 
 ends_on : (from : Option (ℕ × ℕ)) (p : Pair) (ps : List Pair) → Ends (p ∷ ps) → onward_all from (p ∷ ps) ≡ None
-ends_on from p [] h = ap (λ b. cond b (Some (directory_address_of_pair from p)) None) h
-ends_on from p (q ∷ ps) h = ends_on (directory_address_continued_by_hard_tail from p) q ps h
+ends_on from p [] h = ap (λ b. cond b (Some (directory_address from p)) None) h
+ends_on from p (q ∷ ps) h = ends_on (continued_address from p) q ps h
 
 ends_none : (before : List Pair) → Ends before → onward_all None before ≡ None
 ends_none [] h = refl
 ends_none (p ∷ ps) h = ends_on None p ps h
 
-module _ (disk : Disk) (ps : List Pair) (ok : IsAcceptedImage disk ps) where
+module _ (disk : Disk) (ps : List Pair) (ok : IsAccepted disk ps) where
   abbrev chain : List Pair
   chain = take (pair_count_before_root ps) ps
 
-  abbrev whole : ps ≡ take (pair_count_before_root ps) ps ++ pairs_from_root_directory_on ps
+  abbrev whole : ps ≡ take (pair_count_before_root ps) ps ++ pairs_from_root ps
   whole = (chain_of_thread ps).0
 
   -- no path leads to a pair that a hard tail leads to
-  not_led : (xs : List Pair) (y : Pair) (ys : List Pair) → pairs_from_root_directory_on ps ≡ xs ++ y ∷ ys → is_some (onward_all None xs) ≡ true → IsDirectoryAddressReachedBySomePath ps y.at → ⊥
+  not_led : (xs : List Pair) (y : Pair) (ys : List Pair) → pairs_from_root ps ≡ xs ++ y ∷ ys → is_some (onward_all None xs) ≡ true → IsReachedBySome ps y.at → ⊥
   not_led xs y ys parts hard (path, a, (l, s)) =
-      let d : HasDirectory (pairs_from_root_directory_on ps) a = led_directory disk ps path a ok l in
+      let d : HasDirectory (pairs_from_root ps) a = led_directory disk ps path a ok l in
       let one : ps ≡ (chain ++ d.before) ++ d.first ∷ (d.run ++ d.after) = whole ∙ ap (λ z. chain ++ z) d.is ∙ sym (append_assoc chain d.before (d.first ∷ (d.run ++ d.after))) in
       let two : ps ≡ (chain ++ xs) ++ y ∷ ys = whole ∙ ap (λ z. chain ++ z) parts ∙ sym (append_assoc chain xs (y ∷ ys)) in
       let first = ap (λ z. slice_get z (length (chain ++ d.before))) one ∙ get_behind (chain ++ d.before) d.first (d.run ++ d.after) in
@@ -64,19 +64,19 @@ module _ (disk : Disk) (ps : List Pair) (ok : IsAcceptedImage disk ps) where
       let same = same_parts d.before d.first (d.run ++ d.after) xs y ys (let e = length-append chain d.before in let f = length-append chain xs in omega arith) (sym d.is ∙ parts) in
       absurd (let none = ap (onward_all None) (sym same.front) ∙ ends_none d.before d.ends in let z = sym hard ∙ ap is_some none in cc)
 
-  firsts_from : (xs ys : List Pair) → pairs_from_root_directory_on ps ≡ xs ++ ys → FirstsOnly (IsDirectoryAddressReachedBySomePath ps) (onward_all None xs) ys
+  firsts_from : (xs ys : List Pair) → pairs_from_root ps ≡ xs ++ ys → FirstsOnly (IsReachedBySome ps) (onward_all None xs) ys
   firsts_from xs [] parts = tt
   firsts_from xs (y ∷ ys) parts = (
     not_led xs y ys parts,
-    subst (λ z. FirstsOnly (IsDirectoryAddressReachedBySomePath ps) z ys) (end_at None xs) (firsts_from (xs ++ y ∷ []) ys (parts ∙ sym (append_assoc xs (y ∷ []) ys))),
+    subst (λ z. FirstsOnly (IsReachedBySome ps) z ys) (end_at None xs) (firsts_from (xs ++ y ∷ []) ys (parts ∙ sym (append_assoc xs (y ∷ []) ys))),
   )
     where
-      end_at : (from : Option (ℕ × ℕ)) (xs : List Pair) → onward_all from (xs ++ y ∷ []) ≡ directory_address_continued_by_hard_tail (onward_all from xs) y
+      end_at : (from : Option (ℕ × ℕ)) (xs : List Pair) → onward_all from (xs ++ y ∷ []) ≡ continued_address (onward_all from xs) y
       end_at from [] = refl
-      end_at from (x ∷ xs) = end_at (directory_address_continued_by_hard_tail from x) xs
+      end_at from (x ∷ xs) = end_at (continued_address from x) xs
 
-  root_reached : (x : Pair) (xs : List Pair) → pairs_from_root_directory_on ps ≡ x ∷ xs → IsDirectoryAddressReachedBySomePath ps x.at
-  root_reached x xs e = ([], first_pair_address (pairs_from_root_directory_on ps), (refl, subst (λ z. same_pair x.at (first_pair_address z) ≡ true) (sym e) (pair_itself x.at)))
+  root_reached : (x : Pair) (xs : List Pair) → pairs_from_root ps ≡ x ∷ xs → IsReachedBySome ps x.at
+  root_reached x xs e = ([], first_address (pairs_from_root ps), (refl, subst (λ z. same_pair x.at (first_address z) ≡ true) (sym e) (pair_itself x.at)))
 
 -- ---- on the way
 
@@ -86,31 +86,31 @@ pub record IsUnderWay (old now : KeptThread) (dropped : ℕ) (numbers : List ℕ
   pub parts : List (List Pair)
   pub kept : List Pair
   pub way : IsOnWay old.disk old.pairs now dropped (take (pair_count_before_root old.pairs) old.pairs) seen todo parts kept numbers
-  pub state : 0 < dropped → numbers ≡ [] → gstate_of_pairs now.pairs ≡ zero_gstate
+  pub state : 0 < dropped → numbers ≡ [] → pairs_gstate now.pairs ≡ zero_gstate
   pub device : StaysOn old now
   pub gone : List ℕ
   pub map : HasMap now gone
-  pub was : IsAcceptedImage old.disk old.pairs
+  pub was : IsAccepted old.disk old.pairs
   pub took : List ℕ
-  pub reported : AreUnreachedPairNumbers old.pairs (took ++ numbers)
-  pub gone_are : gone ≡ list_blocks_of_numbered_pairs old took
-  pub lost : (b : ℕ) → occurrence_count_of_number b gone + occurrence_count_of_number b (file_blocks_of_slots now.disk (slots_of_pairs_in_order now.pairs)) ≡ occurrence_count_of_number b (file_blocks_of_slots old.disk (slots_of_pairs_in_order old.pairs))
-  pub flying : HasSameBlocksInFlight old.map now.map
-  pub fewer : (b : ℕ) → occurrence_count_of_number b (blocks_of_pairs now.pairs) ≤ occurrence_count_of_number b (blocks_of_pairs old.pairs)
-  pub writes : ThreadChangesOnlyTheseBlocks (blocks_of_pairs old.pairs) old now
-  pub survives : SurvivesPowerLossInCallsSince old.disk old.history now.history (tree_on_disk old.disk old.pairs) (tree_on_disk old.disk old.pairs)
+  pub reported : AreUnreachedNumbers old.pairs (took ++ numbers)
+  pub gone_are : gone ≡ numbered_blocks old took
+  pub lost : (b : ℕ) → number_count b gone + number_count b (file_blocks now.disk (all_slots now.pairs)) ≡ number_count b (file_blocks old.disk (all_slots old.pairs))
+  pub flying : SameInFlight old.map now.map
+  pub fewer : (b : ℕ) → number_count b (blocks_of_pairs now.pairs) ≤ number_count b (blocks_of_pairs old.pairs)
+  pub writes : ChangesThreadBlocks (blocks_of_pairs old.pairs) old now
+  pub survives : SurvivesLossSince old.disk old.history now.history (tree_on_disk old.disk old.pairs) (tree_on_disk old.disk old.pairs)
 
-pub begins : (t : KeptThread) (numbers : List ℕ) → CanDropUnreachedPairs t numbers → IsUnderWay t t 0 numbers
+pub begins : (t : KeptThread) (numbers : List ℕ) → CanDropPairs t numbers → IsUnderWay t t 0 numbers
 begins t numbers can =
     let ok = can.accepted in
     let fits = can.writable in
     let none = can.none in
     let reported = can.reported in
     let e = chain_of_thread t.pairs in
-    let occurrence_count_of_number : pair_count_before_root t.pairs ≡ length (take (pair_count_before_root t.pairs) t.pairs) + 0 + 0 = let a = ap pair_count_before_root e.0 in let b = e.1 in omega arith in
+    let number_count : pair_count_before_root t.pairs ≡ length (take (pair_count_before_root t.pairs) t.pairs) + 0 + 0 = let a = ap pair_count_before_root e.0 in let b = e.1 in omega arith in
     record {
       seen = [];
-      todo = pairs_from_root_directory_on t.pairs;
+      todo = pairs_from_root t.pairs;
       parts = [];
       kept = [];
       way = record {
@@ -118,8 +118,8 @@ begins t numbers can =
         there = e.0;
         counted = refl;
         no_move = none;
-        reported = subst (λ n. AreUnreachedPairNumbersFrom (IsDirectoryAddressReachedBySomePath t.pairs) n None (pairs_from_root_directory_on t.pairs) numbers) occurrence_count_of_number reported;
-        firsts = firsts_from t.disk t.pairs ok [] (pairs_from_root_directory_on t.pairs) refl;
+        reported = subst (λ n. AreUnreachedFrom (IsReachedBySome t.pairs) n None (pairs_from_root t.pairs) numbers) number_count reported;
+        firsts = firsts_from t.disk t.pairs ok [] (pairs_from_root t.pairs) refl;
         filled = fits.no_empty_pair;
         begins = tt;
         goes_on = inl refl;
@@ -172,7 +172,7 @@ next_goes old now dropped number rest u = go (goes_to old.disk old.pairs now dro
 -- the state that is wanted: none with the last one
 pub record IsWanted (now : KeptThread) (rest : List ℕ) (g : Gstate) : Type 0 where
   pub last : rest ≡ [] → g ≡ zero_gstate
-  pub other : rest ≢ [] → g ≡ gstate_of_pairs now.pairs
+  pub other : rest ≢ [] → g ≡ pairs_gstate now.pairs
 
 module _ (old now : KeptThread) (dropped number : ℕ) (rest : List ℕ) (n : IsNext old now dropped number rest) (g : Gstate) (want : IsWanted now rest g) where
   abbrev C : List Pair
@@ -181,8 +181,8 @@ module _ (old now : KeptThread) (dropped number : ℕ) (rest : List ℕ) (n : Is
   abbrev at : ℕ
   at = length C + length n.front
 
-  more : AreUnreachedPairNumbersFrom (IsDirectoryAddressReachedBySomePath old.pairs) (suc (length C + length n.goes.kept + dropped)) (directory_address_continued_by_hard_tail (onward_all None n.goes.seen) n.goes.x) n.goes.todo rest
-  more = subst (AreUnreachedPairNumbersFrom (IsDirectoryAddressReachedBySomePath old.pairs) (suc (length C + length n.goes.kept + dropped)) (directory_address_continued_by_hard_tail (onward_all None n.goes.seen) n.goes.x) n.goes.todo) (tail n.goes.is) n.goes.more
+  more : AreUnreachedFrom (IsReachedBySome old.pairs) (suc (length C + length n.goes.kept + dropped)) (continued_address (onward_all None n.goes.seen) n.goes.x) n.goes.todo rest
+  more = subst (AreUnreachedFrom (IsReachedBySome old.pairs) (suc (length C + length n.goes.kept + dropped)) (continued_address (onward_all None n.goes.seen) n.goes.x) n.goes.todo) (tail n.goes.is) n.goes.more
     where
       tail : {a b : ℕ} {us vs : List ℕ} → a ∷ us ≡ b ∷ vs → vs ≡ us
       tail e = cc
@@ -194,8 +194,8 @@ module _ (old now : KeptThread) (dropped number : ℕ) (rest : List ℕ) (n : Is
   is_ready = subst (IsReady now.disk C) (ap (λ z. z ++ n.goes.x ∷ n.goes.todo) n.split ∙ append_assoc n.front (n.before ∷ []) (n.goes.x ∷ n.goes.todo))
       (ready n.goes.way n.goes.unreached n.front n.before n.split)
 
-  now_none : HasNoMove (gstate_of_pairs now.pairs)
-  now_none = subst (λ z. HasNoMove (gstate_of_pairs z)) (sym whole_is) is_ready.no_move
+  now_none : HasNoMove (pairs_gstate now.pairs)
+  now_none = subst (λ z. HasNoMove (pairs_gstate z)) (sym whole_is) is_ready.no_move
 
   cases : (HasNoMove g) × (g.sync ≡ false → rest ≡ [])
   cases = go rest refl
@@ -212,14 +212,14 @@ module _ (old now : KeptThread) (dropped number : ℕ) (rest : List ℕ) (n : Is
     soft = soft n.goes.way n.goes.unreached n.front n.before n.split;
     unled = unled n.goes.way n.goes.unreached n.front n.before n.split;
     reached = λ off. all_but n.goes.way n.goes.unreached n.front n.before n.split
-        (subst (λ z. AreUnreachedPairNumbersFrom (IsDirectoryAddressReachedBySomePath old.pairs) (suc (length C + length n.goes.kept + dropped)) (directory_address_continued_by_hard_tail (onward_all None n.goes.seen) n.goes.x) n.goes.todo z) (cases.1 off) more);
+        (subst (λ z. AreUnreachedFrom (IsReachedBySome old.pairs) (suc (length C + length n.goes.kept + dropped)) (continued_address (onward_all None n.goes.seen) n.goes.x) n.goes.todo z) (cases.1 off) more);
   }
 
   module _ (behind : ℕ) (e : behind + dropped ≡ number) where
     dropping : IsToBeDropped now behind g (site_of C n.front n.goes.todo) n.before n.goes.x
     dropping = record {
-      accepted = subst (IsAcceptedImage now.disk) (sym whole_is) is_ready.accepted;
-      writable = subst (IsWritableImage now.disk) (sym whole_is) is_ready.writable;
+      accepted = subst (IsAccepted now.disk) (sym whole_is) is_ready.accepted;
+      writable = subst (IsWritable now.disk) (sym whole_is) is_ready.writable;
       storable = record {
         kind = let e = cases.0.kind in omega arith;
         id = let e = cases.0.id in omega arith;
@@ -229,52 +229,52 @@ module _ (old now : KeptThread) (dropped number : ℕ) (rest : List ℕ) (n : Is
       number = let k = n.number_is in let c = length-append C n.front in omega arith;
     }
 
-    pub can_take : CanDropPairAt now behind g
+    pub can_take : CanDropAt now behind g
     can_take = can_drop_pair dropping
 
     shows : tree_on_disk now.disk now.pairs ≡ tree_on_disk old.disk old.pairs
     shows = ap (tree_on_disk now.disk) (n.goes.way.there ∙ ap (λ z. C ++ (n.goes.kept ++ z)) (sym (joined_singles (n.goes.x ∷ n.goes.todo)))) ∙ n.goes.way.is.taken.follows.shows
 
-    disk_is : StaysOn old now → (left : Blocks) → disk_with_blocks left now.disk ≡ disk_with_blocks left old.disk
+    disk_is : StaysOn old now → (left : Blocks) → with_blocks left now.disk ≡ with_blocks left old.disk
     disk_is d left = λ j. record { block_size = d.shape.block_size j; page = d.shape.page j; order = d.shape.order j; profile = d.shape.profile j; blocks = left }
 
-    number_there : slice_index_or old.pairs number empty_pair_at_anchor ≡ n.goes.x
+    number_there : slice_index_or old.pairs number empty_anchor ≡ n.goes.x
     number_there = numbered old.pairs C n.goes.seen n.goes.x n.goes.todo number n.goes.way.is.are
         (let k = n.number_is in let c = n.goes.way.counted in let a = ap length n.split in let b = length-append n.front (n.before ∷ []) in omega arith)
 
     pub survives_on : (new : KeptThread) → IsUnderWay old now dropped (number ∷ rest)
-        → StaysOn now new → PowerLossLeavesSuchBlocksAfterCleanErases now.history new.history (IsLeftByStoppedPairDrop now (behind - 1) g)
-        → SurvivesPowerLossInCallsSince old.disk old.history new.history (tree_on_disk old.disk old.pairs) (tree_on_disk old.disk old.pairs)
+        → StaysOn now new → LossLeavesCleanly now.history new.history (LeftByDrop now (behind - 1) g)
+        → SurvivesLossSince old.disk old.history new.history (tree_on_disk old.disk old.pairs) (tree_on_disk old.disk old.pairs)
     survives_on new u on stops =
         survives_then old.disk old.history now.history new.history (tree_on_disk old.disk old.pairs) (tree_on_disk old.disk old.pairs) u.device.calls on.calls u.survives
-        (λ clean. IsTrueAfterAnyPowerLossSince-weaker (λ left x. subst (λ z. IsLeftOf z (tree_on_disk old.disk old.pairs) (tree_on_disk old.disk old.pairs)) (disk_is u.device left)
-        (subst (λ z. IsLeftOf (disk_with_blocks left now.disk) z z) shows
+        (λ clean. HoldsAtLosses-weaker (λ left x. subst (λ z. IsLeftOf z (tree_on_disk old.disk old.pairs) (tree_on_disk old.disk old.pairs)) (disk_is u.device left)
+        (subst (λ z. IsLeftOf (with_blocks left now.disk) z z) shows
         (over_left now C n.front n.before n.goes.x n.goes.todo behind g dropping is_ready is_unled left x))) (stops clean))
 
-    pub writes_on : (new : KeptThread) → IsUnderWay old now dropped (number ∷ rest) → ThreadChangesOnlyTheseBlocks (blocks_of_pair_address (thread_pair_at_index now (behind - 1)).at) now new → ThreadChangesOnlyTheseBlocks (blocks_of_pairs old.pairs) old new
+    pub writes_on : (new : KeptThread) → IsUnderWay old now dropped (number ∷ rest) → ChangesThreadBlocks (address_blocks (thread_pair_at now (behind - 1)).at) now new → ChangesThreadBlocks (blocks_of_pairs old.pairs) old new
     writes_on new u writes =
         let can = can_take in
         let low : behind - 1 < length now.pairs = let w = can.above in let z = can.below in omega arith in
         writes_trans u.writes (writes_fewer _ (blocks_of_pairs old.pairs) (λ b. let f = u.fewer b in let l = two_fewer now.pairs (behind - 1) low b in omega arith) writes)
 
     pub moves_on : (new : KeptThread) → IsUnderWay old now dropped (number ∷ rest)
-        → IsNextPairDropped now (behind - 1) g new → ThreadChangesOnlyTheseBlocks (blocks_of_pair_address (thread_pair_at_index now (behind - 1)).at) now new → PowerLossLeavesSuchBlocksAfterCleanErases now.history new.history (IsLeftByStoppedPairDrop now (behind - 1) g)
+        → IsPairDropped now (behind - 1) g new → ChangesThreadBlocks (address_blocks (thread_pair_at now (behind - 1)).at) now new → LossLeavesCleanly now.history new.history (LeftByDrop now (behind - 1) g)
         → IsUnderWay old new (suc dropped) rest
     moves_on new u is writes stops =
         let on = stays_by _ now new writes in
-        let q : Pair = record { at = n.before.at; content = content_after_next_pair_drop now (behind - 1) g } in
+        let q : Pair = record { at = n.before.at; content = content_after_drop now (behind - 1) g } in
         let apart = over_on now C n.front n.before n.goes.x n.goes.todo behind g dropping is_ready is_unled new.disk is.written in
         let m = map_drops dropping new is now_none cases.0 u.gone u.map in
         record {
-          gone = u.gone ++ file_blocks_of_slots now.disk n.goes.x.content.slots;
+          gone = u.gone ++ file_blocks now.disk n.goes.x.content.slots;
           was = u.was;
           took = u.took ++ number ∷ [];
-          reported = subst (AreUnreachedPairNumbers old.pairs) (sym (append_assoc u.took (number ∷ []) rest)) u.reported;
+          reported = subst (AreUnreachedNumbers old.pairs) (sym (append_assoc u.took (number ∷ []) rest)) u.reported;
           gone_are = ap₂ (λ a b. a ++ b) u.gone_are (lists_kept old now C n.goes.seen n.goes.x n.goes.todo n.goes.way.is.are u.was n.goes.way.no_move u.writes) ∙ sym (lists_more old u.took number n.goes.x number_there);
           map = m.0;
           lost = λ b.
               let f = files_left dropping new is now_none cases.0 b in
-              let a = count_append b u.gone (file_blocks_of_slots now.disk n.goes.x.content.slots) in
+              let a = count_append b u.gone (file_blocks now.disk n.goes.x.content.slots) in
               let l = u.lost b in
               omega arith;
           flying = λ b. ((λ flies. (u.flying b).0 ((m.1 b).0 flies)), (λ flies. (m.1 b).1 ((u.flying b).1 flies)));
@@ -324,8 +324,8 @@ pub record AreIndexes (number dropped : ℕ) : Type 0 where
 pub indexes : (old now : KeptThread) (dropped number : ℕ) (rest : List ℕ) → IsNext old now dropped number rest → AreIndexes number dropped
 indexes old now dropped number rest n = let k = n.number_is in record { enough = omega arith; sum = omega arith }
 
-pub wanted : (now : KeptThread) (xs : List ℕ) (dropped : ℕ) (g : Gstate) → dropped < length xs → g ≡ gstate_zero_after_last_unreached_pair_drop now (nat_eq (dropped + 1) (length xs)) → IsWanted now (drop (suc dropped) xs) g
+pub wanted : (now : KeptThread) (xs : List ℕ) (dropped : ℕ) (g : Gstate) → dropped < length xs → g ≡ gstate_after_drops now (nat_eq (dropped + 1) (length xs)) → IsWanted now (drop (suc dropped) xs) g
 wanted now xs dropped g low is = record {
-  last = λ none. is ∙ ap (gstate_zero_after_last_unreached_pair_drop now) (eq-eqb (dropped + 1) (length xs) (let l = drop_none (suc dropped) xs none in omega arith));
-  other = λ some. is ∙ ap (gstate_zero_after_last_unreached_pair_drop now) (ne_eqb (dropped + 1) (length xs) (λ e. some (drop_all (suc dropped) xs (omega arith))));
+  last = λ none. is ∙ ap (gstate_after_drops now) (eq-eqb (dropped + 1) (length xs) (let l = drop_none (suc dropped) xs none in omega arith));
+  other = λ some. is ∙ ap (gstate_after_drops now) (ne_eqb (dropped + 1) (length xs) (λ e. some (drop_all (suc dropped) xs (omega arith))));
 }

@@ -3,13 +3,13 @@ use Rattle.std.proofs.Common.{Err, Result, append_assoc, nat_eq, slice_get, ℕ,
 use Rattle.std.specs.Prelude.{is_err}
 use Rattle.lfs_device.specs.declared.error.Error.{Error}
 use Rattle.std.specs.Option.{option_and_then}
-use Rattle.lfs_operations.proofs.Common.{eqb-false, same_Some, sum_by-append, sum_by-cons, tree_after_removal, Free, InFlight, Delete, raw_pair_content_after_changes, RawPairContent, pair_content_if_slots_complete, raw_content_of_pair_at, Disk, DeviceCallEvent, SurvivesPowerLossInCallsSince, PairContent, IsContentFittingPair, Slot, same_pair, slot_size, Pair, blocks_of_pairs, first_pair_address, pair_address_named_by_tail, Tree, skip_list_blocks_of_struct, tree_on_disk, Name, IsImageAfterTreeChange, IsImageAfterCompletedOperation, commit_step, recovered_from, complete_length, complete_remove, completed_from, completed_parts, count_append, deletes, does_first, does_nothing, IsTrueAfterAnyPowerLossSince-weaker, Ends, file_goes, remove_here, same, same_number, site, pair_back, pair_on, IsPairAtAddress, IsDistinct, Site, thread_at, ends_in_hard_tail, PowerLossLeavesSuchBlocksAfterCleanErases, KeptThread, ThreadView, CanChangePair, IoMeantFaultNoMemoryWroteNothing, IsPairChanged, PowerLossLeavesPairOldOrChanged, IsCommitRefused, complete_content_after_changes, thread_pair_at_index}
-use Rattle.lfs_model.specs.Operations as ops
+use Rattle.lfs_operations.proofs.Common.{eqb-false, same_Some, sum_by-append, sum_by-cons, tree_removing, Free, InFlight, Delete, changed_content_of, RawContent, complete_content, raw_content, Disk, CallEvent, SurvivesLossSince, PairContent, FitsInPair, Slot, same_pair, slot_size, Pair, blocks_of_pairs, first_address, tail_address_of, Tree, struct_blocks, tree_on_disk, Name, IsChangedImage, IsCompletion, commit_step, recovered_from, complete_length, complete_remove, completed_from, completed_parts, count_append, deletes, does_first, does_nothing, HoldsAtLosses-weaker, Ends, file_goes, remove_here, same, same_number, site, pair_back, pair_on, IsPairAt, IsDistinct, Site, thread_at, ends_joined, LossLeavesCleanly, KeptThread, ThreadView, CanChangePair, IoMeantFaultNoMemoryWroteNothing, IsPairCommitted, LossLeavesPairChanged, RefusesCommit, complete_after, thread_pair_at}
+use Rattle.lfs_model.specs.session.Operations as ops
 use Rattle.lfs_model.proofs.OneCommit.{remove_completed}
-use Rattle.lfs_operations.specs.Editing.{CanEditEntryOfPair, slot_of_editable_entry}
-use Rattle.lfs_operations.specs.Dropping.{ShowsTreeAfterPairDrops}
-use Rattle.lfs_operations.specs.Ready.{ShowsTreeReadyOnceMapIsUpdated}
-use Rattle.lfs_operations.specs.Removing.{CanRemoveFileInPair, IsFileRemoved, ReportsErrorsOfCommitTakingNoBlock, is_pair_dropped_with_slot, tree_without_named_entry}
+use Rattle.lfs_operations.specs.Editing.{CanEditIn, editable_slot}
+use Rattle.lfs_operations.specs.Dropping.{ShowsAfterDrops}
+use Rattle.lfs_operations.specs.Ready.{ShowsUpdatedTree}
+use Rattle.lfs_operations.specs.Removing.{CanRemoveIn, IsFileRemoved, ReportsErrorsOfCommitTakingNoBlock, drops_with_its_slot, tree_without_entry}
 use Rattle.lfs_operations.proofs.Held.{CompletesTo, below, fits_there, here, raw_there}
 use Rattle.lfs_operations.proofs.Splicing.{Commits, IsSplicing}
 use Rattle.lfs_operations.proofs.Stepped.{HasStep, becomes, put_step, survives}
@@ -18,14 +18,14 @@ use Rattle.lfs_operations.proofs.RenameReadOver.{reported_again}
 use Rattle.lfs_operations.proofs.PairAt.{HasPairAt, pair_at}
 
 -- no hard tail leads to the first pair of a directory
-pub flag_ends : (before : List Pair) → Ends before → ends_in_hard_tail false before ≡ false
+pub flag_ends : (before : List Pair) → Ends before → ends_joined false before ≡ false
 flag_ends [] h = refl
 flag_ends (p ∷ []) h = h
 flag_ends (p ∷ q ∷ ps) h = flag_ends (q ∷ ps) h
 
 -- where a pair is the first of its directory, no other stands in front of it there
-pub alone : (chain before left tail : List Pair) (p : Pair) (a : ℕ × ℕ) (first : ℕ) → IsDistinct nat_eq (blocks_of_pairs (chain ++ ((before ++ left) ++ p ∷ tail))) → same_pair (first_pair_address (left ++ p ∷ [])) a ≡ true
-    → IsPairAtAddress (chain ++ ((before ++ left) ++ p ∷ tail)) a first → first ≡ length chain + length (before ++ left) → left ≡ []
+pub alone : (chain before left tail : List Pair) (p : Pair) (a : ℕ × ℕ) (first : ℕ) → IsDistinct nat_eq (blocks_of_pairs (chain ++ ((before ++ left) ++ p ∷ tail))) → same_pair (first_address (left ++ p ∷ [])) a ≡ true
+    → IsPairAt (chain ++ ((before ++ left) ++ p ∷ tail)) a first → first ≡ length chain + length (before ++ left) → left ≡ []
 alone chain before [] tail p a first distinct h b n = refl
 alone chain before (x ∷ left) tail p a first distinct h b n =
     let ps = chain ++ ((before ++ x ∷ left) ++ p ∷ tail) in
@@ -38,7 +38,7 @@ alone chain before (x ∷ left) tail p a first distinct h b n =
     absurd (omega arith)
 
 -- where no block comes, and none becomes free
-pub shrunk_from : (t new : KeptThread) (tree : Tree) (gone : List ℕ) → ShowsTreeReadyOnceMapIsUpdated t new tree gone [] → ShowsTreeAfterPairDrops t new tree gone
+pub shrunk_from : (t new : KeptThread) (tree : Tree) (gone : List ℕ) → ShowsUpdatedTree t new tree gone [] → ShowsAfterDrops t new tree gone
 shrunk_from t new tree gone h = record {
   ready = h.ready;
   shows = h.shows;
@@ -47,21 +47,21 @@ shrunk_from t new tree gone h = record {
 }
 
 -- a pair that doesn't go with its slot is the first of its directory, or has another one
-pub stays_there : (t : KeptThread) (index id first : ℕ) (can : CanEditEntryOfPair t index id) → can.first ≡ first → is_pair_dropped_with_slot t index first ≡ false → (index ≡ can.first) ⊎ (1 < length (thread_pair_at_index t index).content.slots)
-stays_there t index id first can begins goes = by (nat_eq index first) (nat_eq (length (thread_pair_at_index t index).content.slots) 1) refl refl goes
+pub stays_there : (t : KeptThread) (index id first : ℕ) (can : CanEditIn t index id) → can.first ≡ first → drops_with_its_slot t index first ≡ false → (index ≡ can.first) ⊎ (1 < length (thread_pair_at t index).content.slots)
+stays_there t index id first can begins goes = by (nat_eq index first) (nat_eq (length (thread_pair_at t index).content.slots) 1) refl refl goes
   where
-    by : (x y : Bool) → nat_eq index first ≡ x → nat_eq (length (thread_pair_at_index t index).content.slots) 1 ≡ y → not x && y ≡ false → (index ≡ can.first) ⊎ (1 < length (thread_pair_at_index t index).content.slots)
+    by : (x y : Bool) → nat_eq index first ≡ x → nat_eq (length (thread_pair_at t index).content.slots) 1 ≡ y → not x && y ≡ false → (index ≡ can.first) ⊎ (1 < length (thread_pair_at t index).content.slots)
     by true y e f k = inl (eqb-true index first e ∙ sym begins)
     by false true e f k = absurd (cc)
     by false false e f k = inr (
-        let n = eqb-false (length (thread_pair_at_index t index).content.slots) 1 f in
+        let n = eqb-false (length (thread_pair_at t index).content.slots) 1 f in
         let h = ap length can.stands.stands.held in
         let l = length-append can.stands.stands.left (can.stands.stands.slot ∷ can.stands.stands.right) in
         let p = ap (λ (z : Pair). length z.content.slots) (here t can.ready can.first index can.stands.pair can.stands.rest can.stands.place) in
         omega arith)
 
-module _ (t : KeptThread) (index id first : ℕ) (take : CanRemoveFileInPair t index id first) (goes : is_pair_dropped_with_slot t index first ≡ false) where
-  abbrev can : CanEditEntryOfPair t index id
+module _ (t : KeptThread) (index id first : ℕ) (take : CanRemoveIn t index id first) (goes : drops_with_its_slot t index first ≡ false) where
+  abbrev can : CanEditIn t index id
   can = take.can
 
   abbrev p : Pair
@@ -87,13 +87,13 @@ module _ (t : KeptThread) (index id first : ℕ) (take : CanRemoveFileInPair t i
   within : id < length p.content.slots
   within = let h = ap length can.stands.stands.held in let k = length-append l (u ∷ r) in let n = can.stands.stands.number in omega arith
 
-  abbrev c : CompletesTo (raw_content_of_pair_at t.disk (thread_pair_at_index t index).at) p.content
+  abbrev c : CompletesTo (raw_content t.disk (thread_pair_at t index).at) p.content
   c = raw_there t can.ready can.first index p can.stands.rest can.stands.place
 
-  abbrev raw_now : RawPairContent
+  abbrev raw_now : RawContent
   raw_now = record c.raw { slots = remove c.raw.slots id }
 
-  changed_now : raw_pair_content_after_changes c.raw (Delete id ∷ []) ≡ Some raw_now
+  changed_now : changed_content_of c.raw (Delete id ∷ []) ≡ Some raw_now
   changed_now =
       let few = (fits_there t can.ready can.first index p can.stands.rest can.stands.place).count in
       let n = complete_length c.raw.slots p.content.slots (completed_parts c.raw p.content c.complete).slots in
@@ -106,11 +106,11 @@ module _ (t : KeptThread) (index id first : ℕ) (take : CanRemoveFileInPair t i
   slots_now : remove p.content.slots id ≡ l ++ ([] ++ r)
   slots_now = ap₂ (λ (z : List Slot) (i : ℕ). remove z i) can.stands.stands.held (sym can.stands.stands.number) ∙ remove_here l r u
 
-  made : complete_content_after_changes t index (Delete id ∷ []) ≡ Some now
+  made : complete_after t index (Delete id ∷ []) ≡ Some now
   made =
       let parts = completed_parts c.raw p.content c.complete in
-      ap (λ o. option_and_then pair_content_if_slots_complete (option_and_then (λ (x : RawPairContent). raw_pair_content_after_changes x (Delete id ∷ [])) o)) c.is
-      ∙ ap (λ o. option_and_then pair_content_if_slots_complete o) changed_now
+      ap (λ o. option_and_then complete_content (option_and_then (λ (x : RawContent). changed_content_of x (Delete id ∷ [])) o)) c.is
+      ∙ ap (λ o. option_and_then complete_content o) changed_now
       ∙ completed_from raw_now (remove p.content.slots id) (complete_remove c.raw.slots p.content.slots id parts.slots)
       ∙ ap₂ (λ t m. Some (record { slots = remove p.content.slots id; tail = t; move = m })) (sym parts.tail) (sym parts.move)
 
@@ -119,11 +119,11 @@ module _ (t : KeptThread) (index id first : ℕ) (take : CanRemoveFileInPair t i
     below = below t can.ready can.first index p can.stands.rest can.stands.place;
     content = now;
     made = made;
-    next = ap (λ (z : Pair). pair_address_named_by_tail z.content.tail) (sym (here t can.ready can.first index p can.stands.rest can.stands.place));
+    next = ap (λ (z : Pair). tail_address_of z.content.tail) (sym (here t can.ready can.first index p can.stands.rest can.stands.place));
   }
 
   -- what is left fits
-  still_fits : IsContentFittingPair t.disk.block_size t.disk.page now
+  still_fits : FitsInPair t.disk.block_size t.disk.page now
   still_fits =
       let f = fits_there t can.ready can.first index p can.stands.rest can.stands.place in
       let a = ap (sum_by slot_size) can.stands.stands.held in
@@ -139,12 +139,12 @@ module _ (t : KeptThread) (index id first : ℕ) (take : CanRemoveFileInPair t i
       let n = f.count in
       record { size = omega arith; count = omega arith }
 
-  pub not_refused : (new : KeptThread) → IsCommitRefused t index (Delete id ∷ []) new → ⊥
-  not_refused new is = is.too_large (subst (IsContentFittingPair t.disk.block_size t.disk.page) (sym (same_Some is.content now (sym is.made ∙ made))) still_fits)
+  pub not_refused : (new : KeptThread) → RefusesCommit t index (Delete id ∷ []) new → ⊥
+  not_refused new is = is.too_large (subst (FitsInPair t.disk.block_size t.disk.page) (sym (same_Some is.content now (sym is.made ∙ made))) still_fits)
 
   -- ---- in the image
 
-  spliced : IsSplicing t index (Delete id ∷ []) w p l (u ∷ []) [] r (skip_list_blocks_of_struct t.disk u.struct) []
+  spliced : IsSplicing t index (Delete id ∷ []) w p l (u ∷ []) [] r (struct_blocks t.disk u.struct) []
   spliced = record {
     ready = can.ready;
     there = stand.there;
@@ -162,19 +162,19 @@ module _ (t : KeptThread) (index id first : ℕ) (take : CanRemoveFileInPair t i
     flying = tt;
     apart = can.ready.accepted.owned_once;
     lists = λ disk geometry files come. tt;
-    blocks = λ disk geometry files come b. let e = count_append b (skip_list_blocks_of_struct t.disk u.struct) [] in omega arith;
+    blocks = λ disk geometry files come b. let e = count_append b (struct_blocks t.disk u.struct) [] in omega arith;
   }
 
   -- the pair stays filled where a hard tail leads to it
-  filled : ends_in_hard_tail false (w.before ++ w.left) ≡ true → l ++ ([] ++ r) ≢ []
+  filled : ends_joined false (w.before ++ w.left) ≡ true → l ++ ([] ++ r) ≢ []
   filled hard none = go (stays_there t index id first can take.begins goes)
     where
-      go : (index ≡ can.first) ⊎ (1 < length (thread_pair_at_index t index).content.slots) → ⊥
+      go : (index ≡ can.first) ⊎ (1 < length (thread_pair_at t index).content.slots) → ⊥
       go (inl e) =
           let none_before = alone w.chain w.before w.left (w.right ++ w.after) p can.at can.first (subst (λ z. IsDistinct nat_eq (blocks_of_pairs z)) stand.there can.ready.accepted.thread.distinct) stand.begin
-          (subst (λ z. IsPairAtAddress z can.at can.first) stand.there can.begins) (sym e ∙ stand.number) in
+          (subst (λ z. IsPairAt z can.at can.first) stand.there can.begins) (sym e ∙ stand.number) in
           let ends = stand.site.ends in
-          let soft = ap (λ z. ends_in_hard_tail false (w.before ++ z)) none_before ∙ ap (ends_in_hard_tail false) (append-nil w.before) ∙ flag_ends w.before ends in
+          let soft = ap (λ z. ends_joined false (w.before ++ z)) none_before ∙ ap (ends_joined false) (append-nil w.before) ∙ flag_ends w.before ends in
           absurd (let z = sym hard ∙ soft in cc)
       go (inr many) =
           let e = ap (λ (z : Pair). length z.content.slots) (here t can.ready can.first index p can.stands.rest can.stands.place) in
@@ -185,30 +185,30 @@ module _ (t : KeptThread) (index id first : ℕ) (take : CanRemoveFileInPair t i
           absurd (omega arith)
 
   abbrev turn : Tree → Tree
-  turn = tree_after_removal (can.path ++ can.name ∷ [])
+  turn = tree_removing (can.path ++ can.name ∷ [])
 
-  follows : (disk : Disk) (q : Pair) (more : List Pair) → Commits t w p l (u ∷ []) [] r [] disk q more → IsImageAfterTreeChange t.disk (thread_at w (p ∷ [])) disk (thread_at w (q ∷ more)) turn (λ d. d)
-  follows disk q more x = subst (λ (n : Name). IsImageAfterTreeChange t.disk (thread_at w (p ∷ [])) disk (thread_at w (q ∷ more)) (tree_after_removal (can.path ++ n ∷ [])) (λ d. d)) can.stands.stands.named
+  follows : (disk : Disk) (q : Pair) (more : List Pair) → Commits t w p l (u ∷ []) [] r [] disk q more → IsChangedImage t.disk (thread_at w (p ∷ [])) disk (thread_at w (q ∷ more)) turn (λ d. d)
+  follows disk q more x = subst (λ (n : Name). IsChangedImage t.disk (thread_at w (p ∷ [])) disk (thread_at w (q ∷ more)) (tree_removing (can.path ++ n ∷ [])) (λ d. d)) can.stands.stands.named
       (file_goes t.disk disk w p [] q more (blocks_of_pairs more) [] l r u (commit_step t.disk disk w p q more [] l (u ∷ []) [] r x.commit) can.stands.stands.entry can.path can.at stand.leads stand.begin take.file
       (λ e. (recovered_from t.disk (thread_at w (p ∷ [])) x.commit.accepted x.commit.settled).reached))
 
-  pub gone : (new : KeptThread) → IsPairChanged t index (Delete id ∷ []) new → IsFileRemoved t new take.can.path take.can.name (slot_of_editable_entry take.can).struct
-  gone new is = go (put_step t index (Delete id ∷ []) w p l (u ∷ []) [] r (skip_list_blocks_of_struct t.disk u.struct) [] spliced new (inl is))
+  pub gone : (new : KeptThread) → IsPairCommitted t index (Delete id ∷ []) new → IsFileRemoved t new take.can.path take.can.name (editable_slot take.can).struct
+  gone new is = go (put_step t index (Delete id ∷ []) w p l (u ∷ []) [] r (struct_blocks t.disk u.struct) [] spliced new (inl is))
     where
-      go : HasStep t w p l (u ∷ []) [] r (skip_list_blocks_of_struct t.disk u.struct) [] new → IsFileRemoved t new can.path can.name u.struct
+      go : HasStep t w p l (u ∷ []) [] r (struct_blocks t.disk u.struct) [] new → IsFileRemoved t new can.path can.name u.struct
       go x = record {
-        now = shrunk_from t new (turn (tree_on_disk t.disk t.pairs)) (skip_list_blocks_of_struct t.disk u.struct)
-            (becomes t index (Delete id ∷ []) w p l (u ∷ []) [] r (skip_list_blocks_of_struct t.disk u.struct) [] spliced turn (λ disk q more y. ((λ d. d), follows disk q more y)) filled new x);
-        completed = λ z given tree is_path. subst (λ y. IsImageAfterCompletedOperation t.disk y z (ops.Remove given) new.disk new.pairs) (sym stand.there)
-            (subst (λ y. IsImageAfterCompletedOperation t.disk (thread_at w (p ∷ [])) z (ops.Remove given) new.disk y) (sym x.pairs)
+        now = shrunk_from t new (turn (tree_on_disk t.disk t.pairs)) (struct_blocks t.disk u.struct)
+            (becomes t index (Delete id ∷ []) w p l (u ∷ []) [] r (struct_blocks t.disk u.struct) [] spliced turn (λ disk q more y. ((λ d. d), follows disk q more y)) filled new x);
+        completed = λ z given tree is_path. subst (λ y. IsCompletion t.disk y z (ops.Remove given) new.disk new.pairs) (sym stand.there)
+            (subst (λ y. IsCompletion t.disk (thread_at w (p ∷ [])) z (ops.Remove given) new.disk y) (sym x.pairs)
             (remove_completed t.disk new.disk w p x.q x.more l r u x.commit.commit can.stands.stands.entry take.file can.path can.at stand.leads stand.begin z given (tree ∙ ap (tree_on_disk t.disk) stand.there)
             (is_path ∙ ap (λ n. can.path ++ n ∷ []) (sym can.stands.stands.named)) filled));
         once = λ b. let e = x.used.same b in let o = x.once b in omega arith;
       }
 
-  pub remove_survives : (new : List DeviceCallEvent) → PowerLossLeavesSuchBlocksAfterCleanErases t.history new (PowerLossLeavesPairOldOrChanged t index (Delete id ∷ [])) → SurvivesPowerLossInCallsSince t.disk t.history new (tree_on_disk t.disk t.pairs) (tree_without_named_entry t take.can.path take.can.name)
-  remove_survives new stops = survives t index (Delete id ∷ []) w p l (u ∷ []) [] r (skip_list_blocks_of_struct t.disk u.struct) [] spliced turn (λ disk q more y. ((λ d. d), follows disk q more y)) filled new
-      (λ clean. IsTrueAfterAnyPowerLossSince-weaker (λ left x. inl x) (stops clean))
+  pub remove_survives : (new : List CallEvent) → LossLeavesCleanly t.history new (LossLeavesPairChanged t index (Delete id ∷ [])) → SurvivesLossSince t.disk t.history new (tree_on_disk t.disk t.pairs) (tree_without_entry t take.can.path take.can.name)
+  remove_survives new stops = survives t index (Delete id ∷ []) w p l (u ∷ []) [] r (struct_blocks t.disk u.struct) [] spliced turn (λ disk q more y. ((λ d. d), follows disk q more y)) filled new
+      (λ clean. HoldsAtLosses-weaker (λ left x. inl x) (stops clean))
 
 -- ---- what it tells
 

@@ -1,11 +1,11 @@
 -- A file that goes with its pair, which held nothing else and isn't the first of its directory, as a step of the thread.
 use Rattle.std.proofs.Common.{◌<◌, ℕ, ◌≡◌, ◌≢◌, inl, inr, ◌+◌, ◌-◌, ◌≤◌, ◌&&◌, not, Bool, true, false, nat_eq, eqb-true, slice_get, List, [], ◌∷◌, ◌++◌, length, Option, Some, None, refl, sym, ap, subst, ◌∙◌, arith, append_assoc, length-append}
-use Rattle.lfs_operations.proofs.Common.{IsDistinct, eqb-false, tree_after_removal, Blocks, Disk, DeviceCallEvent, IsPairAtAddress, HasTreeBeforeOrAfterOperation as IsLeftOf, SurvivesPowerLossInCallsSince, disk_with_blocks, PairContent, Slot, Tail, zero_gstate, same_pair, Pair, blocks_of_pairs, first_pair_address, gstate_of_pairs, is_hard_tail, pair_count_before_root, Tree, branch_address_of_struct, IsAcceptedImage, IsWritableImage, IsPathToDirectory, skip_list_blocks_of_struct, tree_on_disk, used_blocks, IsImageAfterTreeChange, IsImageAfterCompletedOperation, no_move_from, recovered_from, occurrence_count_of_number, count_append, once_from_distinct, HasNoMove, IsTrueAfterAnyPowerLossSince-weaker, IsRun, file_goes, same_number, site, pair_back, pair_on, IsSite, Site, begin_of, dirs_at, thread_at, file_blocks_of_slots, IsChain, ends_in_hard_tail, PowerLossLeavesSuchBlocksAfterCleanErases, KeptThread, IsPairWrittenOnDisk, thread_pair_at_index}
-use Rattle.lfs_model.specs.Operations as ops
+use Rattle.lfs_operations.proofs.Common.{IsDistinct, eqb-false, tree_removing, Blocks, Disk, CallEvent, IsPairAt, HasEither as IsLeftOf, SurvivesLossSince, with_blocks, PairContent, Slot, Tail, zero_gstate, same_pair, Pair, blocks_of_pairs, first_address, pairs_gstate, is_hard_tail, pair_count_before_root, Tree, branch_address, IsAccepted, IsWritable, LeadsTo, struct_blocks, tree_on_disk, used_blocks, IsChangedImage, IsCompletion, no_move_from, recovered_from, number_count, count_append, once_from_distinct, HasNoMove, HoldsAtLosses-weaker, IsRun, file_goes, same_number, site, pair_back, pair_on, IsSite, Site, begin_of, dirs_at, thread_at, file_blocks, IsChain, ends_joined, LossLeavesCleanly, KeptThread, IsPairWritten, thread_pair_at}
+use Rattle.lfs_model.specs.session.Operations as ops
 use Rattle.lfs_model.proofs.Dropped.{IsDrop, drop_completed, drop_step, drop_writable}
-use Rattle.lfs_operations.specs.Dropping.{CanDropPairAt, IsNextPairDropped, ShowsTreeAfterPairDrops, IsLeftByStoppedPairDrop, tail_over_dropped_pair, content_after_next_pair_drop}
-use Rattle.lfs_operations.specs.Editing.{CanEditEntryOfPair, slot_of_editable_entry}
-use Rattle.lfs_operations.specs.Removing.{IsFileRemoved, is_pair_dropped_with_slot, tree_without_named_entry}
+use Rattle.lfs_operations.specs.Dropping.{CanDropAt, IsPairDropped, ShowsAfterDrops, LeftByDrop, tail_over_drop, content_after_drop}
+use Rattle.lfs_operations.specs.Editing.{CanEditIn, editable_slot}
+use Rattle.lfs_operations.specs.Removing.{IsFileRemoved, drops_with_its_slot, tree_without_entry}
 use Rattle.lfs_operations.proofs.Dropped.{HasMapWithout, IsToBeDropped, can_drop_pair, device_left, left_dropped, map_dropped, pairs_left, slots_left, state_left, tail_left, used_left}
 use Rattle.lfs_operations.proofs.DroppedTails.{no_move_state}
 use Rattle.lfs_operations.proofs.Held.{here}
@@ -27,11 +27,11 @@ last_pair (x ∷ []) n = record { front = []; last = x; is = refl }
 last_pair (x ∷ y ∷ xs) n = let l = last_pair (y ∷ xs) (λ e. absurd (cc)) in record { front = x ∷ l.front; last = l.last; is = ap (λ z. x ∷ z) l.is }
 
 -- a pair that isn't the first of its directory has others in front of it there
-not_alone : (chain before left tail : List Pair) (p : Pair) (a : ℕ × ℕ) (first : ℕ) → IsDistinct nat_eq (blocks_of_pairs (chain ++ ((before ++ left) ++ p ∷ tail))) → same_pair (first_pair_address (left ++ p ∷ [])) a ≡ true
-    → IsPairAtAddress (chain ++ ((before ++ left) ++ p ∷ tail)) a first → (length chain + length (before ++ left) ≡ first → ⊥) → left ≢ []
+not_alone : (chain before left tail : List Pair) (p : Pair) (a : ℕ × ℕ) (first : ℕ) → IsDistinct nat_eq (blocks_of_pairs (chain ++ ((before ++ left) ++ p ∷ tail))) → same_pair (first_address (left ++ p ∷ [])) a ≡ true
+    → IsPairAt (chain ++ ((before ++ left) ++ p ∷ tail)) a first → (length chain + length (before ++ left) ≡ first → ⊥) → left ≢ []
 not_alone chain before left tail p a first distinct h b n none =
     let there = ap (λ z. slice_get z (length (chain ++ (before ++ left)))) (sym (append_assoc chain (before ++ left) (p ∷ tail))) ∙ get_behind (chain ++ (before ++ left)) p tail in
-    let begins : same_pair p.at a ≡ true = subst (λ z. same_pair (first_pair_address (z ++ p ∷ [])) a ≡ true) none h in
+    let begins : same_pair p.at a ≡ true = subst (λ z. same_pair (first_address (z ++ p ∷ [])) a ≡ true) none h in
     let e = same_number (chain ++ ((before ++ left) ++ p ∷ tail)) (length (chain ++ (before ++ left))) first p b.pair distinct there b.there (pair_on p.at a b.pair.at begins (pair_back b.pair.at a b.same)) in
     n (sym (length-append chain (before ++ left)) ∙ e)
 
@@ -40,7 +40,7 @@ run_hard [] x o right h = h.0
 run_hard (y ∷ []) x o right h = h.1.0
 run_hard (y ∷ z ∷ left) x o right h = run_hard (z ∷ left) x o right h.1
 
-pub flag_last : (xs : List Pair) (x : Pair) (b : Bool) → ends_in_hard_tail b (xs ++ x ∷ []) ≡ is_hard_tail x.content.tail
+pub flag_last : (xs : List Pair) (x : Pair) (b : Bool) → ends_joined b (xs ++ x ∷ []) ≡ is_hard_tail x.content.tail
 flag_last [] x b = refl
 flag_last (y ∷ xs) x b = flag_last xs x (is_hard_tail y.content.tail)
 
@@ -53,7 +53,7 @@ pub record StandsBehind (ps : List Pair) (v : Site) (o : Pair) (index : ℕ) : T
   pub number : length (w.chain ++ (w.before ++ w.left)) + 1 ≡ index
   pub hard : is_hard_tail x.content.tail ≡ true
   pub begin : begin_of v (o ∷ []) ≡ begin_of w (x ∷ o ∷ [])
-  pub led : ends_in_hard_tail false (v.before ++ v.left) ≡ true
+  pub led : ends_joined false (v.before ++ v.left) ≡ true
 
 pub stands_behind : (ps : List Pair) (v : Site) (o : Pair) (index : ℕ) → ps ≡ thread_at v (o ∷ []) → IsSite v (o ∷ []) → index ≡ length v.chain + length (v.before ++ v.left) → v.left ≢ [] → StandsBehind ps v o index
 stands_behind ps v o index is at number some = record {
@@ -69,8 +69,8 @@ stands_behind ps v o index is at number some = record {
       let e = length-append l.front (l.last ∷ []) in
       omega arith;
   hard = hard;
-  begin = ap first_pair_address (ap (λ z. z ++ o ∷ []) l.is ∙ append_assoc l.front (l.last ∷ []) (o ∷ []));
-  led = ap (λ z. ends_in_hard_tail false (v.before ++ z)) l.is ∙ ap (ends_in_hard_tail false) (sym (append_assoc v.before l.front (l.last ∷ []))) ∙ flag_last (v.before ++ l.front) l.last false ∙ hard;
+  begin = ap first_address (ap (λ z. z ++ o ∷ []) l.is ∙ append_assoc l.front (l.last ∷ []) (o ∷ []));
+  led = ap (λ z. ends_joined false (v.before ++ z)) l.is ∙ ap (ends_joined false) (sym (append_assoc v.before l.front (l.last ∷ []))) ∙ flag_last (v.before ++ l.front) l.last false ∙ hard;
 }
   where
     l : LastPair v.left
@@ -89,7 +89,7 @@ stands_behind ps v o index is at number some = record {
     hard = run_hard l.front l.last o v.right run
 
 -- a hard tail takes over what comes
-pub over_hard : (f g : Option Tail) → is_hard_tail f ≡ true → tail_over_dropped_pair f g ≡ g
+pub over_hard : (f g : Option Tail) → is_hard_tail f ≡ true → tail_over_drop f g ≡ g
 over_hard f None h = refl
 over_hard f (Some t) h = ap (λ b. Some (record { hard = b && t.hard; to = t.to })) h
 
@@ -100,7 +100,7 @@ only_slot (s ∷ []) r u e = absurd (omega arith)
 only_slot (s ∷ x ∷ l) r u e = absurd (omega arith)
 
 -- The pair o of the slot stands behind x, whose hard tail leads to it, and holds nothing else.
-pub record StandsWhole (t : KeptThread) (index id : ℕ) (can : CanEditEntryOfPair t index id) : Type 0 where
+pub record StandsWhole (t : KeptThread) (index id : ℕ) (can : CanEditIn t index id) : Type 0 where
   pub w : Site
   pub x : Pair
   pub there : t.pairs ≡ thread_at w (x ∷ can.stands.pair ∷ [])
@@ -110,7 +110,7 @@ pub record StandsWhole (t : KeptThread) (index id : ℕ) (can : CanEditEntryOfPa
   pub same : same_pair (begin_of w (x ∷ can.stands.pair ∷ [])) can.at ≡ true
   pub held : can.stands.pair.content.slots ≡ can.stands.stands.slot ∷ []
 
-module _ (t : KeptThread) (index id first : ℕ) (can : CanEditEntryOfPair t index id) (begins : can.first ≡ first) (goes : is_pair_dropped_with_slot t index first ≡ true) where
+module _ (t : KeptThread) (index id first : ℕ) (can : CanEditIn t index id) (begins : can.first ≡ first) (goes : drops_with_its_slot t index first ≡ true) where
   abbrev o : Pair
   o = can.stands.pair
 
@@ -125,13 +125,13 @@ module _ (t : KeptThread) (index id first : ℕ) (can : CanEditEntryOfPair t ind
 
   -- ---- what is known by it
 
-  alone_there : (index ≡ can.first → ⊥) × (length (thread_pair_at_index t index).content.slots ≡ 1)
-  alone_there = by (nat_eq index first) (nat_eq (length (thread_pair_at_index t index).content.slots) 1) refl refl goes
+  alone_there : (index ≡ can.first → ⊥) × (length (thread_pair_at t index).content.slots ≡ 1)
+  alone_there = by (nat_eq index first) (nat_eq (length (thread_pair_at t index).content.slots) 1) refl refl goes
     where
-      by : (x y : Bool) → nat_eq index first ≡ x → nat_eq (length (thread_pair_at_index t index).content.slots) 1 ≡ y → not x && y ≡ true → (index ≡ can.first → ⊥) × (length (thread_pair_at_index t index).content.slots ≡ 1)
+      by : (x y : Bool) → nat_eq index first ≡ x → nat_eq (length (thread_pair_at t index).content.slots) 1 ≡ y → not x && y ≡ true → (index ≡ can.first → ⊥) × (length (thread_pair_at t index).content.slots ≡ 1)
       by true y e f k = absurd (cc)
       by false false e f k = absurd (cc)
-      by false true e f k = ((λ same. eqb-false index first e (same ∙ begins)), eqb-true (length (thread_pair_at_index t index).content.slots) 1 f)
+      by false true e f k = ((λ same. eqb-false index first e (same ∙ begins)), eqb-true (length (thread_pair_at t index).content.slots) 1 f)
 
   held : o.content.slots ≡ u ∷ []
   held =
@@ -142,7 +142,7 @@ module _ (t : KeptThread) (index id first : ℕ) (can : CanEditEntryOfPair t ind
   behind : StandsBehind t.pairs v o index
   behind = stands_behind t.pairs v o index stand.there stand.site stand.number
       (not_alone v.chain v.before v.left (v.right ++ v.after) o can.at can.first (subst (λ z. IsDistinct nat_eq (blocks_of_pairs z)) stand.there can.ready.accepted.thread.distinct) stand.begin
-      (subst (λ z. IsPairAtAddress z can.at can.first) stand.there can.begins) (λ e. alone_there.0 (stand.number ∙ e)))
+      (subst (λ z. IsPairAt z can.at can.first) stand.there can.begins) (λ e. alone_there.0 (stand.number ∙ e)))
 
   abbrev x : Pair
   x = behind.x
@@ -154,7 +154,7 @@ module _ (t : KeptThread) (index id first : ℕ) (can : CanEditEntryOfPair t ind
   there = behind.there
 
   -- a hard tail leads to the pair
-  pub flag_whole : ends_in_hard_tail false (v.before ++ v.left) ≡ true
+  pub flag_whole : ends_joined false (v.before ++ v.left) ≡ true
   flag_whole = behind.led
 
   pub stands_whole : StandsWhole t index id can
@@ -163,7 +163,7 @@ module _ (t : KeptThread) (index id first : ℕ) (can : CanEditEntryOfPair t ind
   dropping : IsToBeDropped t index zero_gstate w x o
   dropping = record { accepted = can.ready.accepted; writable = can.ready.writable; storable = no_move_state; there = there; number = behind.number }
 
-  pub can_drop_file : CanDropPairAt t index zero_gstate
+  pub can_drop_file : CanDropAt t index zero_gstate
   can_drop_file = can_drop_pair dropping
 
   pub below_whole : index - 1 + 1 < length t.pairs
@@ -172,16 +172,16 @@ module _ (t : KeptThread) (index id first : ℕ) (can : CanEditEntryOfPair t ind
   -- ---- what it leaves
 
   abbrev c : PairContent
-  c = content_after_next_pair_drop t (index - 1) zero_gstate
+  c = content_after_drop t (index - 1) zero_gstate
 
   abbrev q : Pair
   q = record { at = x.at; content = c }
 
-  drop_on : (disk : Disk) → IsPairWrittenOnDisk t (index - 1) c disk → IsDrop t.disk disk w x o q u
+  drop_on : (disk : Disk) → IsPairWritten t (index - 1) c disk → IsDrop t.disk disk w x o q u
   drop_on disk written = record {
-    accepted = subst (IsAcceptedImage t.disk) there can.ready.accepted;
-    writable = subst (IsWritableImage t.disk) there can.ready.writable;
-    settled = ap gstate_of_pairs (sym there) ∙ can.ready.settled;
+    accepted = subst (IsAccepted t.disk) there can.ready.accepted;
+    writable = subst (IsWritable t.disk) there can.ready.writable;
+    settled = ap pairs_gstate (sym there) ∙ can.ready.settled;
     still = state_left dropping;
     site = behind.site;
     device = device_left dropping disk written;
@@ -194,45 +194,45 @@ module _ (t : KeptThread) (index id first : ℕ) (can : CanEditEntryOfPair t ind
 
   -- ---- a file
 
-  module _ (file : branch_address_of_struct can.stands.stands.slot.struct ≡ None) where
+  module _ (file : branch_address can.stands.stands.slot.struct ≡ None) where
     abbrev turn : Tree → Tree
-    turn = tree_after_removal (can.path ++ can.name ∷ [])
+    turn = tree_removing (can.path ++ can.name ∷ [])
 
-    leads_now : IsPathToDirectory (thread_at w (x ∷ o ∷ [])) can.path can.at
-    leads_now = subst (λ z. IsPathToDirectory z can.path can.at) there can.leads
+    leads_now : LeadsTo (thread_at w (x ∷ o ∷ [])) can.path can.at
+    leads_now = subst (λ z. LeadsTo z can.path can.at) there can.leads
 
-    follows : (disk : Disk) → IsPairWrittenOnDisk t (index - 1) c disk → IsImageAfterTreeChange t.disk (thread_at w (x ∷ o ∷ [])) disk (thread_at w (q ∷ [])) turn (λ d. d)
-    follows disk written = subst (λ n. IsImageAfterTreeChange t.disk (thread_at w (x ∷ o ∷ [])) disk (thread_at w (q ∷ [])) (tree_after_removal (can.path ++ n ∷ [])) (λ d. d)) can.stands.stands.named
+    follows : (disk : Disk) → IsPairWritten t (index - 1) c disk → IsChangedImage t.disk (thread_at w (x ∷ o ∷ [])) disk (thread_at w (q ∷ [])) turn (λ d. d)
+    follows disk written = subst (λ n. IsChangedImage t.disk (thread_at w (x ∷ o ∷ [])) disk (thread_at w (q ∷ [])) (tree_removing (can.path ++ n ∷ [])) (λ d. d)) can.stands.stands.named
         (file_goes t.disk disk w x (o ∷ []) q [] [] [] x.content.slots [] u (drop_step t.disk disk w x o q u (drop_on disk written)) can.stands.stands.entry can.path can.at leads_now (subst (λ z. same_pair z can.at ≡ true) behind.begin stand.begin) file
         (λ e. (recovered_from t.disk (thread_at w (x ∷ o ∷ [])) (drop_on disk written).accepted (drop_on disk written).settled).reached))
 
-    module _ (new : KeptThread) (h : IsNextPairDropped t (index - 1) zero_gstate new) where
-      owned_count : (b : ℕ) → occurrence_count_of_number b (used_blocks new.disk new.pairs ++ skip_list_blocks_of_struct t.disk u.struct) ≡ occurrence_count_of_number b (used_blocks new.disk new.pairs) + occurrence_count_of_number b (file_blocks_of_slots t.disk o.content.slots)
+    module _ (new : KeptThread) (h : IsPairDropped t (index - 1) zero_gstate new) where
+      owned_count : (b : ℕ) → number_count b (used_blocks new.disk new.pairs ++ struct_blocks t.disk u.struct) ≡ number_count b (used_blocks new.disk new.pairs) + number_count b (file_blocks t.disk o.content.slots)
       owned_count b =
-          let k = count_append b (used_blocks new.disk new.pairs) (skip_list_blocks_of_struct t.disk u.struct) in
-          let m = ap (λ z. occurrence_count_of_number b (file_blocks_of_slots t.disk z)) held in
-          let n = count_append b (skip_list_blocks_of_struct t.disk u.struct) [] in
+          let k = count_append b (used_blocks new.disk new.pairs) (struct_blocks t.disk u.struct) in
+          let m = ap (λ z. number_count b (file_blocks t.disk z)) held in
+          let n = count_append b (struct_blocks t.disk u.struct) [] in
           omega arith
 
-      none : HasNoMove (gstate_of_pairs t.pairs)
+      none : HasNoMove (pairs_gstate t.pairs)
       none = no_move_from t.pairs can.ready.settled
 
-      map_now : HasMapWithout t.map new.map (used_blocks new.disk new.pairs ++ skip_list_blocks_of_struct t.disk u.struct)
-      map_now = map_dropped dropping new h none (record { kind = refl; id = refl; pair = refl }) can.ready.used (used_blocks new.disk new.pairs ++ skip_list_blocks_of_struct t.disk u.struct) owned_count
+      map_now : HasMapWithout t.map new.map (used_blocks new.disk new.pairs ++ struct_blocks t.disk u.struct)
+      map_now = map_dropped dropping new h none (record { kind = refl; id = refl; pair = refl }) can.ready.used (used_blocks new.disk new.pairs ++ struct_blocks t.disk u.struct) owned_count
 
-      shrunk : ShowsTreeAfterPairDrops t new (tree_without_named_entry t can.path can.name) (skip_list_blocks_of_struct t.disk u.struct)
+      shrunk : ShowsAfterDrops t new (tree_without_entry t can.path can.name) (struct_blocks t.disk u.struct)
       shrunk =
           let f = follows new.disk h.written in
           let p = pairs_left dropping new h in
           record {
             ready = record {
-              accepted = subst (IsAcceptedImage new.disk) (sym p) f.accepted;
-              writable = subst (IsWritableImage new.disk) (sym p) (drop_writable t.disk new.disk w x o q u (drop_on new.disk h.written));
+              accepted = subst (IsAccepted new.disk) (sym p) f.accepted;
+              writable = subst (IsWritable new.disk) (sym p) (drop_writable t.disk new.disk w x o q u (drop_on new.disk h.written));
               settled = h.gstate;
               used = record {
-                owned = used_blocks new.disk new.pairs ++ skip_list_blocks_of_struct t.disk u.struct;
+                owned = used_blocks new.disk new.pairs ++ struct_blocks t.disk u.struct;
                 are = map_now.used;
-                same = λ b. let k = count_append b (used_blocks new.disk new.pairs) (skip_list_blocks_of_struct t.disk u.struct) in omega arith;
+                same = λ b. let k = count_append b (used_blocks new.disk new.pairs) (struct_blocks t.disk u.struct) in omega arith;
               };
               size = map_now.size ∙ can.ready.size ∙ sym h.written.shape.count;
               large = subst (λ n. 1024 ≤ n) (sym h.written.shape.block_size) can.ready.large;
@@ -242,16 +242,16 @@ module _ (t : KeptThread) (index id first : ℕ) (can : CanEditEntryOfPair t ind
             root = ap pair_count_before_root p ∙ root_stays t.disk new.disk w.chain (dirs_at w (x ∷ o ∷ [])) (dirs_at w (q ∷ [])) behind.site.chain (drop_on new.disk h.written).accepted f.accepted f.root ∙ sym (ap pair_count_before_root there);
           }
 
-      pub gone_whole : IsFileRemoved t new can.path can.name (slot_of_editable_entry can).struct
+      pub gone_whole : IsFileRemoved t new can.path can.name (editable_slot can).struct
       gone_whole = record {
         now = shrunk;
-        completed = λ z given tree is_path. subst (λ y. IsImageAfterCompletedOperation t.disk y z (ops.Remove given) new.disk new.pairs) (sym there)
-            (subst (λ y. IsImageAfterCompletedOperation t.disk (thread_at w (x ∷ o ∷ [])) z (ops.Remove given) new.disk y) (sym (pairs_left dropping new h))
+        completed = λ z given tree is_path. subst (λ y. IsCompletion t.disk y z (ops.Remove given) new.disk new.pairs) (sym there)
+            (subst (λ y. IsCompletion t.disk (thread_at w (x ∷ o ∷ [])) z (ops.Remove given) new.disk y) (sym (pairs_left dropping new h))
             (drop_completed t.disk new.disk w x o q u (drop_on new.disk h.written) file can.path can.at leads_now (subst (λ z. same_pair z can.at ≡ true) behind.begin stand.begin) z given (tree ∙ ap (tree_on_disk t.disk) there)
             (is_path ∙ ap (λ n. can.path ++ n ∷ []) (sym can.stands.stands.named))));
         once = λ b.
             let e = owned_count b in
-            let k = count_append b (used_blocks new.disk new.pairs) (skip_list_blocks_of_struct t.disk u.struct) in
+            let k = count_append b (used_blocks new.disk new.pairs) (struct_blocks t.disk u.struct) in
             let n = used_left dropping new h none (record { kind = refl; id = refl; pair = refl }) b in
             let o = once_from_distinct (used_blocks t.disk t.pairs) can.ready.accepted.owned_once b in
             omega arith;
@@ -259,9 +259,9 @@ module _ (t : KeptThread) (index id first : ℕ) (can : CanEditEntryOfPair t ind
 
     -- ---- at a stop
 
-    left_tree : (left : Blocks) → IsLeftByStoppedPairDrop t (index - 1) zero_gstate left → IsLeftOf (disk_with_blocks left t.disk) (tree_on_disk t.disk t.pairs) (turn (tree_on_disk t.disk t.pairs))
+    left_tree : (left : Blocks) → LeftByDrop t (index - 1) zero_gstate left → IsLeftOf (with_blocks left t.disk) (tree_on_disk t.disk t.pairs) (turn (tree_on_disk t.disk t.pairs))
     left_tree = left_dropped dropping (inl refl) (λ disk written. left_after (record { follows = follows disk written; writable = drop_writable t.disk disk w x o q u (drop_on disk written) }) (inr (ap (λ z. turn (tree_on_disk t.disk z)) (sym there))))
 
-    pub whole_survives : (new : List DeviceCallEvent) → PowerLossLeavesSuchBlocksAfterCleanErases t.history new (IsLeftByStoppedPairDrop t (index - 1) zero_gstate)
-        → SurvivesPowerLossInCallsSince t.disk t.history new (tree_on_disk t.disk t.pairs) (tree_without_named_entry t can.path can.name)
-    whole_survives new stops clean = IsTrueAfterAnyPowerLossSince-weaker left_tree (stops clean)
+    pub whole_survives : (new : List CallEvent) → LossLeavesCleanly t.history new (LeftByDrop t (index - 1) zero_gstate)
+        → SurvivesLossSince t.disk t.history new (tree_on_disk t.disk t.pairs) (tree_without_entry t can.path can.name)
+    whole_survives new stops clean = HoldsAtLosses-weaker left_tree (stops clean)

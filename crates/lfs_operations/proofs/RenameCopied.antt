@@ -3,12 +3,12 @@ use Rattle.std.proofs.Common.{ℕ, zero, suc, ◌≡◌, ◌<◌, List, [], ◌�
 use Rattle.std.proofs.lemmas.List.{length-map}
 use Rattle.std.specs.Prelude.{IsSome}
 use Rattle.std.specs.Option.{option_and_then, option_map}
-use Rattle.lfs_operations.proofs.Common.{same_Some, RawPairContent, RawSlot, slot_if_name_and_struct_present, slots_if_names_and_structs_present, content_after_log_entries, empty_slot, kind_of_name_type, empty_raw_pair_content, slot_of_id, struct_of_type_and_bytes, log_entries_of_block, PairContent, Slot, complete_length, complete_parts, completed_parts}
-use Rattle.lfs_tag.specs.ContentView.{attribute_view, content_view, name_or_struct_view, slot_view}
+use Rattle.lfs_operations.proofs.Common.{same_Some, RawContent, RawSlot, complete_slot, complete_slots, content_after, empty_slot, kind_of_type, empty_raw_content, slot_of_id, read_struct, block_entries, PairContent, Slot, complete_length, complete_parts, completed_parts}
+use Rattle.lfs_tag.specs.ContentView.{attribute_view, content_view, data_view, slot_view}
 use Rattle.lfs_tag.specs.declared.content.Content as code
 use Rattle.lfs_tag.specs.declared.content.NameOrStruct.{NameOrStruct}
 use Rattle.lfs_tag.specs.declared.content.Slot as slots
-use Rattle.lfs_thread.specs.CachedLog.{IsLogBlockOfContent}
+use Rattle.lfs_thread.specs.CachedLog.{IsContentLog}
 
 at_id : {X : Type 0} (f : X → RawSlot) (xs : List X) (i : ℕ) (x : X) (d : RawSlot) → i < length xs → x ≡ get_or xs i x → get_or (map f xs) i d ≡ f x
 at_id f [] i x d l e = absurd (omega arith)
@@ -17,34 +17,34 @@ at_id f (y ∷ xs) (suc i) x d l e = at_id f xs i x d (omega arith) e
 
 record IsComplete (s : RawSlot) : Type 0 where
   slot : Slot
-  is : slot_if_name_and_struct_present s ≡ Some slot
+  is : complete_slot s ≡ Some slot
 
-complete_at_id : (xs : List RawSlot) (us : List Slot) (i : ℕ) → slots_if_names_and_structs_present xs ≡ Some us → i < length xs → IsComplete (slot_of_id xs i)
+complete_at_id : (xs : List RawSlot) (us : List Slot) (i : ℕ) → complete_slots xs ≡ Some us → i < length xs → IsComplete (slot_of_id xs i)
 complete_at_id [] us i h l = absurd (omega arith)
 complete_at_id (x ∷ xs) us zero h l = let p = complete_parts x xs us h in record { slot = p.first; is = p.is_first }
 complete_at_id (x ∷ xs) us (suc i) h l = let p = complete_parts x xs us h in complete_at_id xs p.others i p.are_others (omega arith)
 
-has_parts : (s : slots.Slot) (u : Slot) → slot_if_name_and_struct_present (slot_view s) ≡ Some u → IsSome s.name × IsSome s.structure
+has_parts : (s : slots.Slot) (u : Slot) → complete_slot (slot_view s) ≡ Some u → IsSome s.name × IsSome s.structure
 has_parts s u h = go s.name s.structure h
   where
     go : (n p : Option NameOrStruct) → option_and_then (λ name. option_map (λ struct. record {
-      kind = kind_of_name_type name.0;
+      kind = kind_of_type name.0;
       name = name.1;
-      struct = struct_of_type_and_bytes struct.0 struct.1;
+      struct = read_struct struct.0 struct.1;
       attributes = map attribute_view s.attributes.items;
-    }) (option_map name_or_struct_view p)) (option_map name_or_struct_view n) ≡ Some u → IsSome n × IsSome p
+    }) (option_map data_view p)) (option_map data_view n) ≡ Some u → IsSome n × IsSome p
     go None p k = absurd (cc)
     go (Some n) None k = absurd (cc)
     go (Some n) (Some p) k = (refl, refl)
 
-module _ (block : List ℕ) (content : PairContent) (is : IsLogBlockOfContent block content) (id : ℕ) (below : id < length content.slots) (read : code.Content) (log : content_after_log_entries empty_raw_pair_content (log_entries_of_block block) ≡ Some (content_view read)) where
+module _ (block : List ℕ) (content : PairContent) (is : IsContentLog block content) (id : ℕ) (below : id < length content.slots) (read : code.Content) (log : content_after empty_raw_content (block_entries block) ≡ Some (content_view read)) where
   same_raw : content_view read ≡ is.raw
   same_raw = same_Some (content_view read) is.raw (sym log ∙ is.log)
 
   slots_are : map slot_view read.slots.items ≡ is.raw.slots
-  slots_are = ap (λ (r : RawPairContent). r.slots) same_raw
+  slots_are = ap (λ (r : RawContent). r.slots) same_raw
 
-  all : slots_if_names_and_structs_present is.raw.slots ≡ Some content.slots
+  all : complete_slots is.raw.slots ≡ Some content.slots
   all = (completed_parts is.raw content is.complete).slots
 
   pub read_below : id < length read.slots.items
@@ -57,7 +57,7 @@ module _ (block : List ℕ) (content : PairContent) (is : IsLogBlockOfContent bl
     both : IsSome slot.name × IsSome slot.structure
     both =
         let k = complete_at_id is.raw.slots content.slots id all (let a = complete_length is.raw.slots content.slots all in omega arith) in
-        has_parts slot k.slot (ap slot_if_name_and_struct_present (sym there_read) ∙ k.is)
+        has_parts slot k.slot (ap complete_slot (sym there_read) ∙ k.is)
 
     pub is_named : IsSome slot.name
     is_named = both.0

@@ -2,12 +2,12 @@
 use Rattle.std.proofs.Common.{ℕ, ◌≡◌, ◌⊎◌, inl, inr, ◌<◌, ◌≤◌, zero, suc, true, List, [], ◌∷◌, ◌++◌, length, Option, Some, refl, sym, ap, ap₂, subst, ◌∙◌, arith, append_assoc, insert, remove, length-append, sum_by}
 use Rattle.std.specs.Prelude.{unwrap_or}
 use Rattle.std.specs.Option.{option_and_then}
-use Rattle.lfs_operations.proofs.Common.{sum_by-append, sum_by-cons, PairContentChange, raw_pair_content_after_changes, RawPairContent, RawSlot, slots_if_names_and_structs_present, pair_content_if_slots_complete, empty_raw_pair_content, raw_content_of_pair_at, slot_of_id, CanSplitSlotsIntoTwoPairs, IsPairOfDirectory, HasEntryOfNameAtId, IsWellFormedRawSlot, Name, is_valid_name, PairContent, IsContentFittingPair, Slot, slot_size, Pair, pair_address_named_by_tail, IsEntryWithinWritableLimits, complete_insert, complete_length, complete_remove, completed_from, completed_parts, deletes, does_first, content_cut, entry_small, insert_here, remove_here, logged_changed, pair_content_after_changes, KeptThread, complete_content_after_changes, thread_pair_at_index}
-use Rattle.lfs_model.specs.LoggedContent.{AreWellFormedRawSlots}
-use Rattle.lfs_model.specs.Changes as model
-use Rattle.lfs_operations.specs.Changing.{CanChangeOrSplitPair}
-use Rattle.lfs_operations.specs.Ready.{IsRawPairContentWellFormed, IsImageReadyForChange}
-use Rattle.lfs_operations.specs.RenamingSlots.{NamelessSlot, nameless_slot_at, nameless_slot_of, slot_creation_changes}
+use Rattle.lfs_operations.proofs.Common.{sum_by-append, sum_by-cons, PairChange, changed_content_of, RawContent, RawSlot, complete_slots, complete_content, empty_raw_content, raw_content, slot_of_id, CanSplit, IsPairOfDirectory, HasName, IsSlotWellFormed, Name, is_valid_name, PairContent, FitsInPair, Slot, slot_size, Pair, tail_address_of, IsWritableEntry, complete_insert, complete_length, complete_remove, completed_from, completed_parts, deletes, does_first, content_cut, entry_small, insert_here, remove_here, logged_changed, changed_pair, KeptThread, complete_after, thread_pair_at}
+use Rattle.lfs_model.specs.layers.LoggedContent.{AreWellFormed}
+use Rattle.lfs_model.specs.layers.Changes as model
+use Rattle.lfs_operations.specs.Changing.{CanTurn}
+use Rattle.lfs_operations.specs.Ready.{IsRawFormed, IsReadyImage}
+use Rattle.lfs_operations.specs.RenamingSlots.{NamelessSlot, nameless_at, nameless_of, slot_changes}
 use Rattle.lfs_operations.proofs.Held.{CompletesTo, below, fits_there, here, raw_there}
 use Rattle.lfs_operations.proofs.RawSlots.{IsRaw, is_raw}
 use Rattle.lfs_operations.proofs.RenameSlots.{IsOf, is_of, name_length, slot_comes, slot_of_parts, with_slot}
@@ -40,8 +40,8 @@ behind_or_ahead (x ∷ xs) u ys (a ∷ left) right e = go (behind_or_ahead xs u 
 
 -- ---- a slot goes
 
-pub fits_without : (block_size page : ℕ) (c : PairContent) (xs : List Slot) (u : Slot) (ys : List Slot) → c.slots ≡ xs ++ u ∷ ys → IsContentFittingPair block_size page c
-    → IsContentFittingPair block_size page (record c { slots = xs ++ ys })
+pub fits_without : (block_size page : ℕ) (c : PairContent) (xs : List Slot) (u : Slot) (ys : List Slot) → c.slots ≡ xs ++ u ∷ ys → FitsInPair block_size page c
+    → FitsInPair block_size page (record c { slots = xs ++ ys })
 fits_without block_size page c xs u ys e f =
     let a = ap (sum_by slot_size) e in
     let b = sum_by-append slot_size xs (u ∷ ys) in
@@ -54,23 +54,23 @@ fits_without block_size page c xs u ys e f =
     let n = f.count in
     record { size = omega arith; count = omega arith }
 
-parts_in : (xs : List RawSlot) (i : ℕ) → AreWellFormedRawSlots xs → i < length xs → IsWellFormedRawSlot (slot_of_id xs i)
+parts_in : (xs : List RawSlot) (i : ℕ) → AreWellFormed xs → i < length xs → IsSlotWellFormed (slot_of_id xs i)
 parts_in [] i h l = absurd (omega arith)
 parts_in (x ∷ xs) zero h l = h.0
 parts_in (x ∷ xs) (suc i) h l = parts_in xs i h.1 (omega arith)
 
 -- What slots are left of a content, by changes.
-pub record Leaves (c : RawPairContent) (changes : List PairContentChange) (slots : List Slot) : Type 0 where
-  pub left : RawPairContent
-  pub does : (rest : List PairContentChange) (e : RawPairContent) → raw_pair_content_after_changes left rest ≡ Some e → raw_pair_content_after_changes c (changes ++ rest) ≡ Some e
-  pub are : slots_if_names_and_structs_present left.slots ≡ Some slots
+pub record Leaves (c : RawContent) (changes : List PairChange) (slots : List Slot) : Type 0 where
+  pub left : RawContent
+  pub does : (rest : List PairChange) (e : RawContent) → changed_content_of left rest ≡ Some e → changed_content_of c (changes ++ rest) ≡ Some e
+  pub are : complete_slots left.slots ≡ Some slots
   pub tail : left.tail ≡ c.tail
   pub move : left.move ≡ c.move
 
-pub leaves_all : (c : RawPairContent) (slots : List Slot) → slots_if_names_and_structs_present c.slots ≡ Some slots → Leaves c [] slots
+pub leaves_all : (c : RawContent) (slots : List Slot) → complete_slots c.slots ≡ Some slots → Leaves c [] slots
 leaves_all c slots e = record { left = c; does = λ rest d h. h; are = e; tail = refl; move = refl }
 
-pub leaves_without : (c : RawPairContent) (xs : List Slot) (u : Slot) (ys : List Slot) (id : ℕ) → id < 0x3ff → length xs ≡ id → slots_if_names_and_structs_present c.slots ≡ Some (xs ++ u ∷ ys) → Leaves c (model.Delete id ∷ []) (xs ++ ys)
+pub leaves_without : (c : RawContent) (xs : List Slot) (u : Slot) (ys : List Slot) (id : ℕ) → id < 0x3ff → length xs ≡ id → complete_slots c.slots ≡ Some (xs ++ u ∷ ys) → Leaves c (model.Delete id ∷ []) (xs ++ ys)
 leaves_without c xs u ys id small number e = record {
   left = record c { slots = remove c.slots id };
   does = λ rest d h. does_first (model.Delete id) rest c (record c { slots = remove c.slots id }) d
@@ -81,10 +81,10 @@ leaves_without c xs u ys id small number e = record {
 }
 
 -- one after another
-pub leaves_then : (c : RawPairContent) (changes more : List PairContentChange) (slots others : List Slot) (k : Leaves c changes slots) → Leaves k.left more others → Leaves c (changes ++ more) others
+pub leaves_then : (c : RawContent) (changes more : List PairChange) (slots others : List Slot) (k : Leaves c changes slots) → Leaves k.left more others → Leaves c (changes ++ more) others
 leaves_then c changes more slots others k m = record {
   left = m.left;
-  does = λ rest e h. subst (λ (z : List PairContentChange). raw_pair_content_after_changes c z ≡ Some e) (sym (append_assoc changes more rest)) (k.does (more ++ rest) e (m.does rest e h));
+  does = λ rest e h. subst (λ (z : List PairChange). changed_content_of c z ≡ Some e) (sym (append_assoc changes more rest)) (k.does (more ++ rest) e (m.does rest e h));
   are = m.are;
   tail = m.tail ∙ k.tail;
   move = m.move ∙ k.move;
@@ -92,9 +92,9 @@ leaves_then c changes more slots others k m = record {
 
 -- ---- in a pair
 
-module _ (t : KeptThread) (index id : ℕ) (ready : IsImageReadyForChange t) (first : ℕ) (p : Pair) (rest : List Pair) (place : IsPairOfDirectory t.pairs first index p rest) (logged : IsRawPairContentWellFormed t.disk (thread_pair_at_index t index).at)
-    (was : Name) (s : HasEntryOfNameAtId p.content.slots was id) where
-  abbrev pub c : CompletesTo (raw_content_of_pair_at t.disk (thread_pair_at_index t index).at) p.content
+module _ (t : KeptThread) (index id : ℕ) (ready : IsReadyImage t) (first : ℕ) (p : Pair) (rest : List Pair) (place : IsPairOfDirectory t.pairs first index p rest) (logged : IsRawFormed t.disk (thread_pair_at t index).at)
+    (was : Name) (s : HasName p.content.slots was id) where
+  abbrev pub c : CompletesTo (raw_content t.disk (thread_pair_at t index).at) p.content
   c = raw_there t ready first index p rest place
 
   pub within : id < length p.content.slots
@@ -103,7 +103,7 @@ module _ (t : KeptThread) (index id : ℕ) (ready : IsImageReadyForChange t) (fi
   pub small : length p.content.slots ≤ 1000
   small = let few = (fits_there t ready first index p rest place).count in omega arith
 
-  pub all_slots : slots_if_names_and_structs_present c.raw.slots ≡ Some p.content.slots
+  pub all_slots : complete_slots c.raw.slots ≡ Some p.content.slots
   all_slots = (completed_parts c.raw p.content c.complete).slots
 
   pub raw : IsRaw c.raw.slots s.left s.slot
@@ -112,71 +112,71 @@ module _ (t : KeptThread) (index id : ℕ) (ready : IsImageReadyForChange t) (fi
   there_raw : slot_of_id c.raw.slots id ≡ raw.here
   there_raw = ap (slot_of_id c.raw.slots) (sym s.number) ∙ raw.there
 
-  pub parts_are : nameless_slot_at t index id ≡ nameless_slot_of raw.here
-  parts_are = ap (λ (o : Option RawPairContent). nameless_slot_of (slot_of_id (unwrap_or o empty_raw_pair_content).slots id)) c.is ∙ ap nameless_slot_of there_raw
+  pub parts_are : nameless_at t index id ≡ nameless_of raw.here
+  parts_are = ap (λ (o : Option RawContent). nameless_of (slot_of_id (unwrap_or o empty_raw_content).slots id)) c.is ∙ ap nameless_of there_raw
 
   pub is_slot : IsOf raw.here s.slot
   is_slot = is_of raw.here s.slot
-      (subst IsWellFormedRawSlot there_raw (parts_in c.raw.slots id (logged c.raw c.is).slots (let l = complete_length c.raw.slots p.content.slots all_slots in let w = within in omega arith))) raw.is s.entry
+      (subst IsSlotWellFormed there_raw (parts_in c.raw.slots id (logged c.raw c.is).slots (let l = complete_length c.raw.slots p.content.slots all_slots in let w = within in omega arith))) raw.is s.entry
 
   -- the slots that are left are cut where it comes
-  module _ (front : List PairContentChange) (a b : List Slot) (left : Leaves c.raw front (a ++ b)) (fits_left : IsContentFittingPair t.disk.block_size t.disk.page (record p.content { slots = a ++ b }))
-      (at : ℕ) (number : length a ≡ at) (name : Name) (named : is_valid_name name ≡ true) (fits : IsEntryWithinWritableLimits t.disk.profile t.disk.block_size t.disk.page (record s.slot { name = name })) where
-    abbrev pub changes : List PairContentChange
-    changes = front ++ slot_creation_changes at name (nameless_slot_at t index id)
+  module _ (front : List PairChange) (a b : List Slot) (left : Leaves c.raw front (a ++ b)) (fits_left : FitsInPair t.disk.block_size t.disk.page (record p.content { slots = a ++ b }))
+      (at : ℕ) (number : length a ≡ at) (name : Name) (named : is_valid_name name ≡ true) (fits : IsWritableEntry t.disk.profile t.disk.block_size t.disk.page (record s.slot { name = name })) where
+    abbrev pub changes : List PairChange
+    changes = front ++ slot_changes at name (nameless_at t index id)
 
     abbrev pub moved : Slot
     moved = record s.slot { name = name }
 
     raw_moved : RawSlot
-    raw_moved = slot_of_parts name (nameless_slot_of raw.here)
+    raw_moved = slot_of_parts name (nameless_of raw.here)
 
-    raw_now : RawPairContent
+    raw_now : RawContent
     raw_now = with_slot left.left at raw_moved
 
     length_left : length left.left.slots ≡ length (a ++ b)
     length_left = sym (complete_length left.left.slots (a ++ b) left.are)
 
-    changed_now : raw_pair_content_after_changes c.raw (front ++ slot_creation_changes at name (nameless_slot_at t index id)) ≡ Some raw_now
+    changed_now : changed_content_of c.raw (front ++ slot_changes at name (nameless_at t index id)) ≡ Some raw_now
     unfolding raw_now raw_moved
-    changed_now = left.does (slot_creation_changes at name (nameless_slot_at t index id)) raw_now
-        (ap (λ (z : NamelessSlot). raw_pair_content_after_changes left.left (slot_creation_changes at name z)) parts_are
-        ∙ slot_comes left.left at name (nameless_slot_of raw.here) (let n = fits_left.count in let k = length-append a b in omega arith)
+    changed_now = left.does (slot_changes at name (nameless_at t index id)) raw_now
+        (ap (λ (z : NamelessSlot). changed_content_of left.left (slot_changes at name z)) parts_are
+        ∙ slot_comes left.left at name (nameless_of raw.here) (let n = fits_left.count in let k = length-append a b in omega arith)
         (let k = length-append a b in let l = length_left in omega arith) (name_length name named) is_slot.are)
 
-    made_raw : pair_content_after_changes t.disk (thread_pair_at_index t index).at (front ++ slot_creation_changes at name (nameless_slot_at t index id)) ≡ Some raw_now
-    made_raw = ap (λ o. option_and_then (λ (x : RawPairContent). raw_pair_content_after_changes x (front ++ slot_creation_changes at name (nameless_slot_at t index id))) o) c.is ∙ changed_now
+    made_raw : changed_pair t.disk (thread_pair_at t index).at (front ++ slot_changes at name (nameless_at t index id)) ≡ Some raw_now
+    made_raw = ap (λ o. option_and_then (λ (x : RawContent). changed_content_of x (front ++ slot_changes at name (nameless_at t index id))) o) c.is ∙ changed_now
 
     abbrev pub now : PairContent
     now = record { slots = a ++ record s.slot { name = name } ∷ b; tail = p.content.tail; move = p.content.move }
 
-    slots_now : slots_if_names_and_structs_present raw_now.slots ≡ Some (a ++ record s.slot { name = name } ∷ b)
+    slots_now : complete_slots raw_now.slots ≡ Some (a ++ record s.slot { name = name } ∷ b)
     unfolding raw_moved raw_now
     slots_now = complete_insert left.left.slots (a ++ b) at raw_moved moved left.are (is_slot.complete name) ∙ ap (λ (i : ℕ). Some (insert (a ++ b) i moved)) (sym number) ∙ ap Some (insert_here a b moved)
 
-    now_complete : pair_content_if_slots_complete raw_now ≡ Some now
+    now_complete : complete_content raw_now ≡ Some now
     unfolding raw_now
     now_complete =
         let parts = completed_parts c.raw p.content c.complete in
         completed_from raw_now (a ++ moved ∷ b) slots_now
         ∙ ap₂ (λ t m. Some (record { slots = a ++ moved ∷ b; tail = t; move = m })) (left.tail ∙ sym parts.tail) (left.move ∙ sym parts.move)
 
-    pub made : complete_content_after_changes t index (front ++ slot_creation_changes at name (nameless_slot_at t index id)) ≡ Some now
-    made = ap (λ o. option_and_then pair_content_if_slots_complete o) made_raw ∙ now_complete
+    pub made : complete_after t index (front ++ slot_changes at name (nameless_at t index id)) ≡ Some now
+    made = ap (λ o. option_and_then complete_content o) made_raw ∙ now_complete
 
-    cut : CanSplitSlotsIntoTwoPairs t.disk.block_size t.disk.page raw_now.slots
+    cut : CanSplit t.disk.block_size t.disk.page raw_now.slots
     cut = content_cut t.disk.block_size t.disk.page raw_now now a moved b (logged_changed c.raw changes raw_now (logged c.raw c.is) changed_now) now_complete refl
         (entry_small t.disk.profile t.disk.block_size t.disk.page moved ready.large fits)
         (let f = fits_left.size in let k = sum_by-append slot_size a b in omega arith)
         (let n = fits_left.count in let k = length-append a b in omega arith)
 
-    pub can_put : CanChangeOrSplitPair t index (front ++ slot_creation_changes at name (nameless_slot_at t index id))
+    pub can_put : CanTurn t index (front ++ slot_changes at name (nameless_at t index id))
     can_put = record {
       can = record {
         below = below t ready first index p rest place;
         content = now;
         made = made;
-        next = ap (λ (z : Pair). pair_address_named_by_tail z.content.tail) (sym (here t ready first index p rest place));
+        next = ap (λ (z : Pair). tail_address_of z.content.tail) (sym (here t ready first index p rest place));
       };
       raw = raw_now;
       made = made_raw;

@@ -1,12 +1,12 @@
 -- An entry that takes the place of a directory while the sync bit turns, as a step of the thread.
 use Rattle.std.proofs.Common.{subst₂, ℕ, ◌≡◌, ◌⊎◌, inl, inr, ◌+◌, ◌≤◌, true, List, [], ◌∷◌, ◌++◌, length, Some, refl, sym, ap, ap₂, subst, ◌∙◌, arith, append_assoc, length-append, sum_by, insert}
 use Rattle.std.specs.Option.{option_and_then}
-use Rattle.lfs_operations.proofs.Common.{sum_by-append, sum_by-cons, same_Some, tree_after_rename, PairContentChange, Delete, PutMove, raw_pair_content_after_changes, RawPairContent, RawSlot, slots_if_names_and_structs_present, pair_content_if_slots_complete, raw_content_of_pair_at, Disk, DeviceCallEvent, HasEntryOfNameAtId, AreMoveStateFieldsWithinBitWidths, Name, is_valid_name, SurvivesPowerLossInCallsSince, PairContent, IsContentFittingPair, Gstate, Slot, gstate_xor, slot_size, Pair, gstate_of_pairs, pair_address_named_by_tail, IsFileOrDirectoryEntry, tree_on_disk, IsImageAfterTreeChange, complete_insert, complete_length, completed_from, completed_parts, does_first, puts_move, gstate_comm, sync_bit_delta, turned_is, IsTrueAfterAnyPowerLossSince-weaker, IsStep, insert_here, some_filled, directory_addresses_after_rename, site, Site, thread_at, IsWritableImageAfterTreeChange, PowerLossLeavesSuchBlocksAfterCleanErases, KeptThread, CanChangePair, IsPairChanged, PowerLossLeavesPairOldOrChanged, IsCommitRefused, IsPairWrittenOnDisk, complete_content_after_changes, thread_pair_at_index}
-use Rattle.lfs_model.specs.Slots.{struct_len}
-use Rattle.lfs_operations.specs.Editing.{CanEditEntryOfPair}
-use Rattle.lfs_operations.specs.Renaming.{id_after_slot_removal, tree_with_renamed_entry}
-use Rattle.lfs_operations.specs.RenamingOver.{CanReplaceDirectoryInPair, IsDirectoryReplacedInPair, replace_directory_in_pair_changes}
-use Rattle.lfs_operations.specs.RenamingSlots.{HasSlotOfId, NamelessSlot, nameless_slot_of, slot_creation_changes}
+use Rattle.lfs_operations.proofs.Common.{sum_by-append, sum_by-cons, same_Some, tree_renaming, PairChange, Delete, PutMove, changed_content_of, RawContent, RawSlot, complete_slots, complete_content, raw_content, Disk, CallEvent, HasName, MoveStateFits, Name, is_valid_name, SurvivesLossSince, PairContent, FitsInPair, Gstate, Slot, gstate_xor, slot_size, Pair, pairs_gstate, tail_address_of, IsTreeEntry, tree_on_disk, IsChangedImage, complete_insert, complete_length, completed_from, completed_parts, does_first, puts_move, gstate_comm, sync_bit_delta, turned_is, HoldsAtLosses-weaker, IsStep, insert_here, some_filled, renamed_addresses, site, Site, thread_at, IsWritableChange, LossLeavesCleanly, KeptThread, CanChangePair, IsPairCommitted, LossLeavesPairChanged, RefusesCommit, IsPairWritten, complete_after, thread_pair_at}
+use Rattle.lfs_model.specs.format.Slots.{struct_len}
+use Rattle.lfs_operations.specs.Editing.{CanEditIn}
+use Rattle.lfs_operations.specs.Renaming.{id_after_removal, tree_renamed}
+use Rattle.lfs_operations.specs.RenamingOver.{CanReplaceDirectory, IsDirectoryReplaced, replace_directory_changes}
+use Rattle.lfs_operations.specs.RenamingSlots.{HasSlot, NamelessSlot, nameless_of, slot_changes}
 use Rattle.lfs_operations.proofs.Held.{CompletesTo, below, here, raw_there}
 use Rattle.lfs_operations.proofs.RenameMade as made
 use Rattle.lfs_operations.proofs.RenameMade.{ComesAhead, ComesBehind, Leaves, behind_or_ahead}
@@ -21,31 +21,31 @@ use Rattle.lfs_operations.proofs.PairAt.{HasPairAt, pair_at}
 
 -- ---- a delta that turns the sync bit
 
-turned_small : (g : Gstate) → AreMoveStateFieldsWithinBitWidths g → AreMoveStateFieldsWithinBitWidths (gstate_xor g sync_bit_delta)
-turned_small g h = subst AreMoveStateFieldsWithinBitWidths (sym (gstate_comm g sync_bit_delta ∙ turned_is g)) (record { kind = h.kind; id = h.id; pair = h.pair })
+turned_small : (g : Gstate) → MoveStateFits g → MoveStateFits (gstate_xor g sync_bit_delta)
+turned_small g h = subst MoveStateFits (sym (gstate_comm g sync_bit_delta ∙ turned_is g)) (record { kind = h.kind; id = h.id; pair = h.pair })
 
 -- ---- a slot comes into what is left
 
-module _ (c : RawPairContent) (front : List PairContentChange) (a b : List Slot) (left : Leaves c front (a ++ b)) (at : ℕ) (number : length a ≡ at) (few : length (a ++ b) ≤ 1000) (name : Name) (named : is_valid_name name ≡ true)
+module _ (c : RawContent) (front : List PairChange) (a b : List Slot) (left : Leaves c front (a ++ b)) (at : ℕ) (number : length a ≡ at) (few : length (a ++ b) ≤ 1000) (name : Name) (named : is_valid_name name ≡ true)
     (x : RawSlot) (u : Slot) (is : IsOf x u) where
   abbrev raw_moved : RawSlot
-  raw_moved = slot_of_parts name (nameless_slot_of x)
+  raw_moved = slot_of_parts name (nameless_of x)
 
-  comes_again : raw_pair_content_after_changes c (front ++ slot_creation_changes at name (nameless_slot_of x)) ≡ Some (with_slot left.left at (slot_of_parts name (nameless_slot_of x)))
+  comes_again : changed_content_of c (front ++ slot_changes at name (nameless_of x)) ≡ Some (with_slot left.left at (slot_of_parts name (nameless_of x)))
   comes_again =
       let l = complete_length left.left.slots (a ++ b) left.are in
       let k = length-append a b in
-      left.does (slot_creation_changes at name (nameless_slot_of x)) (with_slot left.left at raw_moved) (slot_comes left.left at name (nameless_slot_of x) (omega arith) (omega arith) (name_length name named) is.are)
+      left.does (slot_changes at name (nameless_of x)) (with_slot left.left at raw_moved) (slot_comes left.left at name (nameless_of x) (omega arith) (omega arith) (name_length name named) is.are)
 
-  are_again : slots_if_names_and_structs_present (with_slot left.left at (slot_of_parts name (nameless_slot_of x))).slots ≡ Some (a ++ record u { name = name } ∷ b)
+  are_again : complete_slots (with_slot left.left at (slot_of_parts name (nameless_of x))).slots ≡ Some (a ++ record u { name = name } ∷ b)
   are_again = complete_insert left.left.slots (a ++ b) at raw_moved (record u { name = name }) left.are (is.complete name) ∙ ap (λ (i : ℕ). Some (insert (a ++ b) i (record u { name = name }))) (sym number)
       ∙ ap Some (insert_here a b (record u { name = name }))
 
-module _ (t : KeptThread) (index id place : ℕ) (name : Name) (rename : CanReplaceDirectoryInPair t index id place name) where
-  abbrev can : CanEditEntryOfPair t index id
+module _ (t : KeptThread) (index id place : ℕ) (name : Name) (rename : CanReplaceDirectory t index id place name) where
+  abbrev can : CanEditIn t index id
   can = rename.can
 
-  abbrev s : HasEntryOfNameAtId can.stands.pair.content.slots can.name id
+  abbrev s : HasName can.stands.pair.content.slots can.name id
   s = can.stands.stands
 
   abbrev p : Pair
@@ -57,7 +57,7 @@ module _ (t : KeptThread) (index id place : ℕ) (name : Name) (rename : CanRepl
   abbrev target : Slot
   target = rename.target.stands.slot
 
-  pub has_slot : HasSlotOfId t index id
+  pub has_slot : HasSlot t index id
   has_slot = both.has_slot t index id place name can rename.target rename.differs
 
   pub target_held : p.content.slots ≡ rename.target.stands.left ++ target ∷ rename.target.stands.right
@@ -75,10 +75,10 @@ module _ (t : KeptThread) (index id place : ℕ) (name : Name) (rename : CanRepl
   stand : HasPairAt t index can.path can.at w p
   stand = pair_at t can.ready can.path can.at can.leads can.first index p can.stands.rest can.stands.place can.begins
 
-  fits_here : IsContentFittingPair t.disk.block_size t.disk.page p.content
+  fits_here : FitsInPair t.disk.block_size t.disk.page p.content
   fits_here = both.fits_here t index id place name can rename.target rename.differs
 
-  abbrev c : CompletesTo (raw_content_of_pair_at t.disk (thread_pair_at_index t index).at) p.content
+  abbrev c : CompletesTo (raw_content t.disk (thread_pair_at t index).at) p.content
   c = raw_there t can.ready can.first index p can.stands.rest can.stands.place
 
   pub differs : target.name ≡ u.name → ⊥
@@ -87,21 +87,21 @@ module _ (t : KeptThread) (index id place : ℕ) (name : Name) (rename : CanRepl
   named : is_valid_name name ≡ true
   named = both.named t index id place name can rename.target rename.differs
 
-  entry_again : IsFileOrDirectoryEntry u → IsFileOrDirectoryEntry (with_name u name)
+  entry_again : IsTreeEntry u → IsTreeEntry (with_name u name)
   entry_again = both.entry_again t index id place name can rename.target rename.differs
 
   abbrev delta : Gstate
-  delta = gstate_xor (thread_pair_at_index t index).content.move sync_bit_delta
+  delta = gstate_xor (thread_pair_at t index).content.move sync_bit_delta
 
   -- ---- what the changes make
 
-  abbrev turned_raw : RawPairContent
+  abbrev turned_raw : RawContent
   turned_raw = record c.raw { move = delta }
 
-  does_turn : (rest : List PairContentChange) (e : RawPairContent) → raw_pair_content_after_changes (record c.raw { move = delta }) rest ≡ Some e → raw_pair_content_after_changes c.raw (PutMove delta ∷ rest) ≡ Some e
+  does_turn : (rest : List PairChange) (e : RawContent) → changed_content_of (record c.raw { move = delta }) rest ≡ Some e → changed_content_of c.raw (PutMove delta ∷ rest) ≡ Some e
   does_turn rest e h = does_first (PutMove delta) rest c.raw turned_raw e
-      (puts_move c.raw delta (turned_small (thread_pair_at_index t index).content.move
-      (subst AreMoveStateFieldsWithinBitWidths (sym (completed_parts c.raw p.content c.complete).move ∙ ap (λ (z : Pair). z.content.move) (sym (here t can.ready can.first index p can.stands.rest can.stands.place))) (can.logged c.raw c.is).move))) h
+      (puts_move c.raw delta (turned_small (thread_pair_at t index).content.move
+      (subst MoveStateFits (sym (completed_parts c.raw p.content c.complete).move ∙ ap (λ (z : Pair). z.content.move) (sym (here t can.ready can.first index p can.stands.rest can.stands.place))) (can.logged c.raw c.is).move))) h
 
   abbrev pub IsLeftOver : List Slot → List Slot → Type 0
   IsLeftOver = both.IsLeftOver t index id place name can rename.target rename.differs
@@ -110,10 +110,10 @@ module _ (t : KeptThread) (index id place : ℕ) (name : Name) (rename : CanRepl
   over_content x y = content_with p (x ++ with_name u name ∷ y) (gstate_xor p.content.move sync_bit_delta)
 
   module _ (x y : List Slot) (over : IsLeftOver x y) where
-    fits_two : IsContentFittingPair t.disk.block_size t.disk.page (record p.content { slots = x ++ y })
+    fits_two : FitsInPair t.disk.block_size t.disk.page (record p.content { slots = x ++ y })
     fits_two = both.fits_both t index id place name can rename.target rename.differs x y over
 
-    left_two : Leaves turned_raw (Delete id ∷ Delete (id_after_slot_removal id place) ∷ []) (x ++ y)
+    left_two : Leaves turned_raw (Delete id ∷ Delete (id_after_removal id place) ∷ []) (x ++ y)
     left_two = both.left_both t index id place name can rename.target rename.differs x y over turned_raw
         (made.all_slots t index id can.ready can.first p can.stands.rest can.stands.place can.logged can.name s)
 
@@ -123,24 +123,24 @@ module _ (t : KeptThread) (index id place : ℕ) (name : Name) (rename : CanRepl
     abbrev raw_here : RawSlot
     raw_here = (made.raw t index id can.ready can.first p can.stands.rest can.stands.place can.logged can.name s).here
 
-    abbrev raw_now : RawPairContent
-    raw_now = with_slot left_two.left (id_after_slot_removal id place) (slot_of_parts name (nameless_slot_of raw_here))
+    abbrev raw_now : RawContent
+    raw_now = with_slot left_two.left (id_after_removal id place) (slot_of_parts name (nameless_of raw_here))
 
-    changed_now : raw_pair_content_after_changes c.raw (replace_directory_in_pair_changes t index id place name) ≡ Some raw_now
-    changed_now = ap (λ (z : NamelessSlot). raw_pair_content_after_changes c.raw (PutMove delta ∷ Delete id ∷ Delete (id_after_slot_removal id place) ∷ slot_creation_changes (id_after_slot_removal id place) name z))
+    changed_now : changed_content_of c.raw (replace_directory_changes t index id place name) ≡ Some raw_now
+    changed_now = ap (λ (z : NamelessSlot). changed_content_of c.raw (PutMove delta ∷ Delete id ∷ Delete (id_after_removal id place) ∷ slot_changes (id_after_removal id place) name z))
         (made.parts_are t index id can.ready can.first p can.stands.rest can.stands.place can.logged can.name s)
-        ∙ does_turn (Delete id ∷ Delete (id_after_slot_removal id place) ∷ slot_creation_changes (id_after_slot_removal id place) name (nameless_slot_of raw_here)) raw_now
-        (comes_again turned_raw (Delete id ∷ Delete (id_after_slot_removal id place) ∷ []) x y left_two (id_after_slot_removal id place) over.1 fits_two.count name named raw_here u is_raw_slot)
+        ∙ does_turn (Delete id ∷ Delete (id_after_removal id place) ∷ slot_changes (id_after_removal id place) name (nameless_of raw_here)) raw_now
+        (comes_again turned_raw (Delete id ∷ Delete (id_after_removal id place) ∷ []) x y left_two (id_after_removal id place) over.1 fits_two.count name named raw_here u is_raw_slot)
 
-    over_made : complete_content_after_changes t index (replace_directory_in_pair_changes t index id place name) ≡ Some (over_content x y)
+    over_made : complete_after t index (replace_directory_changes t index id place name) ≡ Some (over_content x y)
     over_made =
         let parts = completed_parts c.raw p.content c.complete in
-        ap (λ o. option_and_then pair_content_if_slots_complete (option_and_then (λ (z : RawPairContent). raw_pair_content_after_changes z (replace_directory_in_pair_changes t index id place name)) o)) c.is
-        ∙ ap (λ o. option_and_then pair_content_if_slots_complete o) changed_now
-        ∙ completed_from raw_now (x ++ with_name u name ∷ y) (are_again turned_raw (Delete id ∷ Delete (id_after_slot_removal id place) ∷ []) x y left_two (id_after_slot_removal id place) over.1 fits_two.count name named raw_here u is_raw_slot)
+        ap (λ o. option_and_then complete_content (option_and_then (λ (z : RawContent). changed_content_of z (replace_directory_changes t index id place name)) o)) c.is
+        ∙ ap (λ o. option_and_then complete_content o) changed_now
+        ∙ completed_from raw_now (x ++ with_name u name ∷ y) (are_again turned_raw (Delete id ∷ Delete (id_after_removal id place) ∷ []) x y left_two (id_after_removal id place) over.1 fits_two.count name named raw_here u is_raw_slot)
         ∙ ap₂ (λ a m. Some (record { slots = x ++ with_name u name ∷ y; tail = a; move = m })) (left_two.tail ∙ sym parts.tail) (left_two.move ∙ ap (λ (z : Pair). gstate_xor z.content.move sync_bit_delta) (here t can.ready can.first index p can.stands.rest can.stands.place))
 
-    pub over_fits : IsContentFittingPair t.disk.block_size t.disk.page (over_content x y)
+    pub over_fits : FitsInPair t.disk.block_size t.disk.page (over_content x y)
     over_fits =
         let n : length name ≡ length target.name = ap length (sym rename.target.stands.named) in
         let b : struct_len target.struct ≡ 8 = ap struct_len rename.branch in
@@ -174,13 +174,13 @@ module _ (t : KeptThread) (index id place : ℕ) (name : Name) (rename : CanRepl
     pub olds : List Slot
     pub news : List Slot
     pub r : List Slot
-    pub placed : IsPlaced t index (replace_directory_in_pair_changes t index id place name) w p l olds news r (target ∷ []) u (with_name u name)
+    pub placed : IsPlaced t index (replace_directory_changes t index id place name) w p l olds news r (target ∷ []) u (with_name u name)
     pub is_content : placed.content ≡ over_content x y
-    pub follows : (disk : Disk) (q : Pair) → IsStep t.disk disk w p [] q [] [] [] l olds news r → (gstate_of_pairs (thread_at w (q ∷ []))).sync ≡ true
-        → IsImageAfterTreeChange t.disk (thread_at w (p ∷ [])) disk (thread_at w (q ∷ [])) (tree_after_rename (can.path ++ can.name ∷ []) (can.path ++ name ∷ [])) (directory_addresses_after_rename (can.path ++ can.name ∷ []) (can.path ++ name ∷ []))
+    pub follows : (disk : Disk) (q : Pair) → IsStep t.disk disk w p [] q [] [] [] l olds news r → (pairs_gstate (thread_at w (q ∷ []))).sync ≡ true
+        → IsChangedImage t.disk (thread_at w (p ∷ [])) disk (thread_at w (q ∷ [])) (tree_renaming (can.path ++ can.name ∷ []) (can.path ++ name ∷ [])) (renamed_addresses (can.path ++ can.name ∷ []) (can.path ++ name ∷ []))
 
   abbrev FollowsAs : Disk → Pair → Name → Name → Type 0
-  FollowsAs disk q n m = IsImageAfterTreeChange t.disk (thread_at w (p ∷ [])) disk (thread_at w (q ∷ [])) (tree_after_rename (can.path ++ n ∷ []) (can.path ++ m ∷ [])) (directory_addresses_after_rename (can.path ++ n ∷ []) (can.path ++ m ∷ []))
+  FollowsAs disk q n m = IsChangedImage t.disk (thread_at w (p ∷ [])) disk (thread_at w (q ∷ [])) (tree_renaming (can.path ++ n ∷ []) (can.path ++ m ∷ [])) (renamed_addresses (can.path ++ n ∷ []) (can.path ++ m ∷ []))
 
   other_names : (disk : Disk) (q : Pair) → FollowsAs disk q u.name target.name → FollowsAs disk q can.name name
   other_names disk q h = subst (λ (n : Name). FollowsAs disk q n name) s.named (subst (λ (n : Name). FollowsAs disk q u.name n) rename.target.stands.named h)
@@ -269,10 +269,10 @@ module _ (t : KeptThread) (index id place : ℕ) (name : Name) (rename : CanRepl
   -- ---- the step
 
   module _ (h : HasOver) where
-    abbrev k : IsPlaced t index (replace_directory_in_pair_changes t index id place name) w p h.l h.olds h.news h.r (target ∷ []) u (with_name u name)
+    abbrev k : IsPlaced t index (replace_directory_changes t index id place name) w p h.l h.olds h.news h.r (target ∷ []) u (with_name u name)
     k = h.placed
 
-    pub turning : IsSyncTurn t index (replace_directory_in_pair_changes t index id place name) w p (h.x ++ with_name u name ∷ h.y) h.l h.olds h.news h.r
+    pub turning : IsSyncTurn t index (replace_directory_changes t index id place name) w p (h.x ++ with_name u name ∷ h.y) h.l h.olds h.news h.r
     turning = record {
       ready = can.ready;
       there = stand.there;
@@ -283,13 +283,13 @@ module _ (t : KeptThread) (index id place : ℕ) (name : Name) (rename : CanRepl
       was = k.was;
       now = kept;
       front = λ e. k.front;
-      fit = fit_now t index (replace_directory_in_pair_changes t index id place name) w p h.l h.olds h.news h.r (target ∷ []) u (with_name u name) k;
+      fit = fit_now t index (replace_directory_changes t index id place name) w p h.l h.olds h.news h.r (target ∷ []) u (with_name u name) k;
       filled = λ e none. some_filled h.x h.y (with_name u name) (kept ∙ none);
       splice = λ disk geometry files. record {
         front = λ e. k.front;
-        entries = entries_now t index (replace_directory_in_pair_changes t index id place name) w p h.l h.olds h.news h.r (target ∷ []) u (with_name u name) k;
-        lists = lists_now t index (replace_directory_in_pair_changes t index id place name) w p h.l h.olds h.news h.r (target ∷ []) u (with_name u name) k disk geometry files;
-        blocks = λ b. let e = blocks_now t index (replace_directory_in_pair_changes t index id place name) w p h.l h.olds h.news h.r (target ∷ []) u (with_name u name) k disk geometry files b in omega arith;
+        entries = entries_now t index (replace_directory_changes t index id place name) w p h.l h.olds h.news h.r (target ∷ []) u (with_name u name) k;
+        lists = lists_now t index (replace_directory_changes t index id place name) w p h.l h.olds h.news h.r (target ∷ []) u (with_name u name) k disk geometry files;
+        blocks = λ b. let e = blocks_now t index (replace_directory_changes t index id place name) w p h.l h.olds h.news h.r (target ∷ []) u (with_name u name) k disk geometry files b in omega arith;
       };
     }
       where
@@ -297,44 +297,44 @@ module _ (t : KeptThread) (index id place : ℕ) (name : Name) (rename : CanRepl
         kept = ap (λ (z : PairContent). z.slots) (sym h.is_content) ∙ k.now
 
     pub over_follows : (disk : Disk) → IsStep t.disk disk w p [] (pair_turned turning) [] [] [] h.l h.olds h.news h.r
-        → IsImageAfterTreeChange t.disk (thread_at w (p ∷ [])) disk (thread_at w (pair_turned turning ∷ [])) (tree_after_rename (can.path ++ can.name ∷ []) (can.path ++ name ∷ [])) (directory_addresses_after_rename (can.path ++ can.name ∷ []) (can.path ++ name ∷ []))
+        → IsChangedImage t.disk (thread_at w (p ∷ [])) disk (thread_at w (pair_turned turning ∷ [])) (tree_renaming (can.path ++ can.name ∷ []) (can.path ++ name ∷ [])) (renamed_addresses (can.path ++ can.name ∷ []) (can.path ++ name ∷ []))
     over_follows disk step = h.follows disk (pair_turned turning) step (ap (λ (g : Gstate). g.sync) (state_turned turning))
 
-    pub over_changed : (new : KeptThread) → IsPairChanged t index (replace_directory_in_pair_changes t index id place name) new → ChangedOne t index w p (h.x ++ with_name u name ∷ h.y) (gstate_xor p.content.move sync_bit_delta) new
-    over_changed new is = changed_one t index (replace_directory_in_pair_changes t index id place name) w p (h.x ++ with_name u name ∷ h.y) (gstate_xor p.content.move sync_bit_delta) (turn_of turning) new is
+    pub over_changed : (new : KeptThread) → IsPairCommitted t index (replace_directory_changes t index id place name) new → ChangedOne t index w p (h.x ++ with_name u name ∷ h.y) (gstate_xor p.content.move sync_bit_delta) new
+    over_changed new is = changed_one t index (replace_directory_changes t index id place name) w p (h.x ++ with_name u name ∷ h.y) (gstate_xor p.content.move sync_bit_delta) (turn_of turning) new is
 
-  pub can_over : CanChangePair t index (replace_directory_in_pair_changes t index id place name)
+  pub can_over : CanChangePair t index (replace_directory_changes t index id place name)
   can_over = record {
     below = below t can.ready can.first index p can.stands.rest can.stands.place;
     content = over_content has_over.x has_over.y;
     made = over_made has_over.x has_over.y has_over.over;
-    next = ap (λ (z : Pair). pair_address_named_by_tail z.content.tail) (sym (here t can.ready can.first index p can.stands.rest can.stands.place));
+    next = ap (λ (z : Pair). tail_address_of z.content.tail) (sym (here t can.ready can.first index p can.stands.rest can.stands.place));
   }
 
-  pub same_made : (z : PairContent) → complete_content_after_changes t index (replace_directory_in_pair_changes t index id place name) ≡ Some z → z ≡ over_content has_over.x has_over.y
+  pub same_made : (z : PairContent) → complete_after t index (replace_directory_changes t index id place name) ≡ Some z → z ≡ over_content has_over.x has_over.y
   same_made z m = same_Some z (over_content has_over.x has_over.y) (sym m ∙ over_made has_over.x has_over.y has_over.over)
 
-  pub over_not_refused : (new : KeptThread) → IsCommitRefused t index (replace_directory_in_pair_changes t index id place name) new → ⊥
-  over_not_refused new is = is.too_large (subst (IsContentFittingPair t.disk.block_size t.disk.page) (sym (same_made is.content is.made)) (over_fits has_over.x has_over.y has_over.over))
+  pub over_not_refused : (new : KeptThread) → RefusesCommit t index (replace_directory_changes t index id place name) new → ⊥
+  over_not_refused new is = is.too_large (subst (FitsInPair t.disk.block_size t.disk.page) (sym (same_made is.content is.made)) (over_fits has_over.x has_over.y has_over.over))
 
-  pub renamed_over : (new : KeptThread) → IsPairChanged t index (replace_directory_in_pair_changes t index id place name) new → IsDirectoryReplacedInPair t new index id place rename.can.path rename.can.name name
+  pub renamed_over : (new : KeptThread) → IsPairCommitted t index (replace_directory_changes t index id place name) new → IsDirectoryReplaced t new index id place rename.can.path rename.can.name name
   renamed_over new is =
       let x = over_changed has_over new is in
       record {
         changed = is;
         content = over_content has_over.x has_over.y;
-        written = subst (λ z. IsPairWrittenOnDisk t index z new.disk) (same_made is.content is.made) is.written;
+        written = subst (λ z. IsPairWritten t index z new.disk) (same_made is.content is.made) is.written;
         pairs = x.is;
         thread = is.thread;
         map = is.map;
-        gstate = ap gstate_of_pairs x.pairs ∙ state_turned (turning has_over);
-        taken = subst₂ (λ y z. IsWritableImageAfterTreeChange t.disk y new.disk z (tree_after_rename (can.path ++ can.name ∷ []) (can.path ++ name ∷ [])) (directory_addresses_after_rename (can.path ++ can.name ∷ []) (can.path ++ name ∷ []))) (sym stand.there) (sym x.pairs)
-            (taken_turned (turning has_over) (tree_after_rename (can.path ++ can.name ∷ []) (can.path ++ name ∷ [])) (directory_addresses_after_rename (can.path ++ can.name ∷ []) (can.path ++ name ∷ [])) (over_follows has_over) new.disk x.turned);
+        gstate = ap pairs_gstate x.pairs ∙ state_turned (turning has_over);
+        taken = subst₂ (λ y z. IsWritableChange t.disk y new.disk z (tree_renaming (can.path ++ can.name ∷ []) (can.path ++ name ∷ [])) (renamed_addresses (can.path ++ can.name ∷ []) (can.path ++ name ∷ []))) (sym stand.there) (sym x.pairs)
+            (taken_turned (turning has_over) (tree_renaming (can.path ++ can.name ∷ []) (can.path ++ name ∷ [])) (renamed_addresses (can.path ++ can.name ∷ []) (can.path ++ name ∷ [])) (over_follows has_over) new.disk x.turned);
       }
 
   -- ---- at a stop
 
-  pub over_survives : (new : List DeviceCallEvent) → PowerLossLeavesSuchBlocksAfterCleanErases t.history new (PowerLossLeavesPairOldOrChanged t index (replace_directory_in_pair_changes t index id place name))
-      → SurvivesPowerLossInCallsSince t.disk t.history new (tree_on_disk t.disk t.pairs) (tree_with_renamed_entry t rename.can.path rename.can.name name)
-  over_survives new stops clean = IsTrueAfterAnyPowerLossSince-weaker
-      (left_turned (turning has_over) (tree_after_rename (can.path ++ can.name ∷ []) (can.path ++ name ∷ [])) (directory_addresses_after_rename (can.path ++ can.name ∷ []) (can.path ++ name ∷ [])) (over_follows has_over)) (stops clean)
+  pub over_survives : (new : List CallEvent) → LossLeavesCleanly t.history new (LossLeavesPairChanged t index (replace_directory_changes t index id place name))
+      → SurvivesLossSince t.disk t.history new (tree_on_disk t.disk t.pairs) (tree_renamed t rename.can.path rename.can.name name)
+  over_survives new stops clean = HoldsAtLosses-weaker
+      (left_turned (turning has_over) (tree_renaming (can.path ++ can.name ∷ []) (can.path ++ name ∷ [])) (renamed_addresses (can.path ++ can.name ∷ []) (can.path ++ name ∷ [])) (over_follows has_over)) (stops clean)

@@ -3,20 +3,20 @@ use Rattle.std.proofs.Common.{ℕ, ◌≡◌, ◌⊎◌, inl, inr, false, List, 
 use Rattle.std.specs.Prelude.{IfErr}
 use Rattle.lfs_device.specs.declared.error.Error.{Error}
 use Rattle.lfs_device.specs.declared.error.Error.TheVariants.{Io, NoMemory, NoSpace}
-use Rattle.lfs_operations.proofs.Common.{Blocks, PairContentChange, Disk, DeviceCallEvent, AreCallsSinceOnlyReads, fault_count_of_history, IsPairOfDirectory, SurvivesPowerLossInCallsSince, disk_with_blocks, PairContent, Pair, Tree, tree_on_disk, IsTrueAfterAnyPowerLossSince-weaker, IsTrueAfterAnyPowerLossSince-trans, IsTrueAfterAnyPowerLossSince-read_count_of_history, IsTrueOfEachCallSince-behind, AreBlocksLeftByPowerLossInCall-read, PowerLossLeavesSuchBlocksAfterCleanErases, KeptThread, ThreadView, IoMeantFaultNoMemoryWroteNothing, IsPairChanged, IsThreadOnlyRead, IsPairWrittenOnDisk, thread_pair_at_index}
-use Rattle.lfs_operations.specs.Changing.{CanChangeOrSplitPair, IsLeftByStoppedChangeOrSplit, IsPairChangedOrSplit, IsChangedContentTooLarge, ReportsErrorsOfChangeOrSplit, ReportsFaultsChangingNothingAtNoSpace, WritesPairAndTwoFreeBlocks}
-use Rattle.lfs_operations.specs.Ready.{IsImageReadyForChange}
+use Rattle.lfs_operations.proofs.Common.{Blocks, PairChange, Disk, CallEvent, OnlyReadsSince, fault_count, IsPairOfDirectory, SurvivesLossSince, with_blocks, PairContent, Pair, Tree, tree_on_disk, HoldsAtLosses-weaker, HoldsAtLosses-trans, HoldsAtLosses-read_count, AllCallsSince-behind, LeftByLoss-read, LossLeavesCleanly, KeptThread, ThreadView, IoMeantFaultNoMemoryWroteNothing, IsPairCommitted, OnlyReadsThread, IsPairWritten, thread_pair_at}
+use Rattle.lfs_operations.specs.Changing.{CanTurn, LeftByTurn, IsTurned, ChangeIsTooLarge, ReportsErrorsOfChangeOrSplit, ReportsFaultsChangingNothingAtNoSpace, WritesPairTwo}
+use Rattle.lfs_operations.specs.Ready.{IsReadyImage}
 use Rattle.lfs_operations.specs.Renaming.{ReportsErrorsOfReadThenChangeOrSplit}
 use Rattle.lfs_operations.proofs.Held.{here, holds}
 use Rattle.lfs_operations.proofs.Putting.{cut_later, left_later, read_is, reports_later, with_history, writes_later, writes_none, same_err}
 
 -- ---- only read
 
-pub read_survives : (t : KeptThread) (h : List DeviceCallEvent) → AreCallsSinceOnlyReads t.disk.blocks t.history h → IsImageReadyForChange t → (tree : Tree) → SurvivesPowerLossInCallsSince t.disk t.history h (tree_on_disk t.disk t.pairs) tree
-read_survives t h reads ready tree clean = IsTrueAfterAnyPowerLossSince-read_count_of_history AreBlocksLeftByPowerLossInCall-read reads (record { pairs = t.pairs; accepted = ready.accepted; writable = ready.writable; tree = inl refl })
+pub read_survives : (t : KeptThread) (h : List CallEvent) → OnlyReadsSince t.disk.blocks t.history h → IsReadyImage t → (tree : Tree) → SurvivesLossSince t.disk t.history h (tree_on_disk t.disk t.pairs) tree
+read_survives t h reads ready tree clean = HoldsAtLosses-read_count LeftByLoss-read reads (record { pairs = t.pairs; accepted = ready.accepted; writable = ready.writable; tree = inl refl })
 
-pub read_writes : (t mid : KeptThread) → IsThreadOnlyRead t mid → (index : ℕ) → WritesPairAndTwoFreeBlocks t index mid
-read_writes t mid only index = subst (λ (k : KeptThread). WritesPairAndTwoFreeBlocks t index k) (sym (read_is t mid only))
+pub read_writes : (t mid : KeptThread) → OnlyReadsThread t mid → (index : ℕ) → WritesPairTwo t index mid
+read_writes t mid only index = subst (λ (k : KeptThread). WritesPairTwo t index k) (sym (read_is t mid only))
     (writes_later t mid.history only.reads index [] (with_history t mid.history) (writes_none (with_history t mid.history) index))
 
 -- an error of a call that only reads, passed on
@@ -42,8 +42,8 @@ reports_read t mid e result given is same reported = record {
     not_space (inr b) k = absurd (cc)
 
 -- it couldn't be read
-pub moves_unread : {X Y : Type 0} (old new : ThreadView) (index : ℕ) (changes : List PairContentChange) (e : Error) (result : Result X Error) (given : Result Y Error) → result ≡ Err e → given ≡ Err e
-    → new.failed ≡ false → IsThreadOnlyRead old.kept new.kept → IoMeantFaultNoMemoryWroteNothing old.kept new.kept result → ReportsErrorsOfReadThenChangeOrSplit old new index changes given
+pub moves_unread : {X Y : Type 0} (old new : ThreadView) (index : ℕ) (changes : List PairChange) (e : Error) (result : Result X Error) (given : Result Y Error) → result ≡ Err e → given ≡ Err e
+    → new.failed ≡ false → OnlyReadsThread old.kept new.kept → IoMeantFaultNoMemoryWroteNothing old.kept new.kept result → ReportsErrorsOfReadThenChangeOrSplit old new index changes given
 moves_unread old new index changes e result given is same works only reported =
     let reports = reports_read old.kept new.kept e result given is same reported in
     record {
@@ -61,11 +61,11 @@ moves_unread old new index changes e result given is same works only reported =
 
 -- ---- changed or split then
 
-pub written_earlier : (t : KeptThread) (h : List DeviceCallEvent) (index : ℕ) (content : PairContent) (disk : Disk) → IsPairWrittenOnDisk (with_history t h) index content disk → IsPairWrittenOnDisk t index content disk
+pub written_earlier : (t : KeptThread) (h : List CallEvent) (index : ℕ) (content : PairContent) (disk : Disk) → IsPairWritten (with_history t h) index content disk → IsPairWritten t index content disk
 written_earlier t h index content disk w = record { holds = w.holds; others = w.others; shape = w.shape; first = w.first }
 
-module _ (t : KeptThread) (h : List DeviceCallEvent) (reads : AreCallsSinceOnlyReads t.disk.blocks t.history h) (index : ℕ) (changes : List PairContentChange) where
-  pub changed_earlier : (new : KeptThread) → IsPairChanged (with_history t h) index changes new → IsPairChanged t index changes new
+module _ (t : KeptThread) (h : List CallEvent) (reads : OnlyReadsSince t.disk.blocks t.history h) (index : ℕ) (changes : List PairChange) where
+  pub changed_earlier : (new : KeptThread) → IsPairCommitted (with_history t h) index changes new → IsPairCommitted t index changes new
   changed_earlier new is = record {
     content = is.content;
     made = is.made;
@@ -76,18 +76,18 @@ module _ (t : KeptThread) (h : List DeviceCallEvent) (reads : AreCallsSinceOnlyR
     map = is.map;
   }
 
-  pub put_earlier : (new : KeptThread) → IsPairChangedOrSplit (with_history t h) index changes new → IsPairChangedOrSplit t index changes new
+  pub put_earlier : (new : KeptThread) → IsTurned (with_history t h) index changes new → IsTurned t index changes new
   put_earlier new (inl is) = inl (changed_earlier new is)
   put_earlier new (inr (large, is)) = inr (large, cut_later t h reads index changes new is)
 
-  left_earlier : (left : Blocks) → IsLeftByStoppedChangeOrSplit (with_history t h) index changes left → IsLeftByStoppedChangeOrSplit t index changes left
-  left_earlier left (inl is) = inl (record { content = is.content; is = is.is; written = written_earlier t h index is.content (disk_with_blocks left t.disk) is.written })
+  left_earlier : (left : Blocks) → LeftByTurn (with_history t h) index changes left → LeftByTurn t index changes left
+  left_earlier left (inl is) = inl (record { content = is.content; is = is.is; written = written_earlier t h index is.content (with_blocks left t.disk) is.written })
   left_earlier left (inr (large, is)) = inr (large, left_later t h reads index changes left is)
 
 -- the pair as it was, at a stop in a read
-still_there : (t : KeptThread) (index : ℕ) (changes : List PairContentChange) → IsImageReadyForChange t → (first : ℕ) (p : Pair) (rest : List Pair) → IsPairOfDirectory t.pairs first index p rest → IsLeftByStoppedChangeOrSplit t index changes t.disk.blocks
+still_there : (t : KeptThread) (index : ℕ) (changes : List PairChange) → IsReadyImage t → (first : ℕ) (p : Pair) (rest : List Pair) → IsPairOfDirectory t.pairs first index p rest → LeftByTurn t index changes t.disk.blocks
 still_there t index changes ready first p rest place = inl (record {
-  content = (thread_pair_at_index t index).content;
+  content = (thread_pair_at t index).content;
   is = inl refl;
   written = record {
     holds = holds t ready first index p rest place ∙ ap (λ (z : Pair). Some z.content) (sym (here t ready first index p rest place));
@@ -97,31 +97,31 @@ still_there t index changes ready first p rest place = inl (record {
   };
 })
 
-pub stops_after_read : (t mid new : KeptThread) (index : ℕ) (changes : List PairContentChange) → IsThreadOnlyRead t mid → IsImageReadyForChange t → (first : ℕ) (p : Pair) (rest : List Pair) → IsPairOfDirectory t.pairs first index p rest
-    → WritesPairAndTwoFreeBlocks mid index new → PowerLossLeavesSuchBlocksAfterCleanErases mid.history new.history (IsLeftByStoppedChangeOrSplit mid index changes) → PowerLossLeavesSuchBlocksAfterCleanErases t.history new.history (IsLeftByStoppedChangeOrSplit t index changes)
+pub stops_after_read : (t mid new : KeptThread) (index : ℕ) (changes : List PairChange) → OnlyReadsThread t mid → IsReadyImage t → (first : ℕ) (p : Pair) (rest : List Pair) → IsPairOfDirectory t.pairs first index p rest
+    → WritesPairTwo mid index new → LossLeavesCleanly mid.history new.history (LeftByTurn mid index changes) → LossLeavesCleanly t.history new.history (LeftByTurn t index changes)
 stops_after_read t mid new index changes only ready first p rest place writes stops clean =
-    IsTrueAfterAnyPowerLossSince-trans (IsTrueAfterAnyPowerLossSince-read_count_of_history AreBlocksLeftByPowerLossInCall-read only.reads (still_there t index changes ready first p rest place))
-    (IsTrueAfterAnyPowerLossSince-weaker (λ left l. left_earlier t mid.history only.reads index changes left (subst (λ (k : KeptThread). IsLeftByStoppedChangeOrSplit k index changes left) (read_is t mid only) l))
-    (stops (IsTrueOfEachCallSince-behind clean only.reads writes.writes.at_worst)))
+    HoldsAtLosses-trans (HoldsAtLosses-read_count LeftByLoss-read only.reads (still_there t index changes ready first p rest place))
+    (HoldsAtLosses-weaker (λ left l. left_earlier t mid.history only.reads index changes left (subst (λ (k : KeptThread). LeftByTurn k index changes left) (read_is t mid only) l))
+    (stops (AllCallsSince-behind clean only.reads writes.writes.at_worst)))
 
-pub put_after_read : (t mid new : KeptThread) (index : ℕ) (changes : List PairContentChange) → IsThreadOnlyRead t mid → IsPairChangedOrSplit mid index changes new → IsPairChangedOrSplit t index changes new
-put_after_read t mid new index changes only is = put_earlier t mid.history only.reads index changes new (subst (λ (k : KeptThread). IsPairChangedOrSplit k index changes new) (read_is t mid only) is)
+pub put_after_read : (t mid new : KeptThread) (index : ℕ) (changes : List PairChange) → OnlyReadsThread t mid → IsTurned mid index changes new → IsTurned t index changes new
+put_after_read t mid new index changes only is = put_earlier t mid.history only.reads index changes new (subst (λ (k : KeptThread). IsTurned k index changes new) (read_is t mid only) is)
 
-pub writes_after_read : (t mid new : KeptThread) (index : ℕ) → IsThreadOnlyRead t mid → WritesPairAndTwoFreeBlocks mid index new → WritesPairAndTwoFreeBlocks t index new
-writes_after_read t mid new index only w = writes_later t mid.history only.reads index [] new (subst (λ (k : KeptThread). WritesPairAndTwoFreeBlocks k index new) (read_is t mid only) w)
+pub writes_after_read : (t mid new : KeptThread) (index : ℕ) → OnlyReadsThread t mid → WritesPairTwo mid index new → WritesPairTwo t index new
+writes_after_read t mid new index only w = writes_later t mid.history only.reads index [] new (subst (λ (k : KeptThread). WritesPairTwo k index new) (read_is t mid only) w)
 
-pub can_after_read : (t mid : KeptThread) (index : ℕ) (changes : List PairContentChange) → IsThreadOnlyRead t mid → CanChangeOrSplitPair t index changes → CanChangeOrSplitPair mid index changes
-can_after_read t mid index changes only can = subst (λ (k : KeptThread). CanChangeOrSplitPair k index changes) (sym (read_is t mid only)) (record {
+pub can_after_read : (t mid : KeptThread) (index : ℕ) (changes : List PairChange) → OnlyReadsThread t mid → CanTurn t index changes → CanTurn mid index changes
+can_after_read t mid index changes only can = subst (λ (k : KeptThread). CanTurn k index changes) (sym (read_is t mid only)) (record {
   can = record { below = can.can.below; content = can.can.content; made = can.can.made; next = can.can.next };
   raw = can.raw;
   made = can.made;
   cut = can.cut;
 })
 
-pub moves_after_read : {X : Type 0} (old mid new : ThreadView) (index : ℕ) (changes : List PairContentChange) (result : Result X Error) → IsThreadOnlyRead old.kept mid.kept → fault_count_of_history mid.kept.history ≡ fault_count_of_history old.kept.history
+pub moves_after_read : {X : Type 0} (old mid new : ThreadView) (index : ℕ) (changes : List PairChange) (result : Result X Error) → OnlyReadsThread old.kept mid.kept → fault_count mid.kept.history ≡ fault_count old.kept.history
     → ReportsErrorsOfChangeOrSplit mid new index changes result → ReportsErrorsOfReadThenChangeOrSplit old new index changes result
 moves_after_read old mid new index changes result only same reported = record {
   failed = inl reported.reports.failed;
   reports = reports_later old.kept mid.kept.history only.reads index changes new.kept result same (subst (λ (k : KeptThread). ReportsFaultsChangingNothingAtNoSpace k new.kept result) (read_is old.kept mid.kept only) reported.reports.reports);
-  too_large = λ none. subst (λ (k : KeptThread). IsChangedContentTooLarge k index changes) (read_is old.kept mid.kept only) (reported.too_large none);
+  too_large = λ none. subst (λ (k : KeptThread). ChangeIsTooLarge k index changes) (read_is old.kept mid.kept only) (reported.too_large none);
 }

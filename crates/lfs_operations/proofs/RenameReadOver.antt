@@ -3,54 +3,54 @@ use Rattle.std.proofs.Common.{ℕ, ◌≡◌, ◌⊎◌, inl, inr, false, Some, 
 use Rattle.std.specs.Prelude.{IfErr, is_err}
 use Rattle.lfs_device.specs.declared.error.Error.{Error}
 use Rattle.lfs_device.specs.declared.error.Error.TheVariants.{Io, NoMemory}
-use Rattle.lfs_operations.proofs.Common.{Blocks, PairContentChange, DeviceCallEvent, AreCallsSinceOnlyReads, fault_count_of_history, IsPairOfDirectory, disk_with_blocks, Pair, ArePossibleBlocksAfterPowerLossInCall-read, IsTrueOfEachCallSince-behind, IsTrueAfterAnyPowerLossSince-read_count_of_history, IsTrueAfterAnyPowerLossSince-trans, IsTrueAfterAnyPowerLossSince-weaker, AreCallsSinceOnlyReads-trans, AreBytesStillUnprogrammed-read_count_of_history, AreBytesStillUnprogrammed-trans, AreBlocksLeftByPowerLossInCall-read, PowerLossLeavesSuchBlocksAfterCleanErases, KeptThread, ThreadView, CanChangePair, IoMeantFaultNoMemoryWroteNothing, IsPairChanged, PowerLossLeavesPairOldOrChanged, IsThreadOnlyRead, IsCommitRefused, ThreadChangesOnlyTheseBlocks, thread_pair_at_index}
-use Rattle.lfs_operations.specs.Ready.{IsImageReadyForChange}
+use Rattle.lfs_operations.proofs.Common.{Blocks, PairChange, CallEvent, OnlyReadsSince, fault_count, IsPairOfDirectory, with_blocks, Pair, LossLeavesAtWorst-read, AllCallsSince-behind, HoldsAtLosses-read_count, HoldsAtLosses-trans, HoldsAtLosses-weaker, OnlyReadsSince-trans, StayUnprogrammed-read_count, StayUnprogrammed-trans, LeftByLoss-read, LossLeavesCleanly, KeptThread, ThreadView, CanChangePair, IoMeantFaultNoMemoryWroteNothing, IsPairCommitted, LossLeavesPairChanged, OnlyReadsThread, RefusesCommit, ChangesThreadBlocks, thread_pair_at}
+use Rattle.lfs_operations.specs.Ready.{IsReadyImage}
 use Rattle.lfs_operations.specs.RenamingOver.{ReportsErrorsOfReadThenCommit}
 use Rattle.lfs_operations.proofs.Held.{here, holds}
 use Rattle.lfs_operations.proofs.Putting.{read_is, with_history, same_err}
 use Rattle.lfs_operations.proofs.RenameRead.{changed_earlier, written_earlier}
 
-pub changed_after_read : (t mid new : KeptThread) (index : ℕ) (changes : List PairContentChange) → IsThreadOnlyRead t mid → IsPairChanged mid index changes new → IsPairChanged t index changes new
-changed_after_read t mid new index changes only is = changed_earlier t mid.history only.reads index changes new (subst (λ (k : KeptThread). IsPairChanged k index changes new) (read_is t mid only) is)
+pub changed_after_read : (t mid new : KeptThread) (index : ℕ) (changes : List PairChange) → OnlyReadsThread t mid → IsPairCommitted mid index changes new → IsPairCommitted t index changes new
+changed_after_read t mid new index changes only is = changed_earlier t mid.history only.reads index changes new (subst (λ (k : KeptThread). IsPairCommitted k index changes new) (read_is t mid only) is)
 
-pub can_change_after_read : (t mid : KeptThread) (index : ℕ) (changes : List PairContentChange) → IsThreadOnlyRead t mid → CanChangePair t index changes → CanChangePair mid index changes
+pub can_change_after_read : (t mid : KeptThread) (index : ℕ) (changes : List PairChange) → OnlyReadsThread t mid → CanChangePair t index changes → CanChangePair mid index changes
 can_change_after_read t mid index changes only can = subst (λ (k : KeptThread). CanChangePair k index changes) (sym (read_is t mid only)) (record { below = can.below; content = can.content; made = can.made; next = can.next })
 
-refused_earlier : (t : KeptThread) (h : List DeviceCallEvent) (new : KeptThread) (index : ℕ) (changes : List PairContentChange) → AreCallsSinceOnlyReads t.disk.blocks t.history h → IsCommitRefused (with_history t h) index changes new → IsCommitRefused t index changes new
+refused_earlier : (t : KeptThread) (h : List CallEvent) (new : KeptThread) (index : ℕ) (changes : List PairChange) → OnlyReadsSince t.disk.blocks t.history h → RefusesCommit (with_history t h) index changes new → RefusesCommit t index changes new
 refused_earlier t h new index changes reads is = record {
   content = is.content;
   made = is.made;
   too_large = is.too_large;
-  only = record { disk = is.only.disk; reads = AreCallsSinceOnlyReads-trans reads is.only.reads refl; pairs = is.only.pairs; map = is.only.map };
+  only = record { disk = is.only.disk; reads = OnlyReadsSince-trans reads is.only.reads refl; pairs = is.only.pairs; map = is.only.map };
 }
 
-pub refused_after_read : (t mid new : KeptThread) (index : ℕ) (changes : List PairContentChange) → IsThreadOnlyRead t mid → IsCommitRefused mid index changes new → IsCommitRefused t index changes new
-refused_after_read t mid new index changes only is = refused_earlier t mid.history new index changes only.reads (subst (λ (k : KeptThread). IsCommitRefused k index changes new) (read_is t mid only) is)
+pub refused_after_read : (t mid new : KeptThread) (index : ℕ) (changes : List PairChange) → OnlyReadsThread t mid → RefusesCommit mid index changes new → RefusesCommit t index changes new
+refused_after_read t mid new index changes only is = refused_earlier t mid.history new index changes only.reads (subst (λ (k : KeptThread). RefusesCommit k index changes new) (read_is t mid only) is)
 
-writes_earlier : (t : KeptThread) (h : List DeviceCallEvent) (new : KeptThread) (bs : List ℕ) → AreCallsSinceOnlyReads t.disk.blocks t.history h → ThreadChangesOnlyTheseBlocks bs (with_history t h) new → ThreadChangesOnlyTheseBlocks bs t new
+writes_earlier : (t : KeptThread) (h : List CallEvent) (new : KeptThread) (bs : List ℕ) → OnlyReadsSince t.disk.blocks t.history h → ChangesThreadBlocks bs (with_history t h) new → ChangesThreadBlocks bs t new
 writes_earlier t h new bs reads w = record {
   others = w.others;
-  elsewhere = AreBytesStillUnprogrammed-trans (AreBytesStillUnprogrammed-read_count_of_history bs reads) w.elsewhere;
+  elsewhere = StayUnprogrammed-trans (StayUnprogrammed-read_count bs reads) w.elsewhere;
   shape = w.shape;
-  at_worst = IsTrueAfterAnyPowerLossSince-trans (IsTrueAfterAnyPowerLossSince-read_count_of_history ArePossibleBlocksAfterPowerLossInCall-read reads (record { count = refl; sizes = λ b. refl; others = λ b apart. refl })) w.at_worst;
+  at_worst = HoldsAtLosses-trans (HoldsAtLosses-read_count LossLeavesAtWorst-read reads (record { count = refl; sizes = λ b. refl; others = λ b apart. refl })) w.at_worst;
 }
 
-pub blocks_after_read : (t mid new : KeptThread) (bs : List ℕ) → IsThreadOnlyRead t mid → ThreadChangesOnlyTheseBlocks bs mid new → ThreadChangesOnlyTheseBlocks bs t new
-blocks_after_read t mid new bs only w = writes_earlier t mid.history new bs only.reads (subst (λ (k : KeptThread). ThreadChangesOnlyTheseBlocks bs k new) (read_is t mid only) w)
+pub blocks_after_read : (t mid new : KeptThread) (bs : List ℕ) → OnlyReadsThread t mid → ChangesThreadBlocks bs mid new → ChangesThreadBlocks bs t new
+blocks_after_read t mid new bs only w = writes_earlier t mid.history new bs only.reads (subst (λ (k : KeptThread). ChangesThreadBlocks bs k new) (read_is t mid only) w)
 
-pub only_read_writes : (t mid : KeptThread) (bs : List ℕ) → IsThreadOnlyRead t mid → ThreadChangesOnlyTheseBlocks bs t mid
-only_read_writes t mid bs only = subst (λ (k : KeptThread). ThreadChangesOnlyTheseBlocks bs t k) (sym (read_is t mid only)) (record {
+pub only_read_writes : (t mid : KeptThread) (bs : List ℕ) → OnlyReadsThread t mid → ChangesThreadBlocks bs t mid
+only_read_writes t mid bs only = subst (λ (k : KeptThread). ChangesThreadBlocks bs t k) (sym (read_is t mid only)) (record {
   others = record { count = refl; sizes = λ b. refl; others = λ b apart. refl };
-  elsewhere = AreBytesStillUnprogrammed-read_count_of_history bs only.reads;
+  elsewhere = StayUnprogrammed-read_count bs only.reads;
   shape = record { block_size = refl; page = refl; order = refl; profile = refl; count = refl };
-  at_worst = IsTrueAfterAnyPowerLossSince-read_count_of_history ArePossibleBlocksAfterPowerLossInCall-read only.reads (record { count = refl; sizes = λ b. refl; others = λ b apart. refl });
+  at_worst = HoldsAtLosses-read_count LossLeavesAtWorst-read only.reads (record { count = refl; sizes = λ b. refl; others = λ b apart. refl });
 })
 
-pub change_stops_after_read : (t mid new : KeptThread) (index : ℕ) (changes : List PairContentChange) (bs : List ℕ) → IsThreadOnlyRead t mid → IsImageReadyForChange t → (first : ℕ) (p : Pair) (rest : List Pair) → IsPairOfDirectory t.pairs first index p rest
-    → ThreadChangesOnlyTheseBlocks bs mid new → PowerLossLeavesSuchBlocksAfterCleanErases mid.history new.history (PowerLossLeavesPairOldOrChanged mid index changes) → PowerLossLeavesSuchBlocksAfterCleanErases t.history new.history (PowerLossLeavesPairOldOrChanged t index changes)
+pub change_stops_after_read : (t mid new : KeptThread) (index : ℕ) (changes : List PairChange) (bs : List ℕ) → OnlyReadsThread t mid → IsReadyImage t → (first : ℕ) (p : Pair) (rest : List Pair) → IsPairOfDirectory t.pairs first index p rest
+    → ChangesThreadBlocks bs mid new → LossLeavesCleanly mid.history new.history (LossLeavesPairChanged mid index changes) → LossLeavesCleanly t.history new.history (LossLeavesPairChanged t index changes)
 change_stops_after_read t mid new index changes bs only ready first p rest place writes stops clean =
-    IsTrueAfterAnyPowerLossSince-trans (IsTrueAfterAnyPowerLossSince-read_count_of_history AreBlocksLeftByPowerLossInCall-read only.reads (record {
-      content = (thread_pair_at_index t index).content;
+    HoldsAtLosses-trans (HoldsAtLosses-read_count LeftByLoss-read only.reads (record {
+      content = (thread_pair_at t index).content;
       is = inl refl;
       written = record {
         holds = holds t ready first index p rest place ∙ ap (λ (z : Pair). Some z.content) (sym (here t ready first index p rest place));
@@ -58,10 +58,10 @@ change_stops_after_read t mid new index changes bs only ready first p rest place
         shape = record { block_size = refl; page = refl; order = refl; profile = refl; count = refl };
         first = λ b k. b;
       };
-    })) (IsTrueAfterAnyPowerLossSince-weaker (λ left l. earlier left (subst (λ (k : KeptThread). PowerLossLeavesPairOldOrChanged k index changes left) (read_is t mid only) l)) (stops (IsTrueOfEachCallSince-behind clean only.reads writes.at_worst)))
+    })) (HoldsAtLosses-weaker (λ left l. earlier left (subst (λ (k : KeptThread). LossLeavesPairChanged k index changes left) (read_is t mid only) l)) (stops (AllCallsSince-behind clean only.reads writes.at_worst)))
   where
-    earlier : (left : Blocks) → PowerLossLeavesPairOldOrChanged (with_history t mid.history) index changes left → PowerLossLeavesPairOldOrChanged t index changes left
-    earlier left is = record { content = is.content; is = is.is; written = written_earlier t mid.history index is.content (disk_with_blocks left t.disk) is.written }
+    earlier : (left : Blocks) → LossLeavesPairChanged (with_history t mid.history) index changes left → LossLeavesPairChanged t index changes left
+    earlier left is = record { content = is.content; is = is.is; written = written_earlier t mid.history index is.content (with_blocks left t.disk) is.written }
 
 -- ---- what it tells
 
@@ -74,30 +74,30 @@ reported_again t new e result given is same reported = record {
   unwritten = λ none. reported.unwritten (is ∙ ap Err (same_err e NoMemory given same none));
 }
 
-pub over_unread : {X Y : Type 0} (old new : ThreadView) (e : Error) (result : Result X Error) (given : Result Y Error) → result ≡ Err e → given ≡ Err e → new.failed ≡ false → IsThreadOnlyRead old.kept new.kept
+pub over_unread : {X Y : Type 0} (old new : ThreadView) (e : Error) (result : Result X Error) (given : Result Y Error) → result ≡ Err e → given ≡ Err e → new.failed ≡ false → OnlyReadsThread old.kept new.kept
     → IoMeantFaultNoMemoryWroteNothing old.kept new.kept result → ReportsErrorsOfReadThenCommit old new given
 over_unread old new e result given is same works only reported = record { failed = inr (works, only); reported = reported_again old.kept new.kept e result given is same reported }
 
-later : {X : Type 0} (t : KeptThread) (h : List DeviceCallEvent) (new : KeptThread) (result : Result X Error) → AreCallsSinceOnlyReads t.disk.blocks t.history h → fault_count_of_history h ≡ fault_count_of_history t.history → IoMeantFaultNoMemoryWroteNothing (with_history t h) new result → IoMeantFaultNoMemoryWroteNothing t new result
+later : {X : Type 0} (t : KeptThread) (h : List CallEvent) (new : KeptThread) (result : Result X Error) → OnlyReadsSince t.disk.blocks t.history h → fault_count h ≡ fault_count t.history → IoMeantFaultNoMemoryWroteNothing (with_history t h) new result → IoMeantFaultNoMemoryWroteNothing t new result
 later t h new result reads same reported = record {
   errors = reported.errors;
   fault = λ io. (let k = reported.fault io in omega (arith, k, same));
   no_fault = λ other. reported.no_fault other ∙ same;
-  unwritten = λ none. (let u = reported.unwritten none in record { disk = u.disk; reads = AreCallsSinceOnlyReads-trans reads u.reads refl });
+  unwritten = λ none. (let u = reported.unwritten none in record { disk = u.disk; reads = OnlyReadsSince-trans reads u.reads refl });
 }
 
-reported_later : {X : Type 0} (t mid new : KeptThread) (result : Result X Error) → IsThreadOnlyRead t mid → fault_count_of_history mid.history ≡ fault_count_of_history t.history → IoMeantFaultNoMemoryWroteNothing mid new result → IoMeantFaultNoMemoryWroteNothing t new result
+reported_later : {X : Type 0} (t mid new : KeptThread) (result : Result X Error) → OnlyReadsThread t mid → fault_count mid.history ≡ fault_count t.history → IoMeantFaultNoMemoryWroteNothing mid new result → IoMeantFaultNoMemoryWroteNothing t new result
 reported_later t mid new result only same reported = later t mid.history new result only.reads same (subst (λ (k : KeptThread). IoMeantFaultNoMemoryWroteNothing k new result) (read_is t mid only) reported)
 
-pub over_failed : {X Y : Type 0} (old mid new : ThreadView) (e : Error) (result : Result X Error) (given : Result Y Error) → result ≡ Err e → given ≡ Err e → IsThreadOnlyRead old.kept mid.kept
-    → fault_count_of_history mid.kept.history ≡ fault_count_of_history old.kept.history → new.failed ≡ is_err result → IoMeantFaultNoMemoryWroteNothing mid.kept new.kept result → ReportsErrorsOfReadThenCommit old new given
+pub over_failed : {X Y : Type 0} (old mid new : ThreadView) (e : Error) (result : Result X Error) (given : Result Y Error) → result ≡ Err e → given ≡ Err e → OnlyReadsThread old.kept mid.kept
+    → fault_count mid.kept.history ≡ fault_count old.kept.history → new.failed ≡ is_err result → IoMeantFaultNoMemoryWroteNothing mid.kept new.kept result → ReportsErrorsOfReadThenCommit old new given
 over_failed old mid new e result given is same only faultless failed reported = record {
   failed = inl (failed ∙ ap is_err is ∙ sym (ap is_err same));
   reported = reported_again old.kept new.kept e result given is same (reported_later old.kept mid.kept new.kept result only faultless reported);
 }
 
-pub over_done : {X Y : Type 0} (old mid new : ThreadView) (x : X) (y : Y) (result : Result X Error) (given : Result Y Error) → result ≡ Ok x → given ≡ Ok y → IsThreadOnlyRead old.kept mid.kept
-    → fault_count_of_history mid.kept.history ≡ fault_count_of_history old.kept.history → new.failed ≡ is_err result → IoMeantFaultNoMemoryWroteNothing mid.kept new.kept result → ReportsErrorsOfReadThenCommit old new given
+pub over_done : {X Y : Type 0} (old mid new : ThreadView) (x : X) (y : Y) (result : Result X Error) (given : Result Y Error) → result ≡ Ok x → given ≡ Ok y → OnlyReadsThread old.kept mid.kept
+    → fault_count mid.kept.history ≡ fault_count old.kept.history → new.failed ≡ is_err result → IoMeantFaultNoMemoryWroteNothing mid.kept new.kept result → ReportsErrorsOfReadThenCommit old new given
 over_done old mid new x y result given is same only faultless failed reported = record {
   failed = inl (failed ∙ ap is_err is ∙ sym (ap is_err same));
   reported = record {

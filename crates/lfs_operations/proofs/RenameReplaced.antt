@@ -1,12 +1,12 @@
 -- A rename within one pair onto a file.
 use Rattle.std.proofs.Common.{ℕ, ◌≡◌, ◌≤◌, ◌+◌, ◌⊎◌, inl, inr, true, List, [], ◌∷◌, ◌++◌, refl, sym, ap, subst, ◌∙◌, append_assoc, append-nil}
-use Rattle.lfs_operations.proofs.Common.{tree_after_rename, Delete, raw_content_of_pair_at, Disk, DeviceCallEvent, HasEntryOfNameAtId, Name, is_valid_name, SurvivesPowerLossInCallsSince, IsContentFittingPair, Slot, Pair, blocks_of_pairs, IsFileOrDirectoryEntry, skip_list_blocks_of_struct, tree_on_disk, used_blocks, IsImageAfterTreeChange, IsCommit, commit_step, recovered_from, occurrence_count_of_number, some_filled, directory_addresses_after_rename, site, Site, thread_at, PowerLossLeavesSuchBlocksAfterCleanErases, KeptThread, thread_pair_at_index}
+use Rattle.lfs_operations.proofs.Common.{tree_renaming, Delete, raw_content, Disk, CallEvent, HasName, Name, is_valid_name, SurvivesLossSince, FitsInPair, Slot, Pair, blocks_of_pairs, IsTreeEntry, struct_blocks, tree_on_disk, used_blocks, IsChangedImage, IsCommit, commit_step, recovered_from, number_count, some_filled, renamed_addresses, site, Site, thread_at, LossLeavesCleanly, KeptThread, thread_pair_at}
 use Rattle.lfs_model.proofs.RenameOntoFile.{onto_file_ahead_completed, onto_file_behind_completed}
-use Rattle.lfs_operations.specs.Changing.{CanChangeOrSplitPair, IsLeftByStoppedChangeOrSplit, IsPairChangedOrSplit}
-use Rattle.lfs_operations.specs.Editing.{CanEditEntryOfPair}
-use Rattle.lfs_operations.specs.Ready.{ShowsTreeReadyOnceMapIsUpdated}
-use Rattle.lfs_operations.specs.Renaming.{CanRenameOntoFileInPair, IsEntryRenamedOntoFileInPair, id_after_slot_removal, rename_onto_file_in_pair_changes, tree_with_renamed_entry}
-use Rattle.lfs_operations.specs.RenamingSlots.{HasSlotOfId}
+use Rattle.lfs_operations.specs.Changing.{CanTurn, LeftByTurn, IsTurned}
+use Rattle.lfs_operations.specs.Editing.{CanEditIn}
+use Rattle.lfs_operations.specs.Ready.{ShowsUpdatedTree}
+use Rattle.lfs_operations.specs.Renaming.{CanRenameOnto, IsRenamedOnto, id_after_removal, onto_changes, tree_renamed}
+use Rattle.lfs_operations.specs.RenamingSlots.{HasSlot}
 use Rattle.lfs_operations.proofs.Held.{CompletesTo, raw_there}
 use Rattle.lfs_operations.proofs.RenameMade as made
 use Rattle.lfs_operations.proofs.RenameMade.{ComesAhead, ComesBehind, Leaves, behind_or_ahead}
@@ -17,11 +17,11 @@ use Rattle.lfs_operations.proofs.RenameTarget as both
 use Rattle.lfs_operations.proofs.RenameTarget.{Follower, follower}
 use Rattle.lfs_operations.proofs.PairAt.{HasPairAt, pair_at}
 
-module _ (t : KeptThread) (index id place : ℕ) (name : Name) (rename : CanRenameOntoFileInPair t index id place name) where
-  abbrev can : CanEditEntryOfPair t index id
+module _ (t : KeptThread) (index id place : ℕ) (name : Name) (rename : CanRenameOnto t index id place name) where
+  abbrev can : CanEditIn t index id
   can = rename.can
 
-  abbrev s : HasEntryOfNameAtId can.stands.pair.content.slots can.name id
+  abbrev s : HasName can.stands.pair.content.slots can.name id
   s = can.stands.stands
 
   abbrev p : Pair
@@ -33,7 +33,7 @@ module _ (t : KeptThread) (index id place : ℕ) (name : Name) (rename : CanRena
   abbrev target : Slot
   target = rename.target.stands.slot
 
-  pub has_slot : HasSlotOfId t index id
+  pub has_slot : HasSlot t index id
   has_slot = both.has_slot t index id place name can rename.target rename.differs
 
   target_held : p.content.slots ≡ rename.target.stands.left ++ target ∷ rename.target.stands.right
@@ -51,7 +51,7 @@ module _ (t : KeptThread) (index id place : ℕ) (name : Name) (rename : CanRena
   stand : HasPairAt t index can.path can.at w p
   stand = pair_at t can.ready can.path can.at can.leads can.first index p can.stands.rest can.stands.place can.begins
 
-  abbrev c : CompletesTo (raw_content_of_pair_at t.disk (thread_pair_at_index t index).at) p.content
+  abbrev c : CompletesTo (raw_content t.disk (thread_pair_at t index).at) p.content
   c = raw_there t can.ready can.first index p can.stands.rest can.stands.place
 
   differs : target.name ≡ u.name → ⊥
@@ -60,7 +60,7 @@ module _ (t : KeptThread) (index id place : ℕ) (name : Name) (rename : CanRena
   named : is_valid_name name ≡ true
   named = both.named t index id place name can rename.target rename.differs
 
-  entry_again : IsFileOrDirectoryEntry u → IsFileOrDirectoryEntry (with_name u name)
+  entry_again : IsTreeEntry u → IsTreeEntry (with_name u name)
   entry_again = both.entry_again t index id place name can rename.target rename.differs
 
   -- ---- the slots that are left without both
@@ -69,15 +69,15 @@ module _ (t : KeptThread) (index id place : ℕ) (name : Name) (rename : CanRena
   IsLeftOver = both.IsLeftOver t index id place name can rename.target rename.differs
 
   module _ (x y : List Slot) (over : IsLeftOver x y) where
-    fits_over : IsContentFittingPair t.disk.block_size t.disk.page (record p.content { slots = x ++ y })
+    fits_over : FitsInPair t.disk.block_size t.disk.page (record p.content { slots = x ++ y })
     fits_over = both.fits_both t index id place name can rename.target rename.differs x y over
 
-    left_over : Leaves c.raw (Delete id ∷ Delete (id_after_slot_removal id place) ∷ []) (x ++ y)
+    left_over : Leaves c.raw (Delete id ∷ Delete (id_after_removal id place) ∷ []) (x ++ y)
     left_over = both.left_both t index id place name can rename.target rename.differs x y over c.raw
         (made.all_slots t index id can.ready can.first p can.stands.rest can.stands.place can.logged can.name s)
 
-    can_put_over : CanChangeOrSplitPair t index (rename_onto_file_in_pair_changes t index id place name)
-    can_put_over = made.can_put t index id can.ready can.first p can.stands.rest can.stands.place can.logged can.name s (Delete id ∷ Delete (id_after_slot_removal id place) ∷ []) x y left_over fits_over (id_after_slot_removal id place) over.1
+    can_put_over : CanTurn t index (onto_changes t index id place name)
+    can_put_over = made.can_put t index id can.ready can.first p can.stands.rest can.stands.place can.logged can.name s (Delete id ∷ Delete (id_after_removal id place) ∷ []) x y left_over fits_over (id_after_removal id place) over.1
         name named rename.fits
 
   -- ---- the target stands behind the old slot
@@ -93,7 +93,7 @@ module _ (t : KeptThread) (index id place : ℕ) (name : Name) (rename : CanRena
         → IsCommit t.disk disk w p q more [] s.left (u ∷ (d.passed ++ target ∷ [])) (d.passed ++ with_name u target.name ∷ []) r2
     under_its_name disk q more k = subst (λ (n : Name). IsCommit t.disk disk w p q more [] s.left (u ∷ (d.passed ++ target ∷ [])) (d.passed ++ with_name u n ∷ []) r2) (sym rename.target.stands.named) k
 
-    moving_behind : IsMoving t index (rename_onto_file_in_pair_changes t index id place name) can.path can.name name (target ∷ [])
+    moving_behind : IsMoving t index (onto_changes t index id place name) can.path can.name name (target ∷ [])
     moving_behind = record {
       w = w;
       p = p;
@@ -109,8 +109,8 @@ module _ (t : KeptThread) (index id place : ℕ) (name : Name) (rename : CanRena
         place = stand.number;
         site = stand.site;
         content = record { slots = (s.left ++ d.passed) ++ with_name u name ∷ r2; tail = p.content.tail; move = p.content.move };
-        made = made.made t index id can.ready can.first p can.stands.rest can.stands.place can.logged can.name s (Delete id ∷ Delete (id_after_slot_removal id place) ∷ []) (s.left ++ d.passed) r2
-            (left_over (s.left ++ d.passed) r2 over_behind) (fits_over (s.left ++ d.passed) r2 over_behind) (id_after_slot_removal id place) over_behind.1 name named rename.fits;
+        made = made.made t index id can.ready can.first p can.stands.rest can.stands.place can.logged can.name s (Delete id ∷ Delete (id_after_removal id place) ∷ []) (s.left ++ d.passed) r2
+            (left_over (s.left ++ d.passed) r2 over_behind) (fits_over (s.left ++ d.passed) r2 over_behind) (id_after_removal id place) over_behind.1 name named rename.fits;
         tail = refl;
         was = s.held ∙ ap (λ z. s.left ++ u ∷ z) (d.back ∙ sym (append_assoc d.passed (target ∷ []) r2));
         now = now_behind;
@@ -124,8 +124,8 @@ module _ (t : KeptThread) (index id place : ℕ) (name : Name) (rename : CanRena
       move = refl;
       filled = λ e. some_filled (s.left ++ d.passed) r2 (with_name u name) (now_behind ∙ e);
       follows = λ disk q more k.
-          subst (λ (n : Name). IsImageAfterTreeChange t.disk (thread_at w (p ∷ [])) disk (thread_at w (q ∷ more)) (tree_after_rename (can.path ++ n ∷ []) (can.path ++ name ∷ [])) (directory_addresses_after_rename (can.path ++ n ∷ []) (can.path ++ name ∷ []))) s.named
-          (subst (λ (n : Name). IsImageAfterTreeChange t.disk (thread_at w (p ∷ [])) disk (thread_at w (q ∷ more)) (tree_after_rename (can.path ++ u.name ∷ []) (can.path ++ n ∷ [])) (directory_addresses_after_rename (can.path ++ u.name ∷ []) (can.path ++ n ∷ []))) rename.target.stands.named
+          subst (λ (n : Name). IsChangedImage t.disk (thread_at w (p ∷ [])) disk (thread_at w (q ∷ more)) (tree_renaming (can.path ++ n ∷ []) (can.path ++ name ∷ [])) (renamed_addresses (can.path ++ n ∷ []) (can.path ++ name ∷ []))) s.named
+          (subst (λ (n : Name). IsChangedImage t.disk (thread_at w (p ∷ [])) disk (thread_at w (q ∷ more)) (tree_renaming (can.path ++ u.name ∷ []) (can.path ++ n ∷ [])) (renamed_addresses (can.path ++ u.name ∷ []) (can.path ++ n ∷ []))) rename.target.stands.named
           (onto_behind_follows t.disk disk w p q more (blocks_of_pairs more) s.left u d.passed target r2
           (commit_step t.disk disk w p q more [] s.left (u ∷ (d.passed ++ target ∷ [])) (d.passed ++ with_name u target.name ∷ []) r2 (under_its_name disk q more k)) k.was s.entry rename.target.stands.entry
           (λ e. (rename.file, (recovered_from t.disk (thread_at w (p ∷ [])) k.accepted k.settled).reached)) differs can.path can.at stand.leads stand.begin));
@@ -144,7 +144,7 @@ module _ (t : KeptThread) (index id place : ℕ) (name : Name) (rename : CanRena
         → IsCommit t.disk disk w p q more [] l2 (target ∷ (passed ++ u ∷ [])) (with_name u target.name ∷ passed) s.right
     under_that_name disk q more k = subst (λ (n : Name). IsCommit t.disk disk w p q more [] l2 (target ∷ (passed ++ u ∷ [])) (with_name u n ∷ passed) s.right) (sym rename.target.stands.named) k
 
-    moving_ahead : IsMoving t index (rename_onto_file_in_pair_changes t index id place name) can.path can.name name (target ∷ [])
+    moving_ahead : IsMoving t index (onto_changes t index id place name) can.path can.name name (target ∷ [])
     moving_ahead = record {
       w = w;
       p = p;
@@ -160,8 +160,8 @@ module _ (t : KeptThread) (index id place : ℕ) (name : Name) (rename : CanRena
         place = stand.number;
         site = stand.site;
         content = record { slots = l2 ++ with_name u name ∷ (passed ++ s.right); tail = p.content.tail; move = p.content.move };
-        made = made.made t index id can.ready can.first p can.stands.rest can.stands.place can.logged can.name s (Delete id ∷ Delete (id_after_slot_removal id place) ∷ []) l2 (passed ++ s.right)
-            (left_over l2 (passed ++ s.right) over_ahead) (fits_over l2 (passed ++ s.right) over_ahead) (id_after_slot_removal id place) over_ahead.1 name named rename.fits;
+        made = made.made t index id can.ready can.first p can.stands.rest can.stands.place can.logged can.name s (Delete id ∷ Delete (id_after_removal id place) ∷ []) l2 (passed ++ s.right)
+            (left_over l2 (passed ++ s.right) over_ahead) (fits_over l2 (passed ++ s.right) over_ahead) (id_after_removal id place) over_ahead.1 name named rename.fits;
         tail = refl;
         was = target_held ∙ ap (λ z. l2 ++ target ∷ z) (back ∙ sym (append_assoc passed (u ∷ []) s.right));
         now = refl;
@@ -175,8 +175,8 @@ module _ (t : KeptThread) (index id place : ℕ) (name : Name) (rename : CanRena
       move = refl;
       filled = some_filled l2 (passed ++ s.right) (with_name u name);
       follows = λ disk q more k.
-          subst (λ (n : Name). IsImageAfterTreeChange t.disk (thread_at w (p ∷ [])) disk (thread_at w (q ∷ more)) (tree_after_rename (can.path ++ n ∷ []) (can.path ++ name ∷ [])) (directory_addresses_after_rename (can.path ++ n ∷ []) (can.path ++ name ∷ []))) s.named
-          (subst (λ (n : Name). IsImageAfterTreeChange t.disk (thread_at w (p ∷ [])) disk (thread_at w (q ∷ more)) (tree_after_rename (can.path ++ u.name ∷ []) (can.path ++ n ∷ [])) (directory_addresses_after_rename (can.path ++ u.name ∷ []) (can.path ++ n ∷ []))) rename.target.stands.named
+          subst (λ (n : Name). IsChangedImage t.disk (thread_at w (p ∷ [])) disk (thread_at w (q ∷ more)) (tree_renaming (can.path ++ n ∷ []) (can.path ++ name ∷ [])) (renamed_addresses (can.path ++ n ∷ []) (can.path ++ name ∷ []))) s.named
+          (subst (λ (n : Name). IsChangedImage t.disk (thread_at w (p ∷ [])) disk (thread_at w (q ∷ more)) (tree_renaming (can.path ++ u.name ∷ []) (can.path ++ n ∷ [])) (renamed_addresses (can.path ++ u.name ∷ []) (can.path ++ n ∷ []))) rename.target.stands.named
           (onto_ahead_follows t.disk disk w p q more (blocks_of_pairs more) l2 u passed target s.right
           (commit_step t.disk disk w p q more [] l2 (target ∷ (passed ++ u ∷ [])) (with_name u target.name ∷ passed) s.right (under_that_name disk q more k)) k.was s.entry rename.target.stands.entry
           (λ e. (rename.file, (recovered_from t.disk (thread_at w (p ∷ [])) k.accepted k.settled).reached)) differs can.path can.at stand.leads stand.begin));
@@ -193,29 +193,29 @@ module _ (t : KeptThread) (index id place : ℕ) (name : Name) (rename : CanRena
   ahead_of : (d : ComesAhead s.left u s.right l2 (target ∷ r2)) → Follower target r2 u s.right d.passed
   ahead_of d = follower target r2 u s.right d.passed (λ e. differs (ap (λ (z : Slot). z.name) e)) d.back
 
-  pub can_put_replaced : CanChangeOrSplitPair t index (rename_onto_file_in_pair_changes t index id place name)
+  pub can_put_replaced : CanTurn t index (onto_changes t index id place name)
   can_put_replaced = go two
     where
-      go : ComesBehind s.left u s.right l2 (target ∷ r2) ⊎ ComesAhead s.left u s.right l2 (target ∷ r2) → CanChangeOrSplitPair t index (rename_onto_file_in_pair_changes t index id place name)
+      go : ComesBehind s.left u s.right l2 (target ∷ r2) ⊎ ComesAhead s.left u s.right l2 (target ∷ r2) → CanTurn t index (onto_changes t index id place name)
       go (inl d) = can_put_over (s.left ++ d.passed) r2 (over_behind d)
       go (inr d) = let f = ahead_of d in can_put_over l2 (f.between ++ s.right) (over_ahead f.between (d.front ∙ ap (λ z. l2 ++ z) f.are) f.back)
 
-  moving : IsMoving t index (rename_onto_file_in_pair_changes t index id place name) can.path can.name name (target ∷ [])
+  moving : IsMoving t index (onto_changes t index id place name) can.path can.name name (target ∷ [])
   moving = go two
     where
-      go : ComesBehind s.left u s.right l2 (target ∷ r2) ⊎ ComesAhead s.left u s.right l2 (target ∷ r2) → IsMoving t index (rename_onto_file_in_pair_changes t index id place name) can.path can.name name (target ∷ [])
+      go : ComesBehind s.left u s.right l2 (target ∷ r2) ⊎ ComesAhead s.left u s.right l2 (target ∷ r2) → IsMoving t index (onto_changes t index id place name) can.path can.name name (target ∷ [])
       go (inl d) = moving_behind d
       go (inr d) = let f = ahead_of d in moving_ahead f.between (d.front ∙ ap (λ z. l2 ++ z) f.are) f.back
 
-  pub renamed_onto : (new : KeptThread) → IsPairChangedOrSplit t index (rename_onto_file_in_pair_changes t index id place name) new → IsEntryRenamedOntoFileInPair t new rename.can.path rename.can.name name rename.target.stands.slot.struct
+  pub renamed_onto : (new : KeptThread) → IsTurned t index (onto_changes t index id place name) new → IsRenamedOnto t new rename.can.path rename.can.name name rename.target.stands.slot.struct
   renamed_onto new is = record {
-    now = subst (λ z. ShowsTreeReadyOnceMapIsUpdated t new (tree_with_renamed_entry t can.path can.name name) z []) (append-nil (skip_list_blocks_of_struct t.disk target.struct))
-        (moved_becomes t index (rename_onto_file_in_pair_changes t index id place name) can.path can.name name (target ∷ []) moving new is);
-    once = subst (λ (z : List ℕ). (b : ℕ) → occurrence_count_of_number b (used_blocks new.disk new.pairs) + occurrence_count_of_number b z ≤ 1) (append-nil (skip_list_blocks_of_struct t.disk target.struct))
-        (moved_once t index (rename_onto_file_in_pair_changes t index id place name) can.path can.name name (target ∷ []) moving new is);
-    completed = moved_completed t index (rename_onto_file_in_pair_changes t index id place name) can.path can.name name (target ∷ []) moving new is;
+    now = subst (λ z. ShowsUpdatedTree t new (tree_renamed t can.path can.name name) z []) (append-nil (struct_blocks t.disk target.struct))
+        (moved_becomes t index (onto_changes t index id place name) can.path can.name name (target ∷ []) moving new is);
+    once = subst (λ (z : List ℕ). (b : ℕ) → number_count b (used_blocks new.disk new.pairs) + number_count b z ≤ 1) (append-nil (struct_blocks t.disk target.struct))
+        (moved_once t index (onto_changes t index id place name) can.path can.name name (target ∷ []) moving new is);
+    completed = moved_completed t index (onto_changes t index id place name) can.path can.name name (target ∷ []) moving new is;
   }
 
-  pub onto_survives : (new : List DeviceCallEvent) → PowerLossLeavesSuchBlocksAfterCleanErases t.history new (IsLeftByStoppedChangeOrSplit t index (rename_onto_file_in_pair_changes t index id place name))
-      → SurvivesPowerLossInCallsSince t.disk t.history new (tree_on_disk t.disk t.pairs) (tree_with_renamed_entry t rename.can.path rename.can.name name)
-  onto_survives new stops = moved_survives t index (rename_onto_file_in_pair_changes t index id place name) can.path can.name name (target ∷ []) moving new stops
+  pub onto_survives : (new : List CallEvent) → LossLeavesCleanly t.history new (LeftByTurn t index (onto_changes t index id place name))
+      → SurvivesLossSince t.disk t.history new (tree_on_disk t.disk t.pairs) (tree_renamed t rename.can.path rename.can.name name)
+  onto_survives new stops = moved_survives t index (onto_changes t index id place name) can.path can.name name (target ∷ []) moving new stops

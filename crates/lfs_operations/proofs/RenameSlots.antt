@@ -2,37 +2,37 @@
 use Rattle.std.proofs.Common.{ℕ, ◌≡◌, ◌⊎◌, inl, inr, ◌+◌, ◌<◌, ◌≤◌, ◌==◌, Bool, true, false, cond, take, drop, List, [], ◌∷◌, ◌++◌, length, Option, Some, None, refl, sym, ap, ap₂, subst, ◌∙◌, arith, append_assoc, append-nil, eqb-true}
 use Rattle.std.specs.Prelude.{nat_lt, nat_le, ◌&&◌, is_some}
 use Rattle.std.specs.List.{insert}
-use Rattle.lfs_operations.proofs.Common.{le-ltb, ne_eqb, same_Some, PutAttribute, raw_pair_content_after_changes, RawSlot, RawPairContent, slot_if_name_and_struct_present, raw_slots_with_function_applied_at_id, empty_slot, kind_of_name_type, attributes_with_attribute, slot_of_id, struct_of_type_and_bytes, file_name_type, directory_name_type, IsWellFormedRawSlot, IsNameOrStructTheFormatAllows, Name, is_valid_name, Attributes, Slot, File, Directory, Superblock, is_superblock, Each, each_append, each_weaker, creates_with_struct, does_first, puts_attribute, type_of_tag-tag_of_type_id_and_length, length_of_tag-tag_of_type_id_and_length}
+use Rattle.lfs_operations.proofs.Common.{le-ltb, ne_eqb, same_Some, PutAttribute, changed_content_of, RawSlot, RawContent, complete_slot, changed_at, empty_slot, kind_of_type, attributes_with, slot_of_id, read_struct, file_name_type, directory_name_type, IsSlotWellFormed, IsAllowed, Name, is_valid_name, Attributes, Slot, File, Directory, Superblock, is_superblock, Each, each_append, each_weaker, creates_with_struct, does_first, puts_attribute, tag_type-make_tag, tag_length-make_tag}
 use Rattle.std.proofs.lemmas.Bool.{leb-true}
 use Rattle.std.proofs.lemmas.List.{length-take-le}
 use Rattle.std.proofs.Math.Seq.{get_or-append_seam}
-use Rattle.lfs_model.specs.LoggedContent.{AreAttributesInTypeOrder, IsNameOrStructTheFormatAllowsIfSome}
-use Rattle.lfs_model.specs.Names.{is_path_component}
-use Rattle.lfs_model.specs.Slots.{is_superblock_kind}
+use Rattle.lfs_model.specs.layers.LoggedContent.{AttributesInOrder, AllowsIfSome}
+use Rattle.lfs_model.specs.format.Names.{is_component}
+use Rattle.lfs_model.specs.format.Slots.{names_superblock}
 use Rattle.lfs_model.proofs.Effects.{changed_inserted, with_attribute_put}
-use Rattle.lfs_operations.specs.RenamingSlots.{NamelessSlot, put_attribute_changes, nameless_slot_of, slot_creation_changes}
+use Rattle.lfs_operations.specs.RenamingSlots.{NamelessSlot, attribute_changes, nameless_of, slot_changes}
 
 -- ---- attributes, one after another
 
-pub put_last : (front : Attributes) (kind : ℕ) (bytes : List ℕ) → Each (λ (a : ℕ × List ℕ). a.0 < kind) front → attributes_with_attribute kind bytes front ≡ front ++ (kind, bytes) ∷ []
+pub put_last : (front : Attributes) (kind : ℕ) (bytes : List ℕ) → Each (λ (a : ℕ × List ℕ). a.0 < kind) front → attributes_with kind bytes front ≡ front ++ (kind, bytes) ∷ []
 put_last [] kind bytes h = refl
 put_last (a ∷ front) kind bytes h =
     let less : a.0 < kind = h.0 in
     let not_less : nat_lt kind a.0 ≡ false = le-ltb kind a.0 (omega arith) in
     let differs : kind == a.0 ≡ false = ne_eqb kind a.0 (λ e. omega arith) in
-    ap₂ (λ x y. cond x ((kind, bytes) ∷ a ∷ front) (cond y ((kind, bytes) ∷ front) (a ∷ attributes_with_attribute kind bytes front))) not_less differs
+    ap₂ (λ x y. cond x ((kind, bytes) ∷ a ∷ front) (cond y ((kind, bytes) ∷ front) (a ∷ attributes_with kind bytes front))) not_less differs
     ∙ ap (λ z. a ∷ z) (put_last front kind bytes h.1)
 
 inserted : (slots : List RawSlot) (id : ℕ) (s : RawSlot) → id ≤ length slots → slot_of_id (insert slots id s) id ≡ s
 inserted slots id s fits = ap (slot_of_id (insert slots id s)) (sym (length-take-le id slots fits)) ∙ get_or-append_seam (take id slots) s (drop id slots) empty_slot
 
 -- a content in which a slot stands at an id
-abbrev pub with_slot : RawPairContent → ℕ → RawSlot → RawPairContent
+abbrev pub with_slot : RawContent → ℕ → RawSlot → RawContent
 with_slot c id s = record c { slots = insert c.slots id s }
 
-pub puts_attributes : (c : RawPairContent) (id : ℕ) (s : RawSlot) (low : ℕ) (front rest : Attributes) → id < 0x3ff → id ≤ length c.slots → is_some s.name ≡ true
-    → Each (λ (a : ℕ × List ℕ). a.0 < low) front → AreAttributesInTypeOrder low rest
-    → raw_pair_content_after_changes (with_slot c id (record s { attributes = front })) (put_attribute_changes id rest) ≡ Some (with_slot c id (record s { attributes = front ++ rest }))
+pub puts_attributes : (c : RawContent) (id : ℕ) (s : RawSlot) (low : ℕ) (front rest : Attributes) → id < 0x3ff → id ≤ length c.slots → is_some s.name ≡ true
+    → Each (λ (a : ℕ × List ℕ). a.0 < low) front → AttributesInOrder low rest
+    → changed_content_of (with_slot c id (record s { attributes = front })) (attribute_changes id rest) ≡ Some (with_slot c id (record s { attributes = front ++ rest }))
 puts_attributes c id s low front [] small fits named below up =
     ap (λ (z : Attributes). Some (with_slot c id (record s { attributes = z }))) (sym (append-nil front))
 puts_attributes c id s low front (a ∷ rest) small fits named below up =
@@ -40,12 +40,12 @@ puts_attributes c id s low front (a ∷ rest) small fits named below up =
     let now : RawSlot = record s { attributes = front ++ a ∷ [] } in
     let short : length a.1 < 0x3ff = up.2 in
     let from : low ≤ a.0 = up.0 in
-    let same : raw_slots_with_function_applied_at_id (with_attribute_put a.0 a.1) (insert c.slots id was) id ≡ insert c.slots id now
+    let same : changed_at (with_attribute_put a.0 a.1) (insert c.slots id was) id ≡ insert c.slots id now
     = changed_inserted (with_attribute_put a.0 a.1) c.slots id was fits
     ∙ ap (λ (z : Attributes). insert c.slots id (record s { attributes = z })) (put_last front a.0 a.1 (each_weaker (λ (x : ℕ × List ℕ). x.0 < low) (λ (x : ℕ × List ℕ). x.0 < a.0) (λ x l. omega arith) front below)) in
-    does_first (PutAttribute id a.0 a.1) (put_attribute_changes id rest) (with_slot c id was) (record c { slots = raw_slots_with_function_applied_at_id (with_attribute_put a.0 a.1) (insert c.slots id was) id }) (with_slot c id (record s { attributes = front ++ a ∷ rest }))
+    does_first (PutAttribute id a.0 a.1) (attribute_changes id rest) (with_slot c id was) (record c { slots = changed_at (with_attribute_put a.0 a.1) (insert c.slots id was) id }) (with_slot c id (record s { attributes = front ++ a ∷ rest }))
     (puts_attribute (with_slot c id was) id a.0 a.1 small (let l : a.0 < 256 = up.1 in omega arith) short (ap (λ (z : RawSlot). is_some z.name) (inserted c.slots id was fits) ∙ named))
-    (ap (λ (z : List RawSlot). raw_pair_content_after_changes (record c { slots = z }) (put_attribute_changes id rest)) same
+    (ap (λ (z : List RawSlot). changed_content_of (record c { slots = z }) (attribute_changes id rest)) same
     ∙ puts_attributes c id s (a.0 + 1) (front ++ a ∷ []) rest small fits named
     (each_append (λ (x : ℕ × List ℕ). x.0 < a.0 + 1) front (a ∷ []) (each_weaker (λ (x : ℕ × List ℕ). x.0 < low) (λ (x : ℕ × List ℕ). x.0 < a.0 + 1) (λ x l. omega arith) front below) (omega arith, tt)) up.3
     ∙ ap (λ (z : Attributes). Some (with_slot c id (record s { attributes = z }))) (append_assoc front (a ∷ []) rest))
@@ -55,68 +55,68 @@ puts_attributes c id s low front (a ∷ rest) small fits named below up =
 -- the parts can be written again
 pub record AreParts (parts : NamelessSlot) : Type 0 where
   pub kind : (parts.kind ≡ file_name_type) ⊎ (parts.kind ≡ directory_name_type)
-  pub struct : IsNameOrStructTheFormatAllows 2 parts.struct
-  pub attributes : AreAttributesInTypeOrder 0 parts.attributes
+  pub struct : IsAllowed 2 parts.struct
+  pub attributes : AttributesInOrder 0 parts.attributes
 
 abbrev pub slot_of_parts : Name → NamelessSlot → RawSlot
 slot_of_parts name parts = record { name = Some (parts.kind, name); struct = Some parts.struct; attributes = parts.attributes }
 
 pub name_length : (name : Name) → is_valid_name name ≡ true → length name ≤ 255
-name_length name h = leb-true (length name) 255 (and_second (is_path_component name) (nat_le (length name) 255) h)
+name_length name h = leb-true (length name) 255 (and_second (is_component name) (nat_le (length name) 255) h)
   where
     and_second : (a b : Bool) → (a && b) ≡ true → b ≡ true
     and_second true b e = e
     and_second false b e = absurd (cc)
 
-name_part : (kind : ℕ) (name : Name) → (kind ≡ file_name_type) ⊎ (kind ≡ directory_name_type) → length name ≤ 255 → IsNameOrStructTheFormatAllows 0 (kind, name)
-name_part kind name (inl e) short = subst (λ (k : ℕ). IsNameOrStructTheFormatAllows 0 (k, name)) (sym e) (record {
+name_part : (kind : ℕ) (name : Name) → (kind ≡ file_name_type) ⊎ (kind ≡ directory_name_type) → length name ≤ 255 → IsAllowed 0 (kind, name)
+name_part kind name (inl e) short = subst (λ (k : ℕ). IsAllowed 0 (k, name)) (sym e) (record {
   of_class = refl;
   short = omega arith;
   in_table =
-      let kind = type_of_tag-tag_of_type_id_and_length file_name_type 0 (length name) (omega arith) (omega arith) (omega arith) in
-      let len = length_of_tag-tag_of_type_id_and_length file_name_type 0 (length name) (omega arith) in
+      let kind = tag_type-make_tag file_name_type 0 (length name) (omega arith) (omega arith) (omega arith) in
+      let len = tag_length-make_tag file_name_type 0 (length name) (omega arith) in
       rw len (rw kind (rw (ne_eqb (length name) 0x3ff (λ e. omega arith)) refl));
 })
-name_part kind name (inr e) short = subst (λ (k : ℕ). IsNameOrStructTheFormatAllows 0 (k, name)) (sym e) (record {
+name_part kind name (inr e) short = subst (λ (k : ℕ). IsAllowed 0 (k, name)) (sym e) (record {
   of_class = refl;
   short = omega arith;
   in_table =
-      let kind = type_of_tag-tag_of_type_id_and_length directory_name_type 0 (length name) (omega arith) (omega arith) (omega arith) in
-      let len = length_of_tag-tag_of_type_id_and_length directory_name_type 0 (length name) (omega arith) in
+      let kind = tag_type-make_tag directory_name_type 0 (length name) (omega arith) (omega arith) (omega arith) in
+      let len = tag_length-make_tag directory_name_type 0 (length name) (omega arith) in
       rw len (rw kind (rw (ne_eqb (length name) 0x3ff (λ e. omega arith)) refl));
 })
 
-pub slot_comes : (c : RawPairContent) (id : ℕ) (name : Name) (parts : NamelessSlot) → id < 0x3ff → id ≤ length c.slots → length name ≤ 255 → AreParts parts
-    → raw_pair_content_after_changes c (slot_creation_changes id name parts) ≡ Some (with_slot c id (slot_of_parts name parts))
+pub slot_comes : (c : RawContent) (id : ℕ) (name : Name) (parts : NamelessSlot) → id < 0x3ff → id ≤ length c.slots → length name ≤ 255 → AreParts parts
+    → changed_content_of c (slot_changes id name parts) ≡ Some (with_slot c id (slot_of_parts name parts))
 slot_comes c id name parts small fits short are =
     let s : RawSlot = slot_of_parts name parts in
-    creates_with_struct c id parts.kind name parts.struct.0 parts.struct.1 (put_attribute_changes id parts.attributes) (with_slot c id s) small fits (name_part parts.kind name are.kind short) are.struct
+    creates_with_struct c id parts.kind name parts.struct.0 parts.struct.1 (attribute_changes id parts.attributes) (with_slot c id s) small fits (name_part parts.kind name are.kind short) are.struct
     (puts_attributes c id s 0 [] parts.attributes small fits refl tt are.attributes)
 
 -- ---- of a slot that is complete
 
 -- what stands in a log is a slot
 pub record IsOf (s : RawSlot) (u : Slot) : Type 0 where
-  pub are : AreParts (nameless_slot_of s)
-  pub complete : (name : Name) → slot_if_name_and_struct_present (slot_of_parts name (nameless_slot_of s)) ≡ Some (record u { name = name })
+  pub are : AreParts (nameless_of s)
+  pub complete : (name : Name) → complete_slot (slot_of_parts name (nameless_of s)) ≡ Some (record u { name = name })
 
-kind_of_entry : (type : ℕ) → is_superblock_kind (kind_of_name_type type) ≡ false → (type ≡ file_name_type) ⊎ (type ≡ directory_name_type)
+kind_of_entry : (type : ℕ) → names_superblock (kind_of_type type) ≡ false → (type ≡ file_name_type) ⊎ (type ≡ directory_name_type)
 kind_of_entry type h = go (type == file_name_type) (type == directory_name_type) refl refl h
   where
-    go : (a b : Bool) → (type == file_name_type) ≡ a → (type == directory_name_type) ≡ b → is_superblock_kind (cond a File (cond b Directory Superblock)) ≡ false → (type ≡ file_name_type) ⊎ (type ≡ directory_name_type)
+    go : (a b : Bool) → (type == file_name_type) ≡ a → (type == directory_name_type) ≡ b → names_superblock (cond a File (cond b Directory Superblock)) ≡ false → (type ≡ file_name_type) ⊎ (type ≡ directory_name_type)
     go true b e f k = inl (eqb-true type file_name_type e)
     go false true e f k = inr (eqb-true type directory_name_type f)
     go false false e f k = absurd (cc)
 
-pub is_of : (s : RawSlot) (u : Slot) → IsWellFormedRawSlot s → slot_if_name_and_struct_present s ≡ Some u → is_superblock u ≡ false → IsOf s u
+pub is_of : (s : RawSlot) (u : Slot) → IsSlotWellFormed s → complete_slot s ≡ Some u → is_superblock u ≡ false → IsOf s u
 is_of s u parts is other = go s.name s.struct s.attributes parts.struct parts.attributes is
   where
-    go : (n p : Option (ℕ × List ℕ)) (attributes : Attributes) → IsNameOrStructTheFormatAllowsIfSome 2 p → AreAttributesInTypeOrder 0 attributes → (let x : RawSlot = record { name = n; struct = p; attributes = attributes } in slot_if_name_and_struct_present x ≡ Some u)
+    go : (n p : Option (ℕ × List ℕ)) (attributes : Attributes) → AllowsIfSome 2 p → AttributesInOrder 0 attributes → (let x : RawSlot = record { name = n; struct = p; attributes = attributes } in complete_slot x ≡ Some u)
         → IsOf (record { name = n; struct = p; attributes = attributes }) u
     go None p attributes h k e = absurd (cc)
     go (Some n) None attributes h k e = absurd (cc)
     go (Some n) (Some p) attributes h k e =
-        let same = same_Some (record { kind = kind_of_name_type n.0; name = n.1; struct = struct_of_type_and_bytes p.0 p.1; attributes = attributes }) u e in
+        let same = same_Some (record { kind = kind_of_type n.0; name = n.1; struct = read_struct p.0 p.1; attributes = attributes }) u e in
         record {
           are = record { kind = kind_of_entry n.0 (ap is_superblock same ∙ other); struct = h; attributes = k };
           complete = λ name. ap (λ (x : Slot). Some (record x { name = name })) same;

@@ -1,16 +1,16 @@
 -- A rename within one pair as a step of the thread, whatever is replaced by whatever.
 use Rattle.std.proofs.Common.{ℕ, ◌≡◌, ◌≢◌, ◌≤◌, ◌+◌, List, [], ◌∷◌, ◌++◌, sym, ap, subst, ◌∙◌, arith}
-use Rattle.lfs_operations.proofs.Common.{tree_after_rename, PairContentChange, Disk, DeviceCallEvent, Name, SurvivesPowerLossInCallsSince, Session, Slot, path_of_bytes_or_root, Pair, Path, tree_on_disk, used_blocks, IsImageAfterTreeChange, IsCommit, IsImageAfterCompletedOperation, directory_addresses_after_rename, Site, thread_at, file_blocks_of_slots, PowerLossLeavesSuchBlocksAfterCleanErases, KeptThread, occurrence_count_of_number}
-use Rattle.lfs_model.specs.Operations as ops
-use Rattle.lfs_operations.specs.Changing.{IsLeftByStoppedChangeOrSplit, IsPairChangedOrSplit}
-use Rattle.lfs_operations.specs.Ready.{ShowsTreeReadyOnceMapIsUpdated}
-use Rattle.lfs_operations.specs.Renaming.{CompletesRenameInDirectory, tree_with_renamed_entry}
+use Rattle.lfs_operations.proofs.Common.{tree_renaming, PairChange, Disk, CallEvent, Name, SurvivesLossSince, Session, Slot, path_or_root, Pair, Path, tree_on_disk, used_blocks, IsChangedImage, IsCommit, IsCompletion, renamed_addresses, Site, thread_at, file_blocks, LossLeavesCleanly, KeptThread, number_count}
+use Rattle.lfs_model.specs.session.Operations as ops
+use Rattle.lfs_operations.specs.Changing.{LeftByTurn, IsTurned}
+use Rattle.lfs_operations.specs.Ready.{ShowsUpdatedTree}
+use Rattle.lfs_operations.specs.Renaming.{CompletesRename, tree_renamed}
 use Rattle.lfs_operations.proofs.RenamePlaced.{IsPlaced, splicing}
 use Rattle.lfs_operations.proofs.Splicing.{IsSplicing}
 use Rattle.lfs_operations.proofs.Stepped.{HasStep, becomes, put_step, survives}
 
 -- The slots that are replaced, and those by which they are; each commit of them is a rename.
-pub record IsMoving (t : KeptThread) (index : ℕ) (changes : List PairContentChange) (path : Path) (from to : Name) (gone : List Slot) : Type 1 where
+pub record IsMoving (t : KeptThread) (index : ℕ) (changes : List PairChange) (path : Path) (from to : Name) (gone : List Slot) : Type 1 where
   pub w : Site
   pub p : Pair
   pub l : List Slot
@@ -23,35 +23,35 @@ pub record IsMoving (t : KeptThread) (index : ℕ) (changes : List PairContentCh
   pub move : placed.content.move ≡ p.content.move
   pub filled : l ++ (news ++ r) ≢ []
   pub follows : (disk : Disk) (q : Pair) (more : List Pair) → IsCommit t.disk disk w p q more [] l olds news r
-      → IsImageAfterTreeChange t.disk (thread_at w (p ∷ [])) disk (thread_at w (q ∷ more)) (tree_after_rename (path ++ from ∷ []) (path ++ to ∷ [])) (directory_addresses_after_rename (path ++ from ∷ []) (path ++ to ∷ []))
+      → IsChangedImage t.disk (thread_at w (p ∷ [])) disk (thread_at w (q ∷ more)) (tree_renaming (path ++ from ∷ []) (path ++ to ∷ [])) (renamed_addresses (path ++ from ∷ []) (path ++ to ∷ []))
   pub completed : (disk : Disk) (q : Pair) (more : List Pair) → IsCommit t.disk disk w p q more [] l olds news r → (s : Session) (given to_given : List ℕ) → s.tree ≡ tree_on_disk t.disk (thread_at w (p ∷ []))
-      → path_of_bytes_or_root given ≡ path ++ from ∷ [] → path_of_bytes_or_root to_given ≡ path ++ to ∷ [] → IsImageAfterCompletedOperation t.disk (thread_at w (p ∷ [])) s (ops.Rename given to_given) disk (thread_at w (q ∷ more))
+      → path_or_root given ≡ path ++ from ∷ [] → path_or_root to_given ≡ path ++ to ∷ [] → IsCompletion t.disk (thread_at w (p ∷ [])) s (ops.Rename given to_given) disk (thread_at w (q ∷ more))
 
-module _ (t : KeptThread) (index : ℕ) (changes : List PairContentChange) (path : Path) (from to : Name) (gone : List Slot) (m : IsMoving t index changes path from to gone) where
-  spliced : IsSplicing t index changes m.w m.p m.l m.olds m.news m.r (file_blocks_of_slots t.disk gone) []
+module _ (t : KeptThread) (index : ℕ) (changes : List PairChange) (path : Path) (from to : Name) (gone : List Slot) (m : IsMoving t index changes path from to gone) where
+  spliced : IsSplicing t index changes m.w m.p m.l m.olds m.news m.r (file_blocks t.disk gone) []
   spliced = splicing t index changes m.w m.p m.l m.olds m.news m.r gone m.u m.moved m.placed m.move
 
-  stepped : (new : KeptThread) → IsPairChangedOrSplit t index changes new → HasStep t m.w m.p m.l m.olds m.news m.r (file_blocks_of_slots t.disk gone) [] new
-  stepped new is = put_step t index changes m.w m.p m.l m.olds m.news m.r (file_blocks_of_slots t.disk gone) [] spliced new is
+  stepped : (new : KeptThread) → IsTurned t index changes new → HasStep t m.w m.p m.l m.olds m.news m.r (file_blocks t.disk gone) [] new
+  stepped new is = put_step t index changes m.w m.p m.l m.olds m.news m.r (file_blocks t.disk gone) [] spliced new is
 
-  pub moved_becomes : (new : KeptThread) → IsPairChangedOrSplit t index changes new → ShowsTreeReadyOnceMapIsUpdated t new (tree_with_renamed_entry t path from to) (file_blocks_of_slots t.disk gone) []
-  moved_becomes new is = becomes t index changes m.w m.p m.l m.olds m.news m.r (file_blocks_of_slots t.disk gone) [] spliced (tree_after_rename (path ++ from ∷ []) (path ++ to ∷ []))
-      (λ disk q more c. (directory_addresses_after_rename (path ++ from ∷ []) (path ++ to ∷ []), m.follows disk q more c.commit)) (λ e. m.filled) new (stepped new is)
+  pub moved_becomes : (new : KeptThread) → IsTurned t index changes new → ShowsUpdatedTree t new (tree_renamed t path from to) (file_blocks t.disk gone) []
+  moved_becomes new is = becomes t index changes m.w m.p m.l m.olds m.news m.r (file_blocks t.disk gone) [] spliced (tree_renaming (path ++ from ∷ []) (path ++ to ∷ []))
+      (λ disk q more c. (renamed_addresses (path ++ from ∷ []) (path ++ to ∷ []), m.follows disk q more c.commit)) (λ e. m.filled) new (stepped new is)
 
-  pub moved_once : (new : KeptThread) → IsPairChangedOrSplit t index changes new → (b : ℕ) → occurrence_count_of_number b (used_blocks new.disk new.pairs) + occurrence_count_of_number b (file_blocks_of_slots t.disk gone) ≤ 1
+  pub moved_once : (new : KeptThread) → IsTurned t index changes new → (b : ℕ) → number_count b (used_blocks new.disk new.pairs) + number_count b (file_blocks t.disk gone) ≤ 1
   moved_once new is b =
       let x = stepped new is in
       let e = x.used.same b in
       let o = x.once b in
       omega arith
 
-  pub moved_completed : (new : KeptThread) → IsPairChangedOrSplit t index changes new → CompletesRenameInDirectory t new path from to
+  pub moved_completed : (new : KeptThread) → IsTurned t index changes new → CompletesRename t new path from to
   moved_completed new is s given to_given tree given_is to_is =
       let x = stepped new is in
-      subst (λ y. IsImageAfterCompletedOperation t.disk y s (ops.Rename given to_given) new.disk new.pairs) (sym m.placed.there)
-      (subst (λ y. IsImageAfterCompletedOperation t.disk (thread_at m.w (m.p ∷ [])) s (ops.Rename given to_given) new.disk y) (sym x.pairs)
+      subst (λ y. IsCompletion t.disk y s (ops.Rename given to_given) new.disk new.pairs) (sym m.placed.there)
+      (subst (λ y. IsCompletion t.disk (thread_at m.w (m.p ∷ [])) s (ops.Rename given to_given) new.disk y) (sym x.pairs)
       (m.completed new.disk x.q x.more x.commit.commit s given to_given (tree ∙ ap (tree_on_disk t.disk) m.placed.there) given_is to_is))
 
-  pub moved_survives : (new : List DeviceCallEvent) → PowerLossLeavesSuchBlocksAfterCleanErases t.history new (IsLeftByStoppedChangeOrSplit t index changes) → SurvivesPowerLossInCallsSince t.disk t.history new (tree_on_disk t.disk t.pairs) (tree_with_renamed_entry t path from to)
-  moved_survives new stops = survives t index changes m.w m.p m.l m.olds m.news m.r (file_blocks_of_slots t.disk gone) [] spliced (tree_after_rename (path ++ from ∷ []) (path ++ to ∷ []))
-      (λ disk q more c. (directory_addresses_after_rename (path ++ from ∷ []) (path ++ to ∷ []), m.follows disk q more c.commit)) (λ e. m.filled) new stops
+  pub moved_survives : (new : List CallEvent) → LossLeavesCleanly t.history new (LeftByTurn t index changes) → SurvivesLossSince t.disk t.history new (tree_on_disk t.disk t.pairs) (tree_renamed t path from to)
+  moved_survives new stops = survives t index changes m.w m.p m.l m.olds m.news m.r (file_blocks t.disk gone) [] spliced (tree_renaming (path ++ from ∷ []) (path ++ to ∷ []))
+      (λ disk q more c. (renamed_addresses (path ++ from ∷ []) (path ++ to ∷ []), m.follows disk q more c.commit)) (λ e. m.filled) new stops

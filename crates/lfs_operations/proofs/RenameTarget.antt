@@ -1,10 +1,10 @@
 -- An entry that takes the name of another one of its pair and directory: where both stand, and the slots that are left without them.
 use Rattle.std.proofs.Common.{ℕ, ◌≡◌, true, List, [], ◌∷◌, ◌++◌, length, Some, sym, ap, subst, ◌∙◌, arith, append_assoc, length-append, refl}
 use Rattle.std.specs.Prelude.{◌≢◌}
-use Rattle.lfs_operations.proofs.Common.{Delete, RawPairContent, slots_if_names_and_structs_present, IsPlaceOfNameInDirectory, HasEntryOfNameAtId, Name, is_valid_name, IsContentFittingPair, Slot, Pair, IsFileOrDirectoryEntry, Each, each_right, KeptThread}
-use Rattle.lfs_operations.specs.Editing.{CanEditEntryOfPair}
-use Rattle.lfs_operations.specs.Renaming.{id_after_slot_removal}
-use Rattle.lfs_operations.specs.RenamingSlots.{HasSlotOfId}
+use Rattle.lfs_operations.proofs.Common.{Delete, RawContent, complete_slots, IsPlaceOf, HasName, Name, is_valid_name, FitsInPair, Slot, Pair, IsTreeEntry, Each, each_right, KeptThread}
+use Rattle.lfs_operations.specs.Editing.{CanEditIn}
+use Rattle.lfs_operations.specs.Renaming.{id_after_removal}
+use Rattle.lfs_operations.specs.RenamingSlots.{HasSlot}
 use Rattle.lfs_operations.proofs.Held.{IsEntryIfOther, below, each_pair, fits_there, here, other_entries}
 use Rattle.lfs_operations.proofs.RenameMade as made
 use Rattle.lfs_operations.proofs.RenameMade.{ComesBehind, Leaves, fits_without, leaves_then, leaves_without}
@@ -24,8 +24,8 @@ follower target tail u behind (x ∷ passed) apart e = record { between = passed
     first : x ≡ target
     first = cc
 
-module _ (t : KeptThread) (index id place : ℕ) (name : Name) (can : CanEditEntryOfPair t index id) (to : IsPlaceOfNameInDirectory t.pairs can.first name index place) (apart : name ≢ can.name) where
-  abbrev s : HasEntryOfNameAtId can.stands.pair.content.slots can.name id
+module _ (t : KeptThread) (index id place : ℕ) (name : Name) (can : CanEditIn t index id) (to : IsPlaceOf t.pairs can.first name index place) (apart : name ≢ can.name) where
+  abbrev s : HasName can.stands.pair.content.slots can.name id
   s = can.stands.stands
 
   abbrev p : Pair
@@ -37,7 +37,7 @@ module _ (t : KeptThread) (index id place : ℕ) (name : Name) (can : CanEditEnt
   abbrev target : Slot
   target = to.stands.slot
 
-  pub has_slot : HasSlotOfId t index id
+  pub has_slot : HasSlot t index id
   has_slot =
       let e = ap (λ (z : Pair). length z.content.slots) (here t can.ready can.first index p can.stands.rest can.stands.place) in
       let h = ap length s.held in
@@ -52,7 +52,7 @@ module _ (t : KeptThread) (index id place : ℕ) (name : Name) (can : CanEditEnt
   pub target_held : can.stands.pair.content.slots ≡ to.stands.left ++ to.stands.slot ∷ to.stands.right
   target_held = ap (λ (z : Pair). z.content.slots) pair_same ∙ to.stands.held
 
-  pub fits_here : IsContentFittingPair t.disk.block_size t.disk.page can.stands.pair.content
+  pub fits_here : FitsInPair t.disk.block_size t.disk.page can.stands.pair.content
   fits_here = fits_there t can.ready can.first index p can.stands.rest can.stands.place
 
   pub differs : to.stands.slot.name ≡ can.stands.stands.slot.name → ⊥
@@ -65,30 +65,30 @@ module _ (t : KeptThread) (index id place : ℕ) (name : Name) (can : CanEditEnt
       let e = (each_right IsEntryIfOther to.stands.left (target ∷ to.stands.right) (subst (Each IsEntryIfOther) target_held all)).0 to.stands.entry in
       ap is_valid_name (sym to.stands.named) ∙ e.name
 
-  pub entry_again : IsFileOrDirectoryEntry can.stands.stands.slot → IsFileOrDirectoryEntry (with_name can.stands.stands.slot name)
+  pub entry_again : IsTreeEntry can.stands.stands.slot → IsTreeEntry (with_name can.stands.stands.slot name)
   entry_again e = record { name = named; struct = e.struct }
 
   -- ---- the slots that are left without both
 
   abbrev pub IsLeftOver : List Slot → List Slot → Type 0
-  IsLeftOver x y = (s.left ++ s.right ≡ x ++ target ∷ y) × (length x ≡ id_after_slot_removal id place)
+  IsLeftOver x y = (s.left ++ s.right ≡ x ++ target ∷ y) × (length x ≡ id_after_removal id place)
 
   module _ (x y : List Slot) (over : IsLeftOver x y) where
-    fits_one : IsContentFittingPair t.disk.block_size t.disk.page (record p.content { slots = x ++ target ∷ y })
-    fits_one = subst (λ z. IsContentFittingPair t.disk.block_size t.disk.page (record p.content { slots = z })) over.0 (fits_without t.disk.block_size t.disk.page p.content s.left u s.right s.held fits_here)
+    fits_one : FitsInPair t.disk.block_size t.disk.page (record p.content { slots = x ++ target ∷ y })
+    fits_one = subst (λ z. FitsInPair t.disk.block_size t.disk.page (record p.content { slots = z })) over.0 (fits_without t.disk.block_size t.disk.page p.content s.left u s.right s.held fits_here)
 
-    pub fits_both : IsContentFittingPair t.disk.block_size t.disk.page (record can.stands.pair.content { slots = x ++ y })
+    pub fits_both : FitsInPair t.disk.block_size t.disk.page (record can.stands.pair.content { slots = x ++ y })
     fits_both = fits_without t.disk.block_size t.disk.page (record p.content { slots = x ++ target ∷ y }) x target y refl fits_one
 
-    module _ (raw : RawPairContent) (all : slots_if_names_and_structs_present raw.slots ≡ Some can.stands.pair.content.slots) where
+    module _ (raw : RawContent) (all : complete_slots raw.slots ≡ Some can.stands.pair.content.slots) where
       left_one : Leaves raw (Delete id ∷ []) (x ++ target ∷ y)
       left_one = subst (Leaves raw (Delete id ∷ [])) over.0
           (leaves_without raw s.left u s.right id (let few = fits_here.count in let i = made.within t index id can.ready can.first p can.stands.rest can.stands.place can.logged can.name s in omega arith) s.number
           (all ∙ ap Some s.held))
 
-      pub left_both : Leaves raw (Delete id ∷ Delete (id_after_slot_removal id place) ∷ []) (x ++ y)
-      left_both = leaves_then raw (Delete id ∷ []) (Delete (id_after_slot_removal id place) ∷ []) (x ++ target ∷ y) (x ++ y) left_one
-          (leaves_without left_one.left x target y (id_after_slot_removal id place) (let few = fits_one.count in let n = over.1 in let k = length-append x (target ∷ y) in omega arith) over.1 left_one.are)
+      pub left_both : Leaves raw (Delete id ∷ Delete (id_after_removal id place) ∷ []) (x ++ y)
+      left_both = leaves_then raw (Delete id ∷ []) (Delete (id_after_removal id place) ∷ []) (x ++ target ∷ y) (x ++ y) left_one
+          (leaves_without left_one.left x target y (id_after_removal id place) (let few = fits_one.count in let n = over.1 in let k = length-append x (target ∷ y) in omega arith) over.1 left_one.are)
 
   -- the other entry stands behind the slot
   pub over_behind : (d : ComesBehind can.stands.stands.left can.stands.stands.slot can.stands.stands.right to.stands.left (to.stands.slot ∷ to.stands.right))

@@ -1,11 +1,11 @@
 -- A rename within one pair to a name that is new.
 use Rattle.std.proofs.Common.{ℕ, ◌≡◌, ◌⊎◌, inl, inr, ◌-◌, ◌<◌, ◌≤◌, cond, List, [], ◌∷◌, ◌++◌, length, Some, refl, sym, ap, subst, ◌∙◌, arith, append_assoc, append-nil, length-append}
-use Rattle.lfs_operations.proofs.Common.{le-ltb, lt-ltb, tree_after_rename, Delete, raw_content_of_pair_at, DeviceCallEvent, IsPlaceWhereNameBelongs, HasEntryOfNameAtId, Name, SurvivesPowerLossInCallsSince, IsContentFittingPair, Slot, Pair, starts_with_superblock, IsFileOrDirectoryEntry, entries_by_directory_in_thread, tree_on_disk, IsImageAfterTreeChange, no_move_from, place_at, IsPlace, some_filled, directory_addresses_after_rename, place_of_belongs, site, Site, thread_at, PowerLossLeavesSuchBlocksAfterCleanErases, KeptThread, thread_pair_at_index}
+use Rattle.lfs_operations.proofs.Common.{le-ltb, lt-ltb, tree_renaming, Delete, raw_content, CallEvent, BelongsAt, HasName, Name, SurvivesLossSince, FitsInPair, Slot, Pair, starts_superblock, IsTreeEntry, all_entries, tree_on_disk, IsChangedImage, no_move_from, place_at, IsPlace, some_filled, renamed_addresses, place_of_belongs, site, Site, thread_at, LossLeavesCleanly, KeptThread, thread_pair_at}
 use Rattle.lfs_model.proofs.RenameSteps.{ahead_follows, behind_follows, renamed_ahead_completed, renamed_behind_completed}
-use Rattle.lfs_operations.specs.Changing.{CanChangeOrSplitPair, IsLeftByStoppedChangeOrSplit, IsPairChangedOrSplit}
-use Rattle.lfs_operations.specs.Editing.{CanEditEntryOfPair}
-use Rattle.lfs_operations.specs.Renaming.{CanRenameWithinPair, IsEntryRenamedInPair, id_after_slot_removal, rename_within_pair_changes, tree_with_renamed_entry}
-use Rattle.lfs_operations.specs.RenamingSlots.{HasSlotOfId}
+use Rattle.lfs_operations.specs.Changing.{CanTurn, LeftByTurn, IsTurned}
+use Rattle.lfs_operations.specs.Editing.{CanEditIn}
+use Rattle.lfs_operations.specs.Renaming.{CanRenameWithin, IsRenamedWithin, id_after_removal, within_changes, tree_renamed}
+use Rattle.lfs_operations.specs.RenamingSlots.{HasSlot}
 use Rattle.lfs_operations.proofs.Held.{CompletesTo, below, fits_there, here, raw_there}
 use Rattle.lfs_operations.proofs.RenameMade as made
 use Rattle.lfs_operations.proofs.RenameMade.{ComesAhead, ComesBehind, Leaves, behind_or_ahead, fits_without, leaves_without}
@@ -14,17 +14,17 @@ use Rattle.lfs_operations.proofs.RenameStepped.{IsMoving, moved_becomes, moved_c
 use Rattle.lfs_operations.proofs.Stepped.{ready_again}
 use Rattle.lfs_operations.proofs.PairAt.{HasPairAt, pair_at}
 
-pub place_behind_is : (id place : ℕ) → id < place → id_after_slot_removal id place ≡ place - 1
+pub place_behind_is : (id place : ℕ) → id < place → id_after_removal id place ≡ place - 1
 place_behind_is id place less = ap (λ b. cond b (place - 1) place) (lt-ltb id place less)
 
-pub place_ahead_is : (id place : ℕ) → place ≤ id → id_after_slot_removal id place ≡ place
+pub place_ahead_is : (id place : ℕ) → place ≤ id → id_after_removal id place ≡ place
 place_ahead_is id place le = ap (λ b. cond b (place - 1) place) (le-ltb id place le)
 
-module _ (t : KeptThread) (index id place : ℕ) (name : Name) (rename : CanRenameWithinPair t index id place name) where
-  abbrev can : CanEditEntryOfPair t index id
+module _ (t : KeptThread) (index id place : ℕ) (name : Name) (rename : CanRenameWithin t index id place name) where
+  abbrev can : CanEditIn t index id
   can = rename.can
 
-  abbrev b : IsPlaceWhereNameBelongs t.disk.order t.pairs can.first name index place
+  abbrev b : BelongsAt t.disk.order t.pairs can.first name index place
   b = rename.belongs
 
   abbrev p : Pair
@@ -33,7 +33,7 @@ module _ (t : KeptThread) (index id place : ℕ) (name : Name) (rename : CanRena
   abbrev u : Slot
   u = can.stands.stands.slot
 
-  pub has_slot : HasSlotOfId t index id
+  pub has_slot : HasSlot t index id
   has_slot =
       let e = ap (λ (z : Pair). length z.content.slots) (here t can.ready can.first index can.stands.pair can.stands.rest can.stands.place) in
       let h = ap length can.stands.stands.held in
@@ -45,7 +45,7 @@ module _ (t : KeptThread) (index id place : ℕ) (name : Name) (rename : CanRena
   pair_same : b.pair ≡ can.stands.pair
   pair_same = sym (here t can.ready can.first index b.pair (b.later ++ b.rest) b.place) ∙ here t can.ready can.first index can.stands.pair can.stands.rest can.stands.place
 
-  abbrev s : HasEntryOfNameAtId b.pair.content.slots can.name id
+  abbrev s : HasName b.pair.content.slots can.name id
   s = record {
     left = can.stands.stands.left;
     slot = can.stands.stands.slot;
@@ -62,20 +62,20 @@ module _ (t : KeptThread) (index id place : ℕ) (name : Name) (rename : CanRena
   stand : HasPairAt t index can.path can.at w p
   stand = pair_at t can.ready can.path can.at can.leads can.first index p (b.later ++ b.rest) b.place can.begins
 
-  place_there : IsPlace t.disk.order (entries_by_directory_in_thread (thread_at w (p ∷ [])) can.at) (place_at w b.left) name
-  place_there = subst (λ z. IsPlace t.disk.order (entries_by_directory_in_thread z can.at) (place_at w b.left) name) stand.there
+  place_there : IsPlace t.disk.order (all_entries (thread_at w (p ∷ [])) can.at) (place_at w b.left) name
+  place_there = subst (λ z. IsPlace t.disk.order (all_entries z can.at) (place_at w b.left) name) stand.there
       (place_of_belongs t.disk t.pairs can.path can.at can.ready.accepted can.leads can.first index place name (no_move_from t.pairs can.ready.settled) b can.begins)
 
-  fits_here : IsContentFittingPair t.disk.block_size t.disk.page p.content
+  fits_here : FitsInPair t.disk.block_size t.disk.page p.content
   fits_here = fits_there t can.ready can.first index p (b.later ++ b.rest) b.place
 
-  abbrev c : CompletesTo (raw_content_of_pair_at t.disk (thread_pair_at_index t index).at) p.content
+  abbrev c : CompletesTo (raw_content t.disk (thread_pair_at t index).at) p.content
   c = raw_there t can.ready can.first index p (b.later ++ b.rest) b.place
 
   -- ---- the slots that are left are cut in two
 
   abbrev IsLeftOver : List Slot → List Slot → Type 0
-  IsLeftOver x y = (s.left ++ s.right ≡ x ++ y) × (length x ≡ id_after_slot_removal id place)
+  IsLeftOver x y = (s.left ++ s.right ≡ x ++ y) × (length x ≡ id_after_removal id place)
 
   module _ (x y : List Slot) (over : IsLeftOver x y) where
     left_over : Leaves c.raw (Delete id ∷ []) (x ++ y)
@@ -83,13 +83,13 @@ module _ (t : KeptThread) (index id place : ℕ) (name : Name) (rename : CanRena
         (leaves_without c.raw s.left u s.right id (let few = fits_here.count in let i = made.within t index id can.ready can.first p (b.later ++ b.rest) b.place can.logged can.name s in omega arith) s.number
         (made.all_slots t index id can.ready can.first p (b.later ++ b.rest) b.place can.logged can.name s ∙ ap Some s.held))
 
-    fits_over : IsContentFittingPair t.disk.block_size t.disk.page (record p.content { slots = x ++ y })
-    fits_over = subst (λ z. IsContentFittingPair t.disk.block_size t.disk.page (record p.content { slots = z })) over.0 (fits_without t.disk.block_size t.disk.page p.content s.left u s.right s.held fits_here)
+    fits_over : FitsInPair t.disk.block_size t.disk.page (record p.content { slots = x ++ y })
+    fits_over = subst (λ z. FitsInPair t.disk.block_size t.disk.page (record p.content { slots = z })) over.0 (fits_without t.disk.block_size t.disk.page p.content s.left u s.right s.held fits_here)
 
-    can_put_over : CanChangeOrSplitPair t index (rename_within_pair_changes t index id place name)
-    can_put_over = made.can_put t index id can.ready can.first p (b.later ++ b.rest) b.place can.logged can.name s (Delete id ∷ []) x y left_over fits_over (id_after_slot_removal id place) over.1 name rename.is_name rename.fits
+    can_put_over : CanTurn t index (within_changes t index id place name)
+    can_put_over = made.can_put t index id can.ready can.first p (b.later ++ b.rest) b.place can.logged can.name s (Delete id ∷ []) x y left_over fits_over (id_after_removal id place) over.1 name rename.is_name rename.fits
 
-  entry_again : IsFileOrDirectoryEntry u → IsFileOrDirectoryEntry (with_name u name)
+  entry_again : IsTreeEntry u → IsTreeEntry (with_name u name)
   entry_again e = record { name = rename.is_name; struct = e.struct }
 
   -- ---- behind the old slot
@@ -110,7 +110,7 @@ module _ (t : KeptThread) (index id place : ℕ) (name : Name) (rename : CanRena
           omega arith),
     )
 
-    moving_behind : IsMoving t index (rename_within_pair_changes t index id place name) can.path can.name name []
+    moving_behind : IsMoving t index (within_changes t index id place name) can.path can.name name []
     moving_behind = record {
       w = w;
       p = p;
@@ -127,7 +127,7 @@ module _ (t : KeptThread) (index id place : ℕ) (name : Name) (rename : CanRena
         site = stand.site;
         content = record { slots = (s.left ++ d.passed) ++ with_name u name ∷ b.right; tail = p.content.tail; move = p.content.move };
         made = made.made t index id can.ready can.first p (b.later ++ b.rest) b.place can.logged can.name s (Delete id ∷ []) x b.right (left_over x b.right over_behind) (fits_over x b.right over_behind)
-            (id_after_slot_removal id place) over_behind.1 name rename.is_name rename.fits;
+            (id_after_removal id place) over_behind.1 name rename.is_name rename.fits;
         tail = refl;
         was = s.held ∙ ap (λ z. s.left ++ u ∷ z) d.back;
         now = append_assoc s.left d.passed (with_name u name ∷ b.right) ∙ ap (λ z. s.left ++ z) (sym (append_assoc d.passed (with_name u name ∷ []) b.right));
@@ -141,15 +141,15 @@ module _ (t : KeptThread) (index id place : ℕ) (name : Name) (rename : CanRena
       move = refl;
       filled = λ e. some_filled (s.left ++ d.passed) b.right (with_name u name)
           (append_assoc s.left d.passed (with_name u name ∷ b.right) ∙ ap (λ z. s.left ++ z) (sym (append_assoc d.passed (with_name u name ∷ []) b.right)) ∙ e);
-      follows = λ disk q more k. subst (λ (n : Name). IsImageAfterTreeChange t.disk (thread_at w (p ∷ [])) disk (thread_at w (q ∷ more)) (tree_after_rename (can.path ++ n ∷ []) (can.path ++ name ∷ [])) (directory_addresses_after_rename (can.path ++ n ∷ []) (can.path ++ name ∷ []))) s.named
+      follows = λ disk q more k. subst (λ (n : Name). IsChangedImage t.disk (thread_at w (p ∷ [])) disk (thread_at w (q ∷ more)) (tree_renaming (can.path ++ n ∷ []) (can.path ++ name ∷ [])) (renamed_addresses (can.path ++ n ∷ []) (can.path ++ name ∷ []))) s.named
           (behind_follows t.disk disk w p q more s.left u d.passed b.right name k s.entry can.path can.at stand.leads stand.begin place_now);
       completed = λ disk q more k z given to_given tree given_is to_is.
           renamed_behind_completed t.disk disk w p q more s.left u d.passed b.right name k s.entry can.path can.at stand.leads stand.begin place_now z given to_given tree
           (given_is ∙ ap (λ n. can.path ++ n ∷ []) (sym s.named)) to_is;
     }
       where
-        place_now : IsPlace t.disk.order (entries_by_directory_in_thread (thread_at w (p ∷ [])) can.at) (place_at w (s.left ++ u ∷ d.passed)) name
-        place_now = subst (λ z. IsPlace t.disk.order (entries_by_directory_in_thread (thread_at w (p ∷ [])) can.at) (place_at w z) name) d.front place_there
+        place_now : IsPlace t.disk.order (all_entries (thread_at w (p ∷ [])) can.at) (place_at w (s.left ++ u ∷ d.passed)) name
+        place_now = subst (λ z. IsPlace t.disk.order (all_entries (thread_at w (p ∷ [])) can.at) (place_at w z) name) d.front place_there
 
   -- ---- in front of it
 
@@ -165,7 +165,7 @@ module _ (t : KeptThread) (index id place : ℕ) (name : Name) (rename : CanRena
           omega arith),
     )
 
-    moving_ahead : IsMoving t index (rename_within_pair_changes t index id place name) can.path can.name name []
+    moving_ahead : IsMoving t index (within_changes t index id place name) can.path can.name name []
     moving_ahead = record {
       w = w;
       p = p;
@@ -182,11 +182,11 @@ module _ (t : KeptThread) (index id place : ℕ) (name : Name) (rename : CanRena
         site = stand.site;
         content = record { slots = b.left ++ with_name u name ∷ (d.passed ++ s.right); tail = p.content.tail; move = p.content.move };
         made = made.made t index id can.ready can.first p (b.later ++ b.rest) b.place can.logged can.name s (Delete id ∷ []) b.left (d.passed ++ s.right) (left_over b.left (d.passed ++ s.right) over_ahead)
-            (fits_over b.left (d.passed ++ s.right) over_ahead) (id_after_slot_removal id place) over_ahead.1 name rename.is_name rename.fits;
+            (fits_over b.left (d.passed ++ s.right) over_ahead) (id_after_removal id place) over_ahead.1 name rename.is_name rename.fits;
         tail = refl;
         was = b.held ∙ ap (λ z. b.left ++ z) (d.back ∙ sym (append_assoc d.passed (u ∷ []) s.right));
         now = refl;
-        front = ap starts_with_superblock (append_assoc d.passed (u ∷ []) s.right ∙ sym d.back) ∙ b.fronted;
+        front = ap starts_superblock (append_assoc d.passed (u ∷ []) s.right ∙ sym d.back) ∙ b.fronted;
         carries = carries_ahead u name [] d.passed;
         entry = entry_again;
         struct = refl;
@@ -195,7 +195,7 @@ module _ (t : KeptThread) (index id place : ℕ) (name : Name) (rename : CanRena
       };
       move = refl;
       filled = some_filled b.left (d.passed ++ s.right) (with_name u name);
-      follows = λ disk q more k. subst (λ (n : Name). IsImageAfterTreeChange t.disk (thread_at w (p ∷ [])) disk (thread_at w (q ∷ more)) (tree_after_rename (can.path ++ n ∷ []) (can.path ++ name ∷ [])) (directory_addresses_after_rename (can.path ++ n ∷ []) (can.path ++ name ∷ []))) s.named
+      follows = λ disk q more k. subst (λ (n : Name). IsChangedImage t.disk (thread_at w (p ∷ [])) disk (thread_at w (q ∷ more)) (tree_renaming (can.path ++ n ∷ []) (can.path ++ name ∷ [])) (renamed_addresses (can.path ++ n ∷ []) (can.path ++ name ∷ []))) s.named
           (ahead_follows t.disk disk w p q more b.left u d.passed s.right name k s.entry can.path can.at stand.leads stand.begin place_there);
       completed = λ disk q more k z given to_given tree given_is to_is.
           renamed_ahead_completed t.disk disk w p q more b.left u d.passed s.right name k s.entry can.path can.at stand.leads stand.begin place_there z given to_given tree
@@ -207,26 +207,26 @@ module _ (t : KeptThread) (index id place : ℕ) (name : Name) (rename : CanRena
   two : ComesBehind s.left u s.right b.left b.right ⊎ ComesAhead s.left u s.right b.left b.right
   two = behind_or_ahead s.left u s.right b.left b.right (sym s.held ∙ b.held)
 
-  pub can_put_renamed : CanChangeOrSplitPair t index (rename_within_pair_changes t index id place name)
+  pub can_put_renamed : CanTurn t index (within_changes t index id place name)
   can_put_renamed = go two
     where
-      go : ComesBehind s.left u s.right b.left b.right ⊎ ComesAhead s.left u s.right b.left b.right → CanChangeOrSplitPair t index (rename_within_pair_changes t index id place name)
+      go : ComesBehind s.left u s.right b.left b.right ⊎ ComesAhead s.left u s.right b.left b.right → CanTurn t index (within_changes t index id place name)
       go (inl d) = can_put_over (s.left ++ d.passed) b.right (over_behind d)
       go (inr d) = can_put_over b.left (d.passed ++ s.right) (over_ahead d)
 
-  moving : IsMoving t index (rename_within_pair_changes t index id place name) can.path can.name name []
+  moving : IsMoving t index (within_changes t index id place name) can.path can.name name []
   moving = go two
     where
-      go : ComesBehind s.left u s.right b.left b.right ⊎ ComesAhead s.left u s.right b.left b.right → IsMoving t index (rename_within_pair_changes t index id place name) can.path can.name name []
+      go : ComesBehind s.left u s.right b.left b.right ⊎ ComesAhead s.left u s.right b.left b.right → IsMoving t index (within_changes t index id place name) can.path can.name name []
       go (inl d) = moving_behind d
       go (inr d) = moving_ahead d
 
-  pub renamed_within : (new : KeptThread) → IsPairChangedOrSplit t index (rename_within_pair_changes t index id place name) new → IsEntryRenamedInPair t new rename.can.path rename.can.name name
+  pub renamed_within : (new : KeptThread) → IsTurned t index (within_changes t index id place name) new → IsRenamedWithin t new rename.can.path rename.can.name name
   renamed_within new is = record {
-    now = ready_again t new (tree_with_renamed_entry t can.path can.name name) (moved_becomes t index (rename_within_pair_changes t index id place name) can.path can.name name [] moving new is);
-    completed = moved_completed t index (rename_within_pair_changes t index id place name) can.path can.name name [] moving new is;
+    now = ready_again t new (tree_renamed t can.path can.name name) (moved_becomes t index (within_changes t index id place name) can.path can.name name [] moving new is);
+    completed = moved_completed t index (within_changes t index id place name) can.path can.name name [] moving new is;
   }
 
-  pub rename_survives : (new : List DeviceCallEvent) → PowerLossLeavesSuchBlocksAfterCleanErases t.history new (IsLeftByStoppedChangeOrSplit t index (rename_within_pair_changes t index id place name))
-      → SurvivesPowerLossInCallsSince t.disk t.history new (tree_on_disk t.disk t.pairs) (tree_with_renamed_entry t rename.can.path rename.can.name name)
-  rename_survives new stops = moved_survives t index (rename_within_pair_changes t index id place name) can.path can.name name [] moving new stops
+  pub rename_survives : (new : List CallEvent) → LossLeavesCleanly t.history new (LeftByTurn t index (within_changes t index id place name))
+      → SurvivesLossSince t.disk t.history new (tree_on_disk t.disk t.pairs) (tree_renamed t rename.can.path rename.can.name name)
+  rename_survives new stops = moved_survives t index (within_changes t index id place name) can.path can.name name [] moving new stops

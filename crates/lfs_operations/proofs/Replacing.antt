@@ -2,29 +2,29 @@
 use Rattle.std.proofs.Common.{nat_eq, ℕ, ◌≡◌, ◌+◌, ◌<◌, ◌≤◌, true, false, List, [], ◌∷◌, ◌++◌, length, Some, refl, sym, ap, ap₂, subst, ◌∙◌, arith, length-append, set, sum_by}
 use Rattle.std.specs.Prelude.{is_some}
 use Rattle.std.specs.Option.{option_and_then}
-use Rattle.lfs_operations.proofs.Common.{same_Some, sum_by-append, sum_by-cons, PairContentChange, raw_pair_content_after_changes, RawPairContent, RawSlot, raw_content_of_pair_at, slot_if_name_and_struct_present, pair_content_if_slots_complete, raw_slots_with_function_applied_at_id, slot_of_id, CanSplitSlotsIntoTwoPairs, Disk, SameGeometry, block_bytes_on_disk, IsPlaceOfNameInDirectory, Slot, PairContent, IsContentFittingPair, is_superblock, same_pair, slot_size, Pair, gstate_of_pairs, pair_address_named_by_tail, IsFileOrDirectoryEntry, IsSkipListIfCtzStruct, IsEntryWithinWritableLimits, IsPathToDirectory, all_slots_not_moved, skip_list_blocks_of_struct, used_blocks, no_move_from, completed_parts, completed_from, Each, each_pieces, each_right, occurrence_count_of_number, count_append, Does, does_first, does_nothing, HasSameFileBlocksOfStructOnDisks, entry_small, site, thread_is, is_site, same, number_is, IsDistinct, IsBlockInFlight, Site, dirs_at, thread_at, begin_of, unmoved_in, logged_changed, pair_content_after_changes, KeptThread, IsCommitRefused, thread_pair_at_index, complete_content_after_changes}
+use Rattle.lfs_operations.proofs.Common.{same_Some, sum_by-append, sum_by-cons, PairChange, changed_content_of, RawContent, RawSlot, raw_content, complete_slot, complete_content, changed_at, slot_of_id, CanSplit, Disk, SameGeometry, disk_block, IsPlaceOf, Slot, PairContent, FitsInPair, is_superblock, same_pair, slot_size, Pair, pairs_gstate, tail_address_of, IsTreeEntry, IsWellFormedCtz, IsWritableEntry, LeadsTo, all_slots_not_moved, struct_blocks, used_blocks, no_move_from, completed_parts, completed_from, Each, each_pieces, each_right, number_count, count_append, Does, does_first, does_nothing, SameFileBlocks, entry_small, site, thread_is, is_site, same, number_is, IsDistinct, IsInFlight, Site, dirs_at, thread_at, begin_of, unmoved_in, logged_changed, changed_pair, KeptThread, RefusesCommit, thread_pair_at, complete_after}
 use Rattle.lfs_model.proofs.Completed.{complete_set}
 use Rattle.lfs_model.proofs.Effects.{IsNamed}
 use Rattle.lfs_model.proofs.Halves.{set_cut}
 use Rattle.lfs_model.proofs.Moves.{set_here}
 use Rattle.lfs_model.proofs.Superblocks.{entry_is_other}
-use Rattle.lfs_operations.specs.Changing.{CanChangeOrSplitPair}
-use Rattle.lfs_operations.specs.Editing.{CanEditEntryOfPair, slot_of_editable_entry}
+use Rattle.lfs_operations.specs.Changing.{CanTurn}
+use Rattle.lfs_operations.specs.Editing.{CanEditIn, editable_slot}
 use Rattle.lfs_operations.proofs.Held.{CompletesTo, IsEntryIfOther, below, each_pair, fits_there, here, other_entries, raw_there}
 use Rattle.lfs_operations.proofs.RawSlots.{IsRaw, is_named, is_raw}
 use Rattle.lfs_operations.proofs.Splicing.{IsSplicing}
 
 -- the change makes that of the slot at the id
-abbrev pub Makes : PairContentChange → ℕ → (RawSlot → RawSlot) → Type 0
-Makes change id g = (c : RawPairContent) → id < 0x3ff → IsNamed c.slots id → Does change c (record c { slots = raw_slots_with_function_applied_at_id g c.slots id })
+abbrev pub Makes : PairChange → ℕ → (RawSlot → RawSlot) → Type 0
+Makes change id g = (c : RawContent) → id < 0x3ff → IsNamed c.slots id → Does change c (record c { slots = changed_at g c.slots id })
 
 -- of what is complete it makes something complete
 abbrev pub Turns : (RawSlot → RawSlot) → Slot → Slot → Type 0
-Turns g u v = (x : RawSlot) → slot_if_name_and_struct_present x ≡ Some u → slot_if_name_and_struct_present (g x) ≡ Some v
+Turns g u v = (x : RawSlot) → complete_slot x ≡ Some u → complete_slot (g x) ≡ Some v
 
-module _ (t : KeptThread) (index id : ℕ) (can : CanEditEntryOfPair t index id) (g : RawSlot → RawSlot) (v : Slot) (change : PairContentChange) (does : Makes change id g) (turns : Turns g (slot_of_editable_entry can) v)
-    (fits : IsEntryWithinWritableLimits t.disk.profile t.disk.block_size t.disk.page v) where
-  abbrev pub s : IsPlaceOfNameInDirectory t.pairs can.first can.name index id
+module _ (t : KeptThread) (index id : ℕ) (can : CanEditIn t index id) (g : RawSlot → RawSlot) (v : Slot) (change : PairChange) (does : Makes change id g) (turns : Turns g (editable_slot can) v)
+    (fits : IsWritableEntry t.disk.profile t.disk.block_size t.disk.page v) where
+  abbrev pub s : IsPlaceOf t.pairs can.first can.name index id
   s = can.stands
 
   abbrev pub p : Pair
@@ -47,7 +47,7 @@ module _ (t : KeptThread) (index id : ℕ) (can : CanEditEntryOfPair t index id)
   within : id < length p.content.slots
   within = let h = ap length s.stands.held in let k = length-append l (u ∷ r) in let n = s.stands.number in omega arith
 
-  abbrev c : CompletesTo (raw_content_of_pair_at t.disk (thread_pair_at_index t index).at) p.content
+  abbrev c : CompletesTo (raw_content t.disk (thread_pair_at t index).at) p.content
   c = raw_there t can.ready can.first index p s.rest s.place
 
   raw : IsRaw c.raw.slots l u
@@ -56,17 +56,17 @@ module _ (t : KeptThread) (index id : ℕ) (can : CanEditEntryOfPair t index id)
   there_raw : slot_of_id c.raw.slots id ≡ raw.here
   there_raw = ap (slot_of_id c.raw.slots) (sym s.stands.number) ∙ raw.there
 
-  abbrev raw_now : RawPairContent
-  raw_now = record c.raw { slots = raw_slots_with_function_applied_at_id g c.raw.slots id }
+  abbrev raw_now : RawContent
+  raw_now = record c.raw { slots = changed_at g c.raw.slots id }
 
-  changed_now : raw_pair_content_after_changes c.raw (change ∷ []) ≡ Some raw_now
+  changed_now : changed_content_of c.raw (change ∷ []) ≡ Some raw_now
   changed_now =
       let few = (fits_there t can.ready can.first index p s.rest s.place).count in
       let m = within in
       does_first change [] c.raw raw_now raw_now (does c.raw (omega arith) (ap (λ (z : RawSlot). is_some z.name) there_raw ∙ is_named raw.here u raw.is)) (does_nothing raw_now)
 
-  made_raw : pair_content_after_changes t.disk (thread_pair_at_index t index).at (change ∷ []) ≡ Some raw_now
-  made_raw = ap (λ o. option_and_then (λ (x : RawPairContent). raw_pair_content_after_changes x (change ∷ [])) o) c.is ∙ changed_now
+  made_raw : changed_pair t.disk (thread_pair_at t index).at (change ∷ []) ≡ Some raw_now
+  made_raw = ap (λ o. option_and_then (λ (x : RawContent). changed_content_of x (change ∷ [])) o) c.is ∙ changed_now
 
   abbrev now : PairContent
   now = record { slots = set p.content.slots id v; tail = p.content.tail; move = p.content.move }
@@ -74,22 +74,22 @@ module _ (t : KeptThread) (index id : ℕ) (can : CanEditEntryOfPair t index id)
   slots_now : set p.content.slots id v ≡ l ++ (v ∷ [] ++ r)
   slots_now = ap₂ (λ (z : List Slot) (i : ℕ). set z i v) s.stands.held (sym s.stands.number) ∙ set_here l r u v
 
-  now_complete : pair_content_if_slots_complete raw_now ≡ Some now
+  now_complete : complete_content raw_now ≡ Some now
   now_complete =
       let parts = completed_parts c.raw p.content c.complete in
       completed_from raw_now (set p.content.slots id v) (complete_set c.raw.slots p.content.slots id (g (slot_of_id c.raw.slots id)) v parts.slots
-      (ap (λ (z : RawSlot). slot_if_name_and_struct_present (g z)) there_raw ∙ turns raw.here raw.is))
+      (ap (λ (z : RawSlot). complete_slot (g z)) there_raw ∙ turns raw.here raw.is))
       ∙ ap₂ (λ t m. Some (record { slots = set p.content.slots id v; tail = t; move = m })) (sym parts.tail) (sym parts.move)
 
-  made : complete_content_after_changes t index (change ∷ []) ≡ Some now
-  made = ap (λ o. option_and_then pair_content_if_slots_complete o) made_raw ∙ now_complete
+  made : complete_after t index (change ∷ []) ≡ Some now
+  made = ap (λ o. option_and_then complete_content o) made_raw ∙ now_complete
 
-  cut : CanSplitSlotsIntoTwoPairs t.disk.block_size t.disk.page raw_now.slots
+  cut : CanSplit t.disk.block_size t.disk.page raw_now.slots
   cut = set_cut t.disk.block_size t.disk.page raw_now now p.content l u v r (logged_changed c.raw (change ∷ []) raw_now (can.logged c.raw c.is) changed_now) now_complete s.stands.held slots_now
       (entry_small t.disk.profile t.disk.block_size t.disk.page v can.ready.large fits) (fits_there t can.ready can.first index p s.rest s.place)
 
   -- where it takes no more than it did, what the change makes fits the pair, as what it held did
-  fits_as_before : slot_size v ≤ slot_size u → IsContentFittingPair t.disk.block_size t.disk.page now
+  fits_as_before : slot_size v ≤ slot_size u → FitsInPair t.disk.block_size t.disk.page now
   fits_as_before less =
       let f = fits_there t can.ready can.first index p s.rest s.place in
       let a = ap (sum_by slot_size) s.stands.held in
@@ -103,19 +103,19 @@ module _ (t : KeptThread) (index id : ℕ) (can : CanEditEntryOfPair t index id)
       let j = ap length slots_now in
       let k = length-append l (v ∷ r) in
       let size = f.size in
-      let occurrence_count_of_number = f.count in
+      let number_count = f.count in
       record { size = omega arith; count = omega arith }
 
-  pub not_refused : slot_size v ≤ slot_size u → (new : KeptThread) → IsCommitRefused t index (change ∷ []) new → ⊥
-  not_refused less new is = is.too_large (subst (IsContentFittingPair t.disk.block_size t.disk.page) (sym (same_Some is.content now (sym is.made ∙ made))) (fits_as_before less))
+  pub not_refused : slot_size v ≤ slot_size u → (new : KeptThread) → RefusesCommit t index (change ∷ []) new → ⊥
+  not_refused less new is = is.too_large (subst (FitsInPair t.disk.block_size t.disk.page) (sym (same_Some is.content now (sym is.made ∙ made))) (fits_as_before less))
 
-  pub can_put : CanChangeOrSplitPair t index (change ∷ [])
+  pub can_put : CanTurn t index (change ∷ [])
   can_put = record {
     can = record {
       below = below t can.ready can.first index p s.rest s.place;
       content = now;
       made = made;
-      next = ap (λ (z : Pair). pair_address_named_by_tail z.content.tail) (sym (here t can.ready can.first index p s.rest s.place));
+      next = ap (λ (z : Pair). tail_address_of z.content.tail) (sym (here t can.ready can.first index p s.rest s.place));
     };
     raw = raw_now;
     made = made_raw;
@@ -130,7 +130,7 @@ module _ (t : KeptThread) (index id : ℕ) (can : CanEditEntryOfPair t index id)
   -- what holds of all slots holds of it
   pub of_slot : (P : Slot → Type 0) → Each P (all_slots_not_moved t.pairs) → P u
   of_slot P h =
-      let on = subst (Each P) (unmoved_in (gstate_of_pairs (thread_at w (p ∷ []))) (no_move_from (thread_at w (p ∷ [])) (ap gstate_of_pairs (sym there) ∙ can.ready.settled)) (thread_at w (p ∷ []))) (subst (λ z. Each P (all_slots_not_moved z)) there h) in
+      let on = subst (Each P) (unmoved_in (pairs_gstate (thread_at w (p ∷ []))) (no_move_from (thread_at w (p ∷ [])) (ap pairs_gstate (sym there) ∙ can.ready.settled)) (thread_at w (p ∷ []))) (subst (λ z. Each P (all_slots_not_moved z)) there h) in
       let pieces = each_pieces P (λ (x : Pair). x.content.slots) (thread_at w (p ∷ [])) on in
       let here = (each_right (λ (x : Pair). Each P x.content.slots) (w.before ++ w.left) (p ∷ [] ++ (w.right ++ w.after)) (each_right (λ (x : Pair). Each P x.content.slots) w.chain (dirs_at w (p ∷ [])) pieces)).0 in
       (each_right P l (u ∷ r) (subst (Each P) s.stands.held here)).0
@@ -138,19 +138,19 @@ module _ (t : KeptThread) (index id : ℕ) (can : CanEditEntryOfPair t index id)
   pub other : is_superblock u ≡ false
   other = s.stands.entry
 
-  pub entry : IsFileOrDirectoryEntry u
+  pub entry : IsTreeEntry u
   entry =
       let here = each_pair t can.ready can.first index p s.rest s.place (λ x. Each IsEntryIfOther x.content.slots) (other_entries t.disk t.pairs can.ready.accepted) in
       (each_right IsEntryIfOther l (u ∷ r) (subst (Each IsEntryIfOther) s.stands.held here)).0 other
 
   -- the blocks that the two name
   pub record Names (gone come : List ℕ) : Type 0 where
-    pub entry : IsFileOrDirectoryEntry v
-    pub flying : Each (IsBlockInFlight t.map) come
+    pub entry : IsTreeEntry v
+    pub flying : Each (IsInFlight t.map) come
     pub apart : IsDistinct nat_eq (come ++ used_blocks t.disk t.pairs)
-    pub lists : (disk : Disk) → SameGeometry t.disk disk → HasSameFileBlocksOfStructOnDisks t.disk disk u.struct → Each (λ b. block_bytes_on_disk disk b ≡ block_bytes_on_disk t.disk b) come → IsSkipListIfCtzStruct disk v.struct
-    pub blocks : (disk : Disk) → SameGeometry t.disk disk → HasSameFileBlocksOfStructOnDisks t.disk disk u.struct → Each (λ b. block_bytes_on_disk disk b ≡ block_bytes_on_disk t.disk b) come
-        → (b : ℕ) → occurrence_count_of_number b (skip_list_blocks_of_struct disk v.struct) + occurrence_count_of_number b gone ≡ occurrence_count_of_number b come + occurrence_count_of_number b (skip_list_blocks_of_struct t.disk u.struct)
+    pub lists : (disk : Disk) → SameGeometry t.disk disk → SameFileBlocks t.disk disk u.struct → Each (λ b. disk_block disk b ≡ disk_block t.disk b) come → IsWellFormedCtz disk v.struct
+    pub blocks : (disk : Disk) → SameGeometry t.disk disk → SameFileBlocks t.disk disk u.struct → Each (λ b. disk_block disk b ≡ disk_block t.disk b) come
+        → (b : ℕ) → number_count b (struct_blocks disk v.struct) + number_count b gone ≡ number_count b come + number_count b (struct_blocks t.disk u.struct)
 
   pub splicing : (gone come : List ℕ) → Names gone come → IsSplicing t index (change ∷ []) w p l (u ∷ []) (v ∷ []) r gone come
   splicing gone come n = record {
@@ -169,16 +169,16 @@ module _ (t : KeptThread) (index id : ℕ) (can : CanEditEntryOfPair t index id)
     fit = (((λ e. absurd (let z = sym (entry_is_other v n.entry) ∙ e in cc)), (λ e. fits)), tt);
     flying = n.flying;
     apart = n.apart;
-    lists = λ disk geometry files same. (n.lists disk geometry (of_slot (λ x. HasSameFileBlocksOfStructOnDisks t.disk disk x.struct) files) same, tt);
+    lists = λ disk geometry files same. (n.lists disk geometry (of_slot (λ x. SameFileBlocks t.disk disk x.struct) files) same, tt);
     blocks = λ disk geometry files same b.
-        let e = n.blocks disk geometry (of_slot (λ x. HasSameFileBlocksOfStructOnDisks t.disk disk x.struct) files) same b in
-        let f = count_append b (skip_list_blocks_of_struct disk v.struct) [] in
-        let h = count_append b (skip_list_blocks_of_struct t.disk u.struct) [] in
+        let e = n.blocks disk geometry (of_slot (λ x. SameFileBlocks t.disk disk x.struct) files) same b in
+        let f = count_append b (struct_blocks disk v.struct) [] in
+        let h = count_append b (struct_blocks t.disk u.struct) [] in
         omega arith;
   }
 
-  pub leads_there : IsPathToDirectory (thread_at w (p ∷ [])) can.path can.at
-  leads_there = subst (λ z. IsPathToDirectory z can.path can.at) there can.leads
+  pub leads_there : LeadsTo (thread_at w (p ∷ [])) can.path can.at
+  leads_there = subst (λ z. LeadsTo z can.path can.at) there can.leads
 
   pub same_there : same_pair (begin_of w (p ∷ [])) can.at ≡ true
   same_there = same t.disk t.pairs can.path can.at can.ready.accepted can.leads can.first index p s.rest s.place can.begins

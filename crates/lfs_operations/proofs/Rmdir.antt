@@ -1,9 +1,9 @@
 -- The entry of an empty directory goes, and then its pair: what each of the two steps comes to, in an accepted image.
 use Rattle.std.proofs.Common.{ℕ, ◌≡◌, ◌≢◌, ◌&&◌, true, false, List, [], ◌∷◌, ◌++◌, length, Option, Some, None, refl, sym, ap, subst, ◌∙◌, arith}
 use Rattle.std.specs.Prelude.{is_some}
-use Rattle.lfs_operations.proofs.Common.{recursion_from_All, tree_after_subtree_replacement, tree_after_removal, Disk, Session, slot_of_path, Branch, Slot, Tail, is_superblock, zero_gstate, same_pair, path_of_bytes_or_root, Pair, gstate_of_pairs, is_hard_tail, pair_count_before_root, Path, IsAcceptedImage, IsWritableImage, IsPathToDirectory, all_slots_not_moved, entries_by_directory_in_thread, tree_on_disk, used_blocks, alike_itself, ArePairsWithSameAddressesAndSlots, alike_append, IsImageAfterTreeChange, SameFiles, slots_files, IsImageAfterCompletedOperation, occurrence_count_of_number, each_left, each_right, softened, HasSameFileBlocksOfStructOnDisks, HasNoMove, onward_all, IsStep, IsRmdir, rmdir_completed, IsGone, rmdir_named, rmdir_taken, Site, begin_of, dirs_at, thread_at, IsDevice, count_files, file_blocks_of_slots, slots_of_pairs_in_order, unmoved_in, IsWritableImageAfterTreeChange, some_filled}
-use Rattle.lfs_model.specs.Operations as ops
-use Rattle.lfs_operations.specs.Dropping.{tail_over_dropped_pair}
+use Rattle.lfs_operations.proofs.Common.{recursion_from_All, tree_with_subtree, tree_removing, Disk, Session, slot_of, Branch, Slot, Tail, is_superblock, zero_gstate, same_pair, path_or_root, Pair, pairs_gstate, is_hard_tail, pair_count_before_root, Path, IsAccepted, IsWritable, LeadsTo, all_slots_not_moved, all_entries, tree_on_disk, used_blocks, alike_itself, SameSlots, alike_append, IsChangedImage, SameFiles, slots_files, IsCompletion, number_count, each_left, each_right, softened, SameFileBlocks, HasNoMove, onward_all, IsStep, IsRmdir, rmdir_completed, IsGone, rmdir_named, rmdir_taken, Site, begin_of, dirs_at, thread_at, IsDevice, count_files, file_blocks, all_slots, unmoved_in, IsWritableChange, some_filled}
+use Rattle.lfs_model.specs.session.Operations as ops
+use Rattle.lfs_operations.specs.Dropping.{tail_over_drop}
 use Rattle.lfs_operations.proofs.Owning.{count_used, slots_append}
 use Rattle.lfs_operations.proofs.Placing.{blocks_append}
 use Rattle.lfs_operations.proofs.RmdirPlaces.{HasPlaceOver, place_over}
@@ -14,14 +14,14 @@ use Rattle.lfs_operations.proofs.RmdirPlaces.{HasPlaceOver, place_over}
 pub record Unlinks (disk middle : Disk) (w : Site) (p q : Pair) (l r : List Slot) (u : Slot) (P : Path) (a d : ℕ × ℕ) : Type 0 where
   pub step : IsStep disk middle w p [] q [] [] [] l (u ∷ []) [] r
   pub other : is_superblock u ≡ false
-  pub old_writable : IsWritableImage disk (thread_at w (p ∷ []))
-  pub writable : IsWritableImage middle (thread_at w (q ∷ []))
-  pub leads : IsPathToDirectory (thread_at w (p ∷ [])) P a
+  pub old_writable : IsWritable disk (thread_at w (p ∷ []))
+  pub writable : IsWritable middle (thread_at w (q ∷ []))
+  pub leads : LeadsTo (thread_at w (p ∷ [])) P a
   pub same : same_pair (begin_of w (p ∷ [])) a ≡ true
   pub branch : u.struct ≡ Branch d
-  pub empty : entries_by_directory_in_thread (thread_at w (p ∷ [])) d ≡ []
-  pub sync : (gstate_of_pairs (thread_at w (q ∷ []))).sync ≡ true
-  pub settled : gstate_of_pairs (thread_at w (p ∷ [])) ≡ zero_gstate
+  pub empty : all_entries (thread_at w (p ∷ [])) d ≡ []
+  pub sync : (pairs_gstate (thread_at w (q ∷ []))).sync ≡ true
+  pub settled : pairs_gstate (thread_at w (p ∷ [])) ≡ zero_gstate
   pub held : p.content.slots ≡ l ++ u ∷ r
   pub kept : q.content.slots ≡ l ++ r
   pub tail : q.content.tail ≡ p.content.tail
@@ -36,16 +36,16 @@ pub record HasPlace (disk middle : Disk) (w : Site) (p q : Pair) (u : Slot) (P :
   pub number : length front ≡ n
   pub soft : is_hard_tail x.content.tail ≡ false
   pub taken : (new : Disk) (y : Pair) → IsGone middle new w.chain front x o y back
-      → IsWritableImageAfterTreeChange disk (thread_at w (p ∷ [])) new (w.chain ++ (front ++ y ∷ back)) (tree_after_removal (P ++ u.name ∷ [])) (tree_after_subtree_replacement (P ++ u.name ∷ []) (λ t. None))
-  pub completed : (new : Disk) (y : Pair) → IsGone middle new w.chain front x o y back → (s : Session) (path : List ℕ) → s.tree ≡ tree_on_disk disk (thread_at w (p ∷ [])) → path_of_bytes_or_root path ≡ P ++ u.name ∷ []
-      → IsImageAfterCompletedOperation disk (thread_at w (p ∷ [])) s (ops.Remove path) new (w.chain ++ (front ++ y ∷ back))
+      → IsWritableChange disk (thread_at w (p ∷ [])) new (w.chain ++ (front ++ y ∷ back)) (tree_removing (P ++ u.name ∷ [])) (tree_with_subtree (P ++ u.name ∷ []) (λ t. None))
+  pub completed : (new : Disk) (y : Pair) → IsGone middle new w.chain front x o y back → (s : Session) (path : List ℕ) → s.tree ≡ tree_on_disk disk (thread_at w (p ∷ [])) → path_or_root path ≡ P ++ u.name ∷ []
+      → IsCompletion disk (thread_at w (p ∷ [])) s (ops.Remove path) new (w.chain ++ (front ++ y ∷ back))
 
 module _ (disk middle : Disk) (w : Site) (p q : Pair) (l r : List Slot) (u : Slot) (P : Path) (a d : ℕ × ℕ) (c : Unlinks disk middle w p q l r u P a d) (o : Pair) (address : same_pair o.at d ≡ true) (alone : is_hard_tail o.content.tail ≡ false) where
   abbrev path_there : Path
   path_there = P ++ u.name ∷ []
 
   takes_place : (front : List Pair) (x : Pair) (back : List Pair) → dirs_at w (q ∷ []) ≡ front ++ x ∷ o ∷ back → (new : Disk) (y : Pair) → IsGone middle new w.chain front x o y back
-      → IsWritableImageAfterTreeChange disk (thread_at w (p ∷ [])) new (w.chain ++ (front ++ y ∷ back)) (tree_after_removal (P ++ u.name ∷ [])) (tree_after_subtree_replacement (P ++ u.name ∷ []) (λ t. None))
+      → IsWritableChange disk (thread_at w (p ∷ [])) new (w.chain ++ (front ++ y ∷ back)) (tree_removing (P ++ u.name ∷ [])) (tree_with_subtree (P ++ u.name ∷ []) (λ t. None))
   takes_place front x back there new y gone =
       rmdir_taken disk middle new w p [] q l r u c.step c.other c.writable P a c.leads c.same d c.branch c.empty c.sync c.settled front x o y back there address alone gone
 
@@ -61,7 +61,7 @@ module _ (disk middle : Disk) (w : Site) (p q : Pair) (l r : List Slot) (u : Slo
         number = k.number;
         soft = k.soft;
         taken = takes_place k.front k.x k.back k.there;
-        completed = λ new y gone s path tree is. subst (λ z. IsImageAfterCompletedOperation disk z s (ops.Remove path) new (w.chain ++ (k.front ++ y ∷ k.back))) (sym k.were)
+        completed = λ new y gone s path tree is. subst (λ z. IsCompletion disk z s (ops.Remove path) new (w.chain ++ (k.front ++ y ∷ k.back))) (sym k.were)
             (rmdir_completed disk new (w.chain ++ (k.front ++ y ∷ k.back)) k.b w.chain k.one k.mid k.other p o (q ∷ []) l u r d path_there (made new y gone) s path (tree ∙ ap (tree_on_disk disk) k.were) is);
       }
         where
@@ -70,12 +70,12 @@ module _ (disk middle : Disk) (w : Site) (p q : Pair) (l r : List Slot) (u : Slo
               let taken = takes_place k.front k.x k.back k.there new y gone in
               record {
                 is_chain = ap pair_count_before_root (sym k.were) ∙ c.step.site.chain;
-                accepted = subst (IsAcceptedImage disk) k.were c.step.accepted;
-                writable = subst (IsWritableImage disk) k.were c.old_writable;
-                settled = ap gstate_of_pairs (sym k.were) ∙ c.settled;
+                accepted = subst (IsAccepted disk) k.were c.step.accepted;
+                writable = subst (IsWritable disk) k.were c.old_writable;
+                settled = ap pairs_gstate (sym k.were) ∙ c.settled;
                 still = gone.settled;
-                walk = tree_after_subtree_replacement path_there (λ t. None);
-                follows = subst (λ z. IsImageAfterTreeChange disk z new (w.chain ++ (k.front ++ y ∷ k.back)) (tree_after_removal path_there) (tree_after_subtree_replacement path_there (λ t. None))) k.were taken.follows;
+                walk = tree_with_subtree path_there (λ t. None);
+                follows = subst (λ z. IsChangedImage disk z new (w.chain ++ (k.front ++ y ∷ k.back)) (tree_removing path_there) (tree_with_subtree path_there (λ t. None))) k.were taken.follows;
                 still_writable = taken.writable;
                 held = c.held;
                 branch = c.branch;
@@ -84,51 +84,51 @@ module _ (disk middle : Disk) (w : Site) (p q : Pair) (l r : List Slot) (u : Slo
                 begins = k.begins;
                 apart = k.apart;
                 stays = (c.step.shape.at, c.kept, (λ h. c.some (k.led h)));
-                alike = subst (λ z. ArePairsWithSameAddressesAndSlots (w.chain ++ z) (w.chain ++ (k.front ++ y ∷ k.back))) (sym k.are)
+                alike = subst (λ z. SameSlots (w.chain ++ z) (w.chain ++ (k.front ++ y ∷ k.back))) (sym k.are)
                     (alike_append w.chain (k.front ++ k.x ∷ k.back) w.chain (k.front ++ y ∷ k.back) (alike_itself w.chain)
                     (alike_append k.front (k.x ∷ k.back) k.front (y ∷ k.back) (alike_itself k.front) (gone.at, gone.slots, alike_itself k.back)));
-                named = subst (λ z. slot_of_path z path_there ≡ Some u) k.were
+                named = subst (λ z. slot_of z path_there ≡ Some u) k.were
                     (rmdir_named disk middle new w p [] q l r u c.step c.other c.writable P a c.leads c.same d c.branch c.empty c.sync c.settled k.front k.x o y k.back k.there address alone gone);
               }
 
 -- ---- the tail
 
-pub over_soft : (f g : Option Tail) → is_hard_tail f ≡ false → tail_over_dropped_pair f g ≡ softened g
+pub over_soft : (f g : Option Tail) → is_hard_tail f ≡ false → tail_over_drop f g ≡ softened g
 over_soft f None h = refl
 over_soft f (Some t) h = ap (λ b. Some (record { hard = b && t.hard; to = t.to })) h
 
 -- ---- the blocks
 
-module _ (disk new : Disk) (ahead : List Pair) (p q : Pair) (back : List Pair) (l r : List Slot) (u : Slot) (d : ℕ × ℕ) (none : HasNoMove (gstate_of_pairs (ahead ++ p ∷ back))) (still : HasNoMove (gstate_of_pairs (ahead ++ q ∷ back)))
+module _ (disk new : Disk) (ahead : List Pair) (p q : Pair) (back : List Pair) (l r : List Slot) (u : Slot) (d : ℕ × ℕ) (none : HasNoMove (pairs_gstate (ahead ++ p ∷ back))) (still : HasNoMove (pairs_gstate (ahead ++ q ∷ back)))
     (on : IsDevice disk new (ahead ++ p ∷ back) (ahead ++ q ∷ back)) (at : q.at ≡ p.at) (held : p.content.slots ≡ l ++ u ∷ r) (kept : q.content.slots ≡ l ++ r) (branch : u.struct ≡ Branch d) where
-  same_files : SameFiles disk new (slots_of_pairs_in_order ahead ++ (p.content.slots ++ slots_of_pairs_in_order back))
-  same_files = subst (SameFiles disk new) (unmoved_in (gstate_of_pairs (ahead ++ p ∷ back)) none (ahead ++ p ∷ back) ∙ slots_append ahead (p ∷ back))
-      (recursion_from_All (λ (s : Slot). HasSameFileBlocksOfStructOnDisks disk new s.struct) (all_slots_not_moved (ahead ++ p ∷ back)) on.files)
+  same_files : SameFiles disk new (all_slots ahead ++ (p.content.slots ++ all_slots back))
+  same_files = subst (SameFiles disk new) (unmoved_in (pairs_gstate (ahead ++ p ∷ back)) none (ahead ++ p ∷ back) ∙ slots_append ahead (p ∷ back))
+      (recursion_from_All (λ (s : Slot). SameFileBlocks disk new s.struct) (all_slots_not_moved (ahead ++ p ∷ back)) on.files)
 
-  stays_same : (ss : List Slot) → SameFiles disk new ss → (b : ℕ) → occurrence_count_of_number b (file_blocks_of_slots new ss) ≡ occurrence_count_of_number b (file_blocks_of_slots disk ss)
-  stays_same ss h b = ap (occurrence_count_of_number b) (slots_files disk new ss on.geometry h)
+  stays_same : (ss : List Slot) → SameFiles disk new ss → (b : ℕ) → number_count b (file_blocks new ss) ≡ number_count b (file_blocks disk ss)
+  stays_same ss h b = ap (number_count b) (slots_files disk new ss on.geometry h)
 
-  no_blocks : (b : ℕ) → occurrence_count_of_number b (file_blocks_of_slots disk (u ∷ [])) ≡ 0
-  no_blocks b = ap (λ z. occurrence_count_of_number b (file_blocks_of_slots disk (record u { struct = z } ∷ []))) branch
+  no_blocks : (b : ℕ) → number_count b (file_blocks disk (u ∷ [])) ≡ 0
+  no_blocks b = ap (λ z. number_count b (file_blocks disk (record u { struct = z } ∷ []))) branch
 
   -- a directory's entry has no list, so the image uses the same
-  pub unlinked_count : (b : ℕ) → occurrence_count_of_number b (used_blocks new (ahead ++ q ∷ back)) ≡ occurrence_count_of_number b (used_blocks disk (ahead ++ p ∷ back))
+  pub unlinked_count : (b : ℕ) → number_count b (used_blocks new (ahead ++ q ∷ back)) ≡ number_count b (used_blocks disk (ahead ++ p ∷ back))
   unlinked_count b =
-      let f = slots_of_pairs_in_order ahead in
-      let g = slots_of_pairs_in_order back in
-      let F = λ (s : Slot). HasSameFileBlocksOfStructOnDisks disk new s.struct in
-      let h1 = each_left (λ (s : Slot). HasSameFileBlocksOfStructOnDisks disk new s.struct) f (p.content.slots ++ g) same_files in
-      let h2 = each_right (λ (s : Slot). HasSameFileBlocksOfStructOnDisks disk new s.struct) f (p.content.slots ++ g) same_files in
-      let h3 = subst (SameFiles disk new) held (each_left (λ (s : Slot). HasSameFileBlocksOfStructOnDisks disk new s.struct) p.content.slots g h2) in
-      let h4 = each_right (λ (s : Slot). HasSameFileBlocksOfStructOnDisks disk new s.struct) p.content.slots g h2 in
+      let f = all_slots ahead in
+      let g = all_slots back in
+      let F = λ (s : Slot). SameFileBlocks disk new s.struct in
+      let h1 = each_left (λ (s : Slot). SameFileBlocks disk new s.struct) f (p.content.slots ++ g) same_files in
+      let h2 = each_right (λ (s : Slot). SameFileBlocks disk new s.struct) f (p.content.slots ++ g) same_files in
+      let h3 = subst (SameFiles disk new) held (each_left (λ (s : Slot). SameFileBlocks disk new s.struct) p.content.slots g h2) in
+      let h4 = each_right (λ (s : Slot). SameFileBlocks disk new s.struct) p.content.slots g h2 in
       let e1 = stays_same f h1 b in
-      let e2 = stays_same l (each_left (λ (s : Slot). HasSameFileBlocksOfStructOnDisks disk new s.struct) l (u ∷ r) h3) b in
-      let e3 = stays_same r (each_right (λ (s : Slot). HasSameFileBlocksOfStructOnDisks disk new s.struct) (u ∷ []) r (each_right (λ (s : Slot). HasSameFileBlocksOfStructOnDisks disk new s.struct) l (u ∷ r) h3)) b in
+      let e2 = stays_same l (each_left (λ (s : Slot). SameFileBlocks disk new s.struct) l (u ∷ r) h3) b in
+      let e3 = stays_same r (each_right (λ (s : Slot). SameFileBlocks disk new s.struct) (u ∷ []) r (each_right (λ (s : Slot). SameFileBlocks disk new s.struct) l (u ∷ r) h3)) b in
       let e4 = stays_same g h4 b in
       let a1 = count_used b new (ahead ++ q ∷ back) still in
       let a2 = count_used b disk (ahead ++ p ∷ back) none in
-      let b1 = ap (λ z. occurrence_count_of_number b (file_blocks_of_slots new z)) (slots_append ahead (q ∷ back) ∙ ap (λ z. f ++ (z ++ g)) kept) in
-      let b2 = ap (λ z. occurrence_count_of_number b (file_blocks_of_slots disk z)) (slots_append ahead (p ∷ back) ∙ ap (λ z. f ++ (z ++ g)) held) in
+      let b1 = ap (λ z. number_count b (file_blocks new z)) (slots_append ahead (q ∷ back) ∙ ap (λ z. f ++ (z ++ g)) kept) in
+      let b2 = ap (λ z. number_count b (file_blocks disk z)) (slots_append ahead (p ∷ back) ∙ ap (λ z. f ++ (z ++ g)) held) in
       let c1 = count_files b new f ((l ++ r) ++ g) in
       let c2 = count_files b new (l ++ r) g in
       let c3 = count_files b new l r in
@@ -141,5 +141,5 @@ module _ (disk new : Disk) (ahead : List Pair) (p q : Pair) (back : List Pair) (
       let d2 = blocks_append ahead (p ∷ back) b in
       let d3 = blocks_append (q ∷ []) back b in
       let d4 = blocks_append (p ∷ []) back b in
-      let d5 = ap (λ (x : ℕ × ℕ). occurrence_count_of_number b (x.0 ∷ x.1 ∷ [])) at in
+      let d5 = ap (λ (x : ℕ × ℕ). number_count b (x.0 ∷ x.1 ∷ [])) at in
       omega arith

@@ -2,8 +2,8 @@
 use Rattle.std.proofs.Common.{ℕ, zero, suc, ◌≡◌, ◌+◌, ◌<◌, true, false, cond, slice_get, get_or, List, [], ◌∷◌, ◌++◌, length, Option, Some, None, refl, sym, ap, subst, ◌∙◌, arith, append_assoc, append-nil, length-append, Bool, nat_eq}
 use Rattle.std.specs.Option.{option_and_then}
 use Rattle.std.specs.Prelude.{is_some}
-use Rattle.lfs_operations.proofs.Common.{same_Some, Disk, directory_address_of_pair, directory_address_continued_by_hard_tail, IsPairAtAddress, IsPlaceOfNameInDirectory, Name, Branch, Slot, same_pair, Pair, pairs_from_root_directory_on, first_pair_address, gstate_of_pairs, is_hard_tail, root_directory_address_of_pairs, blocks_of_pairs, Path, branch_address_of_struct, IsAcceptedImage, IsPathToDirectory, entries_by_directory_in_thread, no_move_from, HasDirectory, led_directory, HasNoMove, site_shows, onward_all, onward_some, Ends, IsRun, pair_back, pair_on, same_number, avoids_behind, avoids_front, slot_of_stands, Site, dirs_at, thread_at, IsChain, pairs_behind, ends_in_hard_tail, KeptThread, empty_pair_at_anchor, thread_pair_at_index, IsDistinct, Each, each_append, each_left, each_right, onward_append, before_gone, from_kept, two}
-use Rattle.lfs_operations.specs.Ready.{IsImageReadyForChange}
+use Rattle.lfs_operations.proofs.Common.{same_Some, Disk, directory_address, continued_address, IsPairAt, IsPlaceOf, Name, Branch, Slot, same_pair, Pair, pairs_from_root, first_address, pairs_gstate, is_hard_tail, root_address, blocks_of_pairs, Path, branch_address, IsAccepted, LeadsTo, all_entries, no_move_from, HasDirectory, led_directory, HasNoMove, site_shows, onward_all, onward_some, Ends, IsRun, pair_back, pair_on, same_number, avoids_behind, avoids_front, slot_of_stands, Site, dirs_at, thread_at, IsChain, pairs_behind, ends_joined, KeptThread, empty_anchor, thread_pair_at, IsDistinct, Each, each_append, each_left, each_right, onward_append, before_gone, from_kept, two}
+use Rattle.lfs_operations.specs.Ready.{IsReadyImage}
 use Rattle.lfs_operations.proofs.RemovedWhole.{last_pair}
 use Rattle.lfs_operations.proofs.Threads.{get_behind}
 
@@ -43,12 +43,12 @@ where_is (a ∷ xs) p ys (f ∷ front) x o back e =
 -- ---- hard tails
 
 pub soft_end : (from : Option (ℕ × ℕ)) (xs : List Pair) (x : Pair) → is_hard_tail x.content.tail ≡ false → onward_all from (xs ++ x ∷ []) ≡ None
-soft_end from [] x e = ap (λ b. cond b (Some (directory_address_of_pair from x)) None) e
-soft_end from (z ∷ xs) x e = soft_end (directory_address_continued_by_hard_tail from z) xs x e
+soft_end from [] x e = ap (λ b. cond b (Some (directory_address from x)) None) e
+soft_end from (z ∷ xs) x e = soft_end (continued_address from z) xs x e
 
-pub flag_from : (from : Option (ℕ × ℕ)) (xs : List Pair) → is_some (onward_all from xs) ≡ ends_in_hard_tail (is_some from) xs
+pub flag_from : (from : Option (ℕ × ℕ)) (xs : List Pair) → is_some (onward_all from xs) ≡ ends_joined (is_some from) xs
 flag_from from [] = refl
-flag_from from (x ∷ xs) = flag_from (directory_address_continued_by_hard_tail from x) xs ∙ ap (λ b. ends_in_hard_tail b xs) (onward_some from x)
+flag_from from (x ∷ xs) = flag_from (continued_address from x) xs ∙ ap (λ b. ends_joined b xs) (onward_some from x)
 
 ends_last : (xs : List Pair) (x : Pair) → Ends (xs ++ x ∷ []) → is_hard_tail x.content.tail ≡ false
 ends_last [] x h = h
@@ -101,31 +101,31 @@ front_of dirs d h not_root = by h.before refl
         }
 
 -- the root isn't named by an entry
-pub not_the_root : (disk : Disk) (ps : List Pair) (P : Path) (n : List ℕ) (d : ℕ × ℕ) → IsAcceptedImage disk ps → IsPathToDirectory ps (P ++ n ∷ []) d → same_pair (root_directory_address_of_pairs ps) d ≡ true → ⊥
-not_the_root disk ps P n d ok led e = path_some P n (ok.once [] (P ++ n ∷ []) (root_directory_address_of_pairs ps) d refl led e)
+pub not_the_root : (disk : Disk) (ps : List Pair) (P : Path) (n : List ℕ) (d : ℕ × ℕ) → IsAccepted disk ps → LeadsTo ps (P ++ n ∷ []) d → same_pair (root_address ps) d ≡ true → ⊥
+not_the_root disk ps P n d ok led e = path_some P n (ok.once [] (P ++ n ∷ []) (root_address ps) d refl led e)
 
-has_front : (disk : Disk) (chain dirs : List Pair) (P : Path) (n : List ℕ) (d : ℕ × ℕ) → IsAcceptedImage disk (chain ++ dirs) → IsChain chain dirs → IsPathToDirectory (chain ++ dirs) (P ++ n ∷ []) d → HasFront dirs d
+has_front : (disk : Disk) (chain dirs : List Pair) (P : Path) (n : List ℕ) (d : ℕ × ℕ) → IsAccepted disk (chain ++ dirs) → IsChain chain dirs → LeadsTo (chain ++ dirs) (P ++ n ∷ []) d → HasFront dirs d
 has_front disk chain dirs P n d ok is_chain led =
     let h = led_directory disk (chain ++ dirs) (P ++ n ∷ []) d ok led in
-    subst (λ z. HasFront z d) (pairs_behind chain dirs is_chain) (front_of (pairs_from_root_directory_on (chain ++ dirs)) d h
-    (λ e. not_the_root disk (chain ++ dirs) P n d ok led (subst (λ z. same_pair z d ≡ true) (sym (ap first_pair_address (h.is ∙ ap (λ z. z ++ (h.first ∷ h.run ++ h.after)) e))) h.at)))
+    subst (λ z. HasFront z d) (pairs_behind chain dirs is_chain) (front_of (pairs_from_root (chain ++ dirs)) d h
+    (λ e. not_the_root disk (chain ++ dirs) P n d ok led (subst (λ z. same_pair z d ≡ true) (sym (ap first_address (h.is ∙ ap (λ z. z ++ (h.first ∷ h.run ++ h.after)) e))) h.at)))
 
 -- with no slots it shows nothing
-shows_nothing : (disk : Disk) (chain dirs : List Pair) (d : ℕ × ℕ) → IsAcceptedImage disk (chain ++ dirs) → IsChain chain dirs → HasNoMove (gstate_of_pairs (chain ++ dirs)) → (h : HasFront dirs d) → is_hard_tail h.first.content.tail ≡ false
-    → h.first.content.slots ≡ [] → entries_by_directory_in_thread (chain ++ dirs) d ≡ []
+shows_nothing : (disk : Disk) (chain dirs : List Pair) (d : ℕ × ℕ) → IsAccepted disk (chain ++ dirs) → IsChain chain dirs → HasNoMove (pairs_gstate (chain ++ dirs)) → (h : HasFront dirs d) → is_hard_tail h.first.content.tail ≡ false
+    → h.first.content.slots ≡ [] → all_entries (chain ++ dirs) d ≡ []
 shows_nothing disk chain dirs d ok is_chain none h soft empty =
     let v : Site = record { chain = chain; before = h.front ++ h.before ∷ []; left = []; right = []; after = h.after } in
     let alone = alone_run h.first h.run h.is_run soft in
     let whole : dirs ≡ dirs_at (record { chain = chain; before = h.front ++ h.before ∷ []; left = []; right = []; after = h.after }) (h.first ∷ [])
     = h.is ∙ ap (λ z. h.front ++ h.before ∷ h.first ∷ (z ++ h.after)) alone ∙ sym (append_assoc h.front (h.before ∷ []) (h.first ∷ h.after))
     ∙ ap (λ z. z ++ h.first ∷ h.after) (sym (append-nil (h.front ++ h.before ∷ []))) in
-    ap (λ z. entries_by_directory_in_thread (chain ++ z) d) whole
-    ∙ site_shows disk v h.first [] [] [] d (subst (λ z. IsAcceptedImage disk (chain ++ z)) whole ok)
+    ap (λ z. all_entries (chain ++ z) d) whole
+    ∙ site_shows disk v h.first [] [] [] d (subst (λ z. IsAccepted disk (chain ++ z)) whole ok)
     (record { chain = subst (IsChain chain) whole is_chain; ends = h.ends; run = soft })
-    (subst (λ z. HasNoMove (gstate_of_pairs (chain ++ z))) whole none) h.at empty
+    (subst (λ z. HasNoMove (pairs_gstate (chain ++ z))) whole none) h.at empty
 
 -- its number
-pub number_of_first : (disk : Disk) (chain dirs : List Pair) (d : ℕ × ℕ) (ok : IsAcceptedImage disk (chain ++ dirs)) (h : HasFront dirs d) (n : ℕ) (o : Pair) → slice_get (chain ++ dirs) n ≡ Some o → same_pair o.at d ≡ true
+pub number_of_first : (disk : Disk) (chain dirs : List Pair) (d : ℕ × ℕ) (ok : IsAccepted disk (chain ++ dirs)) (h : HasFront dirs d) (n : ℕ) (o : Pair) → slice_get (chain ++ dirs) n ≡ Some o → same_pair o.at d ≡ true
     → (n ≡ length (chain ++ h.front) + 1) × (h.first ≡ o)
 number_of_first disk chain dirs d ok h n o there at =
     let ahead = chain ++ (h.front ++ h.before ∷ []) in
@@ -141,38 +141,38 @@ number_of_first disk chain dirs d ok h n o there at =
 -- ---- the own pair of an entry that names a directory
 
 -- a path leads to the directory
-pub led_to : (t : KeptThread) (ready : IsImageReadyForChange t) (P : Path) (a : ℕ × ℕ) (leads : IsPathToDirectory t.pairs P a) (first index id : ℕ) (name : Name) (stands : IsPlaceOfNameInDirectory t.pairs first name index id) → IsPairAtAddress t.pairs a first
-    → (to : ℕ × ℕ) → stands.stands.slot.struct ≡ Branch to → IsPathToDirectory t.pairs (P ++ name ∷ []) to
+pub led_to : (t : KeptThread) (ready : IsReadyImage t) (P : Path) (a : ℕ × ℕ) (leads : LeadsTo t.pairs P a) (first index id : ℕ) (name : Name) (stands : IsPlaceOf t.pairs first name index id) → IsPairAt t.pairs a first
+    → (to : ℕ × ℕ) → stands.stands.slot.struct ≡ Branch to → LeadsTo t.pairs (P ++ name ∷ []) to
 led_to t ready P a leads first index id name stands begins to branch =
-    ap (option_and_then (λ (f : Slot). branch_address_of_struct f.struct)) (slot_of_stands t.disk t.pairs P a ready.accepted leads first index id name (no_move_from t.pairs ready.settled) stands begins) ∙ ap branch_address_of_struct branch
+    ap (option_and_then (λ (f : Slot). branch_address f.struct)) (slot_of_stands t.disk t.pairs P a ready.accepted leads first index id name (no_move_from t.pairs ready.settled) stands begins) ∙ ap branch_address branch
 
 -- The directory's only pair has no slots, and stands there among the pairs of the directories.
 pub record HasOwnPair (t : KeptThread) (chain dirs : List Pair) (gone : ℕ) (to : ℕ × ℕ) : Type 0 where
   pub front : HasFront dirs to
   pub number : gone ≡ length (chain ++ front.front) + 1
-  pub first : front.first ≡ thread_pair_at_index t gone
-  pub dirs_are : dirs ≡ front.front ++ front.before ∷ thread_pair_at_index t gone ∷ (front.run ++ front.after)
-  pub empty : entries_by_directory_in_thread (chain ++ dirs) to ≡ []
+  pub first : front.first ≡ thread_pair_at t gone
+  pub dirs_are : dirs ≡ front.front ++ front.before ∷ thread_pair_at t gone ∷ (front.run ++ front.after)
+  pub empty : all_entries (chain ++ dirs) to ≡ []
 
-pub own_pair : (t : KeptThread) (ready : IsImageReadyForChange t) (chain dirs : List Pair) → t.pairs ≡ chain ++ dirs → IsChain chain dirs → (P : Path) (n : Name) (to : ℕ × ℕ) (gone : ℕ) → IsPathToDirectory t.pairs (P ++ n ∷ []) to → gone < length t.pairs
-    → same_pair (thread_pair_at_index t gone).at to ≡ true → (thread_pair_at_index t gone).content.slots ≡ [] → is_hard_tail (thread_pair_at_index t gone).content.tail ≡ false → HasOwnPair t chain dirs gone to
+pub own_pair : (t : KeptThread) (ready : IsReadyImage t) (chain dirs : List Pair) → t.pairs ≡ chain ++ dirs → IsChain chain dirs → (P : Path) (n : Name) (to : ℕ × ℕ) (gone : ℕ) → LeadsTo t.pairs (P ++ n ∷ []) to → gone < length t.pairs
+    → same_pair (thread_pair_at t gone).at to ≡ true → (thread_pair_at t gone).content.slots ≡ [] → is_hard_tail (thread_pair_at t gone).content.tail ≡ false → HasOwnPair t chain dirs gone to
 own_pair t ready chain dirs there is_chain P n to gone led below at empty alone = record {
   front = front;
   number = first_is.0;
   first = first_is.1;
   dirs_are = front.is ∙ ap (λ z. front.front ++ front.before ∷ z ∷ (front.run ++ front.after)) first_is.1;
-  empty = shows_nothing t.disk chain dirs to accepted is_chain (no_move_from (chain ++ dirs) (ap gstate_of_pairs (sym there) ∙ ready.settled)) front (ap (λ (z : Pair). is_hard_tail z.content.tail) first_is.1 ∙ alone)
+  empty = shows_nothing t.disk chain dirs to accepted is_chain (no_move_from (chain ++ dirs) (ap pairs_gstate (sym there) ∙ ready.settled)) front (ap (λ (z : Pair). is_hard_tail z.content.tail) first_is.1 ∙ alone)
       (ap (λ (z : Pair). z.content.slots) first_is.1 ∙ empty);
 }
   where
-    accepted : IsAcceptedImage t.disk (chain ++ dirs)
-    accepted = subst (IsAcceptedImage t.disk) there ready.accepted
+    accepted : IsAccepted t.disk (chain ++ dirs)
+    accepted = subst (IsAccepted t.disk) there ready.accepted
 
     front : HasFront dirs to
-    front = has_front t.disk chain dirs P n to accepted is_chain (subst (λ z. IsPathToDirectory z (P ++ n ∷ []) to) there led)
+    front = has_front t.disk chain dirs P n to accepted is_chain (subst (λ z. LeadsTo z (P ++ n ∷ []) to) there led)
 
-    first_is : (gone ≡ length (chain ++ front.front) + 1) × (front.first ≡ thread_pair_at_index t gone)
-    first_is = number_of_first t.disk chain dirs to accepted front gone (thread_pair_at_index t gone) (subst (λ z. slice_get z gone ≡ Some (thread_pair_at_index t gone)) there (get_some t.pairs gone empty_pair_at_anchor below)) at
+    first_is : (gone ≡ length (chain ++ front.front) + 1) × (front.first ≡ thread_pair_at t gone)
+    first_is = number_of_first t.disk chain dirs to accepted front gone (thread_pair_at t gone) (subst (λ z. slice_get z gone ≡ Some (thread_pair_at t gone)) there (get_some t.pairs gone empty_anchor below)) at
 
 -- ---- the pair that goes, once the one of its entry is changed
 

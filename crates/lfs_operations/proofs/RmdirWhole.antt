@@ -1,15 +1,15 @@
 -- The entry of an empty directory goes with its pair, which held nothing else, and then the directory's own pair goes.
 use Rattle.std.proofs.Common.{ℕ, ◌≡◌, ◌⊎◌, inl, inr, ◌+◌, ◌<◌, Bool, true, false, cond, nat_eq, List, [], ◌∷◌, ◌++◌, length, Option, Some, None, refl, sym, ap, subst, ◌∙◌, arith, append_assoc, length-append}
 use Rattle.std.specs.Prelude.{is_some}
-use Rattle.lfs_operations.proofs.Common.{IsDistinct, tree_after_subtree_replacement, tree_after_removal, Disk, directory_address_of_pair, directory_address_continued_by_hard_tail, Session, slot_of_path, Branch, Slot, is_superblock, zero_gstate, same_pair, path_of_bytes_or_root, Pair, blocks_of_pairs, gstate_of_pairs, is_hard_tail, pair_count_before_root, Path, IsAcceptedImage, IsWritableImage, IsPathToDirectory, entries_by_directory_in_thread, tree_on_disk, ArePairsWithSameAddressesAndSlots, alike_append, alike_itself, IsImageAfterTreeChange, IsImageAfterCompletedOperation, Each, each_append, each_left, each_right, onward_all, IsStep, IsRmdir, before_gone, from_kept, rmdir_completed, IsGone, rmdir_named, rmdir_taken, avoids_behind, avoids_front, Site, begin_of, dirs_at, thread_at, IsWritableImageAfterTreeChange, two, same_parts}
-use Rattle.lfs_model.specs.Operations as ops
+use Rattle.lfs_operations.proofs.Common.{IsDistinct, tree_with_subtree, tree_removing, Disk, directory_address, continued_address, Session, slot_of, Branch, Slot, is_superblock, zero_gstate, same_pair, path_or_root, Pair, blocks_of_pairs, pairs_gstate, is_hard_tail, pair_count_before_root, Path, IsAccepted, IsWritable, LeadsTo, all_entries, tree_on_disk, SameSlots, alike_append, alike_itself, IsChangedImage, IsCompletion, Each, each_append, each_left, each_right, onward_all, IsStep, IsRmdir, before_gone, from_kept, rmdir_completed, IsGone, rmdir_named, rmdir_taken, avoids_behind, avoids_front, Site, begin_of, dirs_at, thread_at, IsWritableChange, two, same_parts}
+use Rattle.lfs_model.specs.session.Operations as ops
 use Rattle.lfs_model.proofs.Unthreaded.{SameParts}
 use Rattle.lfs_operations.proofs.RemovedWhole.{last_pair}
 use Rattle.lfs_operations.proofs.RmdirPlaces.{Ahead, Behind, Itself, Next, WhereIs, soft_end, where_is}
 
 hard_end : (from : Option (ℕ × ℕ)) (xs : List Pair) (x : Pair) → is_hard_tail x.content.tail ≡ true → is_some (onward_all from (xs ++ x ∷ [])) ≡ true
-hard_end from [] x e = ap (λ b. is_some (cond b (Some (directory_address_of_pair from x)) None)) e
-hard_end from (z ∷ xs) x e = hard_end (directory_address_continued_by_hard_tail from z) xs x e
+hard_end from [] x e = ap (λ b. is_some (cond b (Some (directory_address from x)) None)) e
+hard_end from (z ∷ xs) x e = hard_end (continued_address from z) xs x e
 
 same_last : (xs : List Pair) (x : Pair) (ys : List Pair) (y : Pair) → xs ++ x ∷ [] ≡ ys ++ y ∷ [] → SameParts xs x [] ys y []
 same_last xs x ys y e = same_parts xs x [] ys y [] (let a = length-append xs (x ∷ []) in let b = length-append ys (y ∷ []) in let n = ap length e in omega arith) e
@@ -18,14 +18,14 @@ same_last xs x ys y e = same_parts xs x [] ys y [] (let a = length-append xs (x 
 pub record UnlinksWhole (disk middle : Disk) (w : Site) (x0 e q : Pair) (u : Slot) (P : Path) (a d : ℕ × ℕ) : Type 0 where
   pub step : IsStep disk middle w x0 (e ∷ []) q [] [] [] x0.content.slots (u ∷ []) [] []
   pub other : is_superblock u ≡ false
-  pub old_writable : IsWritableImage disk (thread_at w (x0 ∷ e ∷ []))
-  pub writable : IsWritableImage middle (thread_at w (q ∷ []))
-  pub leads : IsPathToDirectory (thread_at w (x0 ∷ e ∷ [])) P a
+  pub old_writable : IsWritable disk (thread_at w (x0 ∷ e ∷ []))
+  pub writable : IsWritable middle (thread_at w (q ∷ []))
+  pub leads : LeadsTo (thread_at w (x0 ∷ e ∷ [])) P a
   pub same : same_pair (begin_of w (x0 ∷ e ∷ [])) a ≡ true
   pub branch : u.struct ≡ Branch d
-  pub empty : entries_by_directory_in_thread (thread_at w (x0 ∷ e ∷ [])) d ≡ []
-  pub sync : (gstate_of_pairs (thread_at w (q ∷ []))).sync ≡ true
-  pub settled : gstate_of_pairs (thread_at w (x0 ∷ e ∷ [])) ≡ zero_gstate
+  pub empty : all_entries (thread_at w (x0 ∷ e ∷ [])) d ≡ []
+  pub sync : (pairs_gstate (thread_at w (q ∷ []))).sync ≡ true
+  pub settled : pairs_gstate (thread_at w (x0 ∷ e ∷ [])) ≡ zero_gstate
   pub held : e.content.slots ≡ u ∷ []
   pub at : q.at ≡ x0.at
   pub slots : q.content.slots ≡ x0.content.slots
@@ -43,9 +43,9 @@ pub record HasPlaceWhole (disk middle : Disk) (w : Site) (x0 e q : Pair) (u : Sl
   pub was : (x.at ≡ b.at) ⊎ (x.at ≡ x0.at)
   pub soft : is_hard_tail x.content.tail ≡ false
   pub taken : (new : Disk) (y : Pair) → IsGone middle new w.chain front x o y back
-      → IsWritableImageAfterTreeChange disk (thread_at w (x0 ∷ e ∷ [])) new (w.chain ++ (front ++ y ∷ back)) (tree_after_removal (P ++ u.name ∷ [])) (tree_after_subtree_replacement (P ++ u.name ∷ []) (λ t. None))
-  pub completed : (new : Disk) (y : Pair) → IsGone middle new w.chain front x o y back → (s : Session) (path : List ℕ) → s.tree ≡ tree_on_disk disk (thread_at w (x0 ∷ e ∷ [])) → path_of_bytes_or_root path ≡ P ++ u.name ∷ []
-      → IsImageAfterCompletedOperation disk (thread_at w (x0 ∷ e ∷ [])) s (ops.Remove path) new (w.chain ++ (front ++ y ∷ back))
+      → IsWritableChange disk (thread_at w (x0 ∷ e ∷ [])) new (w.chain ++ (front ++ y ∷ back)) (tree_removing (P ++ u.name ∷ [])) (tree_with_subtree (P ++ u.name ∷ []) (λ t. None))
+  pub completed : (new : Disk) (y : Pair) → IsGone middle new w.chain front x o y back → (s : Session) (path : List ℕ) → s.tree ≡ tree_on_disk disk (thread_at w (x0 ∷ e ∷ [])) → path_or_root path ≡ P ++ u.name ∷ []
+      → IsCompletion disk (thread_at w (x0 ∷ e ∷ [])) s (ops.Remove path) new (w.chain ++ (front ++ y ∷ back))
 
 module _ (disk middle : Disk) (w : Site) (x0 e q : Pair) (u : Slot) (P : Path) (a d : ℕ × ℕ) (c : UnlinksWhole disk middle w x0 e q u P a d) (o : Pair) (address : same_pair o.at d ≡ true) (alone : is_hard_tail o.content.tail ≡ false) where
   abbrev in_front : List Pair
@@ -58,7 +58,7 @@ module _ (disk middle : Disk) (w : Site) (x0 e q : Pair) (u : Slot) (P : Path) (
   path_there = P ++ u.name ∷ []
 
   takes_place : (front : List Pair) (x : Pair) (back : List Pair) → dirs_at w (q ∷ []) ≡ front ++ x ∷ o ∷ back → (new : Disk) (y : Pair) → IsGone middle new w.chain front x o y back
-      → IsWritableImageAfterTreeChange disk (thread_at w (x0 ∷ e ∷ [])) new (w.chain ++ (front ++ y ∷ back)) (tree_after_removal (P ++ u.name ∷ [])) (tree_after_subtree_replacement (P ++ u.name ∷ []) (λ t. None))
+      → IsWritableChange disk (thread_at w (x0 ∷ e ∷ [])) new (w.chain ++ (front ++ y ∷ back)) (tree_removing (P ++ u.name ∷ [])) (tree_with_subtree (P ++ u.name ∷ []) (λ t. None))
   takes_place front x back there new y gone =
       rmdir_taken disk middle new w x0 (e ∷ []) q x0.content.slots [] u c.step c.other c.writable P a c.leads c.same d c.branch c.empty c.sync c.settled front x o y back there address alone gone
 
@@ -68,22 +68,22 @@ module _ (disk middle : Disk) (w : Site) (x0 e q : Pair) (u : Slot) (P : Path) (
     begins : onward_all None (before_gone b front mid e) ≡ None
     apart : Each (λ z. same_pair z.at d ≡ false) (two b front (e ∷ []) mid [] back)
     from : is_some (from_kept b front mid o) ≡ true
-    alike : ArePairsWithSameAddressesAndSlots (w.chain ++ two b front [] mid [] back) rs
+    alike : SameSlots (w.chain ++ two b front [] mid [] back) rs
 
   completes : (b : Bool) (front mid back : List Pair) (new : Disk) (y : Pair) (f : List Pair) (x : Pair) (rest : List Pair) (there : dirs_at w (q ∷ []) ≡ f ++ x ∷ o ∷ rest) → IsGone middle new w.chain f x o y rest
-      → IsParted b front mid back (w.chain ++ (f ++ y ∷ rest)) → (s : Session) (path : List ℕ) → s.tree ≡ tree_on_disk disk (thread_at w (x0 ∷ e ∷ [])) → path_of_bytes_or_root path ≡ P ++ u.name ∷ []
-      → IsImageAfterCompletedOperation disk (thread_at w (x0 ∷ e ∷ [])) s (ops.Remove path) new (w.chain ++ (f ++ y ∷ rest))
+      → IsParted b front mid back (w.chain ++ (f ++ y ∷ rest)) → (s : Session) (path : List ℕ) → s.tree ≡ tree_on_disk disk (thread_at w (x0 ∷ e ∷ [])) → path_or_root path ≡ P ++ u.name ∷ []
+      → IsCompletion disk (thread_at w (x0 ∷ e ∷ [])) s (ops.Remove path) new (w.chain ++ (f ++ y ∷ rest))
   completes b front mid back new y f x rest there gone h s path tree is =
       let rs = w.chain ++ (f ++ y ∷ rest) in
       let taken = takes_place f x rest there new y gone in
       let made : IsRmdir disk new (w.chain ++ (f ++ y ∷ rest)) b w.chain front mid back e o [] [] u [] d path_there = record {
         is_chain = ap pair_count_before_root (sym h.were) ∙ c.step.site.chain;
-        accepted = subst (IsAcceptedImage disk) h.were c.step.accepted;
-        writable = subst (IsWritableImage disk) h.were c.old_writable;
-        settled = ap gstate_of_pairs (sym h.were) ∙ c.settled;
+        accepted = subst (IsAccepted disk) h.were c.step.accepted;
+        writable = subst (IsWritable disk) h.were c.old_writable;
+        settled = ap pairs_gstate (sym h.were) ∙ c.settled;
         still = gone.settled;
-        walk = tree_after_subtree_replacement path_there (λ t. None);
-        follows = subst (λ z. IsImageAfterTreeChange disk z new (w.chain ++ (f ++ y ∷ rest)) (tree_after_removal path_there) (tree_after_subtree_replacement path_there (λ t. None))) h.were taken.follows;
+        walk = tree_with_subtree path_there (λ t. None);
+        follows = subst (λ z. IsChangedImage disk z new (w.chain ++ (f ++ y ∷ rest)) (tree_removing path_there) (tree_with_subtree path_there (λ t. None))) h.were taken.follows;
         still_writable = taken.writable;
         held = c.held;
         branch = c.branch;
@@ -93,10 +93,10 @@ module _ (disk middle : Disk) (w : Site) (x0 e q : Pair) (u : Slot) (P : Path) (
         apart = h.apart;
         stays = (h.from, refl);
         alike = h.alike;
-        named = subst (λ z. slot_of_path z path_there ≡ Some u) h.were
+        named = subst (λ z. slot_of z path_there ≡ Some u) h.were
             (rmdir_named disk middle new w x0 (e ∷ []) q x0.content.slots [] u c.step c.other c.writable P a c.leads c.same d c.branch c.empty c.sync c.settled f x o y rest there address alone gone);
       } in
-      subst (λ z. IsImageAfterCompletedOperation disk z s (ops.Remove path) new (w.chain ++ (f ++ y ∷ rest))) (sym h.were)
+      subst (λ z. IsCompletion disk z s (ops.Remove path) new (w.chain ++ (f ++ y ∷ rest))) (sym h.were)
       (rmdir_completed disk new (w.chain ++ (f ++ y ∷ rest)) b w.chain front mid back e o [] [] u [] d path_there made s path (tree ∙ ap (tree_on_disk disk) h.were) is)
 
   -- the pairs but o aren't at its address
@@ -141,7 +141,7 @@ module _ (disk middle : Disk) (w : Site) (x0 e q : Pair) (u : Slot) (P : Path) (
               (each_left (λ (z : Pair). same_pair z.at d ≡ false) (in_front ++ x0 ∷ []) (e ∷ (mid ++ x ∷ [])) apart.0)
               (rest.0, each_append (λ (z : Pair). same_pair z.at d ≡ false) (mid ++ x ∷ []) back rest.1 apart.1);
           from = hard_end None in_front x0 c.hard;
-          alike = subst (λ z. ArePairsWithSameAddressesAndSlots (w.chain ++ z) (w.chain ++ ((in_front ++ q ∷ mid) ++ y ∷ back)))
+          alike = subst (λ z. SameSlots (w.chain ++ z) (w.chain ++ ((in_front ++ q ∷ mid) ++ y ∷ back)))
               (append_assoc in_front (x0 ∷ mid) (x ∷ back) ∙ ap (λ z. in_front ++ x0 ∷ z) (sym (append_assoc mid (x ∷ []) back)) ∙ sym (append_assoc in_front (x0 ∷ []) ((mid ++ x ∷ []) ++ back)))
               (alike_append w.chain ((in_front ++ x0 ∷ mid) ++ x ∷ back) w.chain ((in_front ++ q ∷ mid) ++ y ∷ back) (alike_itself w.chain)
               (alike_append (in_front ++ x0 ∷ mid) (x ∷ back) (in_front ++ q ∷ mid) (y ∷ back)
@@ -174,7 +174,7 @@ module _ (disk middle : Disk) (w : Site) (x0 e q : Pair) (u : Slot) (P : Path) (
               (each_left (λ (z : Pair). same_pair z.at d ≡ false) (in_front ++ x0 ∷ []) (e ∷ []) apart.0)
               ((each_right (λ (z : Pair). same_pair z.at d ≡ false) (in_front ++ x0 ∷ []) (e ∷ []) apart.0).0, apart.1);
           from = hard_end None in_front x0 c.hard;
-          alike = subst (λ z. ArePairsWithSameAddressesAndSlots (w.chain ++ z) (w.chain ++ (in_front ++ y ∷ back))) (sym (append_assoc in_front (x0 ∷ []) back))
+          alike = subst (λ z. SameSlots (w.chain ++ z) (w.chain ++ (in_front ++ y ∷ back))) (sym (append_assoc in_front (x0 ∷ []) back))
               (alike_append w.chain (in_front ++ x0 ∷ back) w.chain (in_front ++ y ∷ back) (alike_itself w.chain)
               (alike_append in_front (x0 ∷ back) in_front (y ∷ back) (alike_itself in_front) (gone.at ∙ c.at, gone.slots ∙ c.slots, alike_itself back)));
         });
@@ -203,7 +203,7 @@ module _ (disk middle : Disk) (w : Site) (x0 e q : Pair) (u : Slot) (P : Path) (
           begins = soft_end None front x soft;
           apart = each_append (λ (z : Pair). same_pair z.at d ≡ false) (front ++ x ∷ []) ((mid ++ x0 ∷ []) ++ e ∷ in_back) apart.0 apart.1;
           from = hard_end (onward_all (onward_all None (front ++ x ∷ [])) (o ∷ [])) mid x0 c.hard;
-          alike = subst (λ z. ArePairsWithSameAddressesAndSlots (w.chain ++ z) (w.chain ++ (front ++ y ∷ (mid ++ q ∷ in_back))))
+          alike = subst (λ z. SameSlots (w.chain ++ z) (w.chain ++ (front ++ y ∷ (mid ++ q ∷ in_back))))
               (ap (λ z. front ++ x ∷ z) (sym (append_assoc mid (x0 ∷ []) in_back)) ∙ sym (append_assoc front (x ∷ []) ((mid ++ x0 ∷ []) ++ in_back)))
               (alike_append w.chain (front ++ x ∷ (mid ++ x0 ∷ in_back)) w.chain (front ++ y ∷ (mid ++ q ∷ in_back)) (alike_itself w.chain)
               (alike_append front (x ∷ (mid ++ x0 ∷ in_back)) front (y ∷ (mid ++ q ∷ in_back)) (alike_itself front)

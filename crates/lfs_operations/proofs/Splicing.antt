@@ -1,7 +1,7 @@
 -- A pair of an accepted image in which some slots are replaced by others, as a commit of the laws.
 use Rattle.std.proofs.Common.{ℕ, zero, suc, ◌≡◌, ◌+◌, ◌<◌, ◌≤◌, false, nat_eq, List, [], ◌∷◌, ◌++◌, length, Some, refl, sym, ap, subst, ◌∙◌, arith, ◌⊎◌, inl, inr}
-use Rattle.lfs_operations.proofs.Common.{IsDistinct, flat_map, recursion_from_All, BlockStateList, IsBlockFree, IsBlockInFlight, Free, InFlight, PairContentChange, Disk, block_bytes_on_disk, SameGeometry, Slot, PairContent, gstate_xor, Pair, blocks_of_pairs, gstate_of_pairs, starts_with_superblock, skip_list_blocks_of_struct, all_slots_not_moved, used_blocks, IsAcceptedImage, IsFileOrDirectoryEntry, IsSkipListIfCtzStruct, IsWritableImage, IsSlotWithinWritableLimits, SameFiles, IsCommit, Each, each_counted, each_from_counted, occurrence_count_of_number, count_append, once_from_distinct, distinct_from_once, HasSameFileBlocksOfStructOnDisks, gstate_append, gstate_cons, gstate_kept, gstate_right, Site, thread_at, IsSite, file_blocks_of_slots, KeptThread, complete_content_after_changes, SlotsBeginWithSuperblock, cases_lt}
-use Rattle.lfs_operations.specs.Ready.{IsImageReadyForChange}
+use Rattle.lfs_operations.proofs.Common.{IsDistinct, flat_map, recursion_from_All, BlockStates, IsFree, IsInFlight, Free, InFlight, PairChange, Disk, disk_block, SameGeometry, Slot, PairContent, gstate_xor, Pair, blocks_of_pairs, pairs_gstate, starts_superblock, struct_blocks, all_slots_not_moved, used_blocks, IsAccepted, IsTreeEntry, IsWellFormedCtz, IsWritable, IsWritableSlot, SameFiles, IsCommit, Each, each_counted, each_from_counted, number_count, count_append, once_from_distinct, distinct_from_once, SameFileBlocks, gstate_append, gstate_cons, gstate_kept, gstate_right, Site, thread_at, IsSite, file_blocks, KeptThread, complete_after, BeginWithSuperblock, cases_lt}
+use Rattle.lfs_operations.specs.Ready.{IsReadyImage}
 use Rattle.lfs_operations.proofs.MovTurned.{IsTurn}
 use Rattle.lfs_operations.proofs.MovSet.{HasTurned}
 use Rattle.lfs_operations.proofs.Owning.{count_pairs}
@@ -13,46 +13,46 @@ pub use Rattle.lfs_operations.proofs.Owning.{not_used}
 
 -- At the site stands the pair of that number. The changes make a content of it with the same tail and the same delta of the
 -- global state, in which `news` stand where `olds` did.
-pub record IsSplicing (t : KeptThread) (index : ℕ) (changes : List PairContentChange) (w : Site) (p : Pair) (l olds news r : List Slot) (gone come : List ℕ) : Type 0 where
-  pub ready : IsImageReadyForChange t
+pub record IsSplicing (t : KeptThread) (index : ℕ) (changes : List PairChange) (w : Site) (p : Pair) (l olds news r : List Slot) (gone come : List ℕ) : Type 0 where
+  pub ready : IsReadyImage t
   pub there : t.pairs ≡ thread_at w (p ∷ [])
   pub place : index ≡ length w.chain + length (w.before ++ w.left)
   pub site : IsSite w (p ∷ [])
   pub content : PairContent
-  pub made : complete_content_after_changes t index changes ≡ Some content
+  pub made : complete_after t index changes ≡ Some content
   pub tail : content.tail ≡ p.content.tail
   pub move : content.move ≡ p.content.move
   pub was : p.content.slots ≡ l ++ (olds ++ r)
   pub now : content.slots ≡ l ++ (news ++ r)
-  pub front : l ≡ [] → starts_with_superblock (olds ++ r) ≡ false
-  pub entries : Each IsFileOrDirectoryEntry news
-  pub fit : Each (IsSlotWithinWritableLimits t.disk.profile t.disk.block_size t.disk.page) news
+  pub front : l ≡ [] → starts_superblock (olds ++ r) ≡ false
+  pub entries : Each IsTreeEntry news
+  pub fit : Each (IsWritableSlot t.disk.profile t.disk.block_size t.disk.page) news
   -- blocks that come are in flight; they name these now, and those that are gone no more
-  pub flying : Each (IsBlockInFlight t.map) come
+  pub flying : Each (IsInFlight t.map) come
   pub apart : IsDistinct nat_eq (come ++ used_blocks t.disk t.pairs)
-  pub lists : (disk : Disk) → SameGeometry t.disk disk → SameFiles t.disk disk (all_slots_not_moved t.pairs) → Each (λ b. block_bytes_on_disk disk b ≡ block_bytes_on_disk t.disk b) come → Each (λ s. IsSkipListIfCtzStruct disk s.struct) news
-  pub blocks : (disk : Disk) → SameGeometry t.disk disk → SameFiles t.disk disk (all_slots_not_moved t.pairs) → Each (λ b. block_bytes_on_disk disk b ≡ block_bytes_on_disk t.disk b) come
-      → (b : ℕ) → occurrence_count_of_number b (file_blocks_of_slots disk news) + occurrence_count_of_number b gone ≡ occurrence_count_of_number b come + occurrence_count_of_number b (file_blocks_of_slots t.disk olds)
+  pub lists : (disk : Disk) → SameGeometry t.disk disk → SameFiles t.disk disk (all_slots_not_moved t.pairs) → Each (λ b. disk_block disk b ≡ disk_block t.disk b) come → Each (λ s. IsWellFormedCtz disk s.struct) news
+  pub blocks : (disk : Disk) → SameGeometry t.disk disk → SameFiles t.disk disk (all_slots_not_moved t.pairs) → Each (λ b. disk_block disk b ≡ disk_block t.disk b) come
+      → (b : ℕ) → number_count b (file_blocks disk news) + number_count b gone ≡ number_count b come + number_count b (file_blocks t.disk olds)
 
 -- a commit, on a disk where the blocks that come are as they were
 pub record Commits (t : KeptThread) (w : Site) (p : Pair) (l olds news r : List Slot) (come : List ℕ) (disk : Disk) (q : Pair) (more : List Pair) : Type 0 where
   pub commit : IsCommit t.disk disk w p q more come l olds news r
-  pub come_same : Each (λ b. block_bytes_on_disk disk b ≡ block_bytes_on_disk t.disk b) come
+  pub come_same : Each (λ b. disk_block disk b ≡ disk_block t.disk b) come
 
 unlike_flying : Some Free ≡ Some InFlight → ⊥
 unlike_flying e = absurd (cc)
 
 -- nor is it in flight
-not_flying : (sets : BlockStateList) (bs : List ℕ) → Each (IsBlockInFlight sets) bs → (b : ℕ) → IsBlockFree sets b → occurrence_count_of_number b bs ≡ 0
-not_flying sets bs flying b free = go (occurrence_count_of_number b bs) refl
+not_flying : (sets : BlockStates) (bs : List ℕ) → Each (IsInFlight sets) bs → (b : ℕ) → IsFree sets b → number_count b bs ≡ 0
+not_flying sets bs flying b free = go (number_count b bs) refl
   where
-    go : (n : ℕ) → occurrence_count_of_number b bs ≡ n → n ≡ 0
+    go : (n : ℕ) → number_count b bs ≡ n → n ≡ 0
     go zero e = refl
-    go (suc n) e = absurd (unlike_flying (sym free ∙ each_counted (IsBlockInFlight sets) bs flying b (omega arith)))
+    go (suc n) e = absurd (unlike_flying (sym free ∙ each_counted (IsInFlight sets) bs flying b (omega arith)))
 
-module _ (t : KeptThread) (index : ℕ) (changes : List PairContentChange) (w : Site) (p : Pair) (l olds news r : List Slot) (gone come : List ℕ) (k : IsSplicing t index changes w p l olds news r gone come) where
-  pub accepted : IsAcceptedImage t.disk (thread_at w (p ∷ []))
-  accepted = subst (IsAcceptedImage t.disk) k.there k.ready.accepted
+module _ (t : KeptThread) (index : ℕ) (changes : List PairChange) (w : Site) (p : Pair) (l olds news r : List Slot) (gone come : List ℕ) (k : IsSplicing t index changes w p l olds news r gone come) where
+  pub accepted : IsAccepted t.disk (thread_at w (p ∷ []))
+  accepted = subst (IsAccepted t.disk) k.there k.ready.accepted
 
   -- so the pair gets those slots, and keeps its delta
   pub turn : IsTurn t index changes w p (l ++ (news ++ r)) p.content.move
@@ -62,26 +62,26 @@ module _ (t : KeptThread) (index : ℕ) (changes : List PairContentChange) (w : 
     place = k.place;
     site = k.site;
     made = k.made ∙ ap (λ (c : PairContent). Some c) (λ j. record { slots = k.now j; tail = k.tail j; move = k.move j });
-    first = λ h. go l k.front (subst SlotsBeginWithSuperblock k.was (h.kind, h.name));
+    first = λ h. go l k.front (subst BeginWithSuperblock k.was (h.kind, h.name));
   }
     where
       -- the superblock stays in slot 0
-      go : (l : List Slot) → (l ≡ [] → starts_with_superblock (olds ++ r) ≡ false) → SlotsBeginWithSuperblock (l ++ (olds ++ r)) → SlotsBeginWithSuperblock (l ++ (news ++ r))
+      go : (l : List Slot) → (l ≡ [] → starts_superblock (olds ++ r) ≡ false) → BeginWithSuperblock (l ++ (olds ++ r)) → BeginWithSuperblock (l ++ (news ++ r))
       go [] f e = absurd (let z = sym (f refl) ∙ e.0 in cc)
       go (s ∷ l) f e = e
 
   -- ---- the commit
 
-  pub commits : (disk : Disk) (q : Pair) (more : List Pair) → HasTurned t.disk w p (l ++ (news ++ r)) p.content.move disk q more → ((b : ℕ) → 1 ≤ occurrence_count_of_number b (blocks_of_pairs more) → IsBlockFree t.map b)
+  pub commits : (disk : Disk) (q : Pair) (more : List Pair) → HasTurned t.disk w p (l ++ (news ++ r)) p.content.move disk q more → ((b : ℕ) → 1 ≤ number_count b (blocks_of_pairs more) → IsFree t.map b)
       → Commits t w p l olds news r come disk q more
   commits disk q more x fresh = record {
     commit = record {
       accepted = accepted;
-      writable = subst (IsWritableImage t.disk) k.there k.ready.writable;
-      settled = ap gstate_of_pairs (sym k.there) ∙ k.ready.settled;
+      writable = subst (IsWritable t.disk) k.there k.ready.writable;
+      settled = ap pairs_gstate (sym k.there) ∙ k.ready.settled;
       still = gstate_append w.chain ((w.before ++ w.left) ++ (q ∷ more ++ (w.right ++ w.after)))
-          ∙ ap (gstate_xor (gstate_of_pairs w.chain)) (gstate_kept (w.before ++ w.left) (p ∷ []) (q ∷ more) (w.right ++ w.after) (x.delta ∙ sym (gstate_cons p [] ∙ gstate_right p.content.move)))
-          ∙ sym (gstate_append w.chain ((w.before ++ w.left) ++ (p ∷ [] ++ (w.right ++ w.after)))) ∙ ap gstate_of_pairs (sym k.there) ∙ k.ready.settled;
+          ∙ ap (gstate_xor (pairs_gstate w.chain)) (gstate_kept (w.before ++ w.left) (p ∷ []) (q ∷ more) (w.right ++ w.after) (x.delta ∙ sym (gstate_cons p [] ∙ gstate_right p.content.move)))
+          ∙ sym (gstate_append w.chain ((w.before ++ w.left) ++ (p ∷ [] ++ (w.right ++ w.after)))) ∙ ap pairs_gstate (sym k.there) ∙ k.ready.settled;
       site = k.site;
       device = x.device;
       free = record { distinct = distinct; in_range = x.free.in_range };
@@ -102,9 +102,9 @@ module _ (t : KeptThread) (index : ℕ) (changes : List PairContentChange) (w : 
     where
       -- a free block is neither used nor one of those that come
       distinct : IsDistinct nat_eq ((blocks_of_pairs more ++ come) ++ used_blocks t.disk (thread_at w (p ∷ [])))
-      distinct = distinct_from_once ((blocks_of_pairs more ++ come) ++ used_blocks t.disk (thread_at w (p ∷ []))) (λ b. go b (cases_lt 0 (occurrence_count_of_number b (blocks_of_pairs more))))
+      distinct = distinct_from_once ((blocks_of_pairs more ++ come) ++ used_blocks t.disk (thread_at w (p ∷ []))) (λ b. go b (cases_lt 0 (number_count b (blocks_of_pairs more))))
         where
-          go : (b : ℕ) → (0 < occurrence_count_of_number b (blocks_of_pairs more)) ⊎ (occurrence_count_of_number b (blocks_of_pairs more) ≤ 0) → occurrence_count_of_number b ((blocks_of_pairs more ++ come) ++ used_blocks t.disk (thread_at w (p ∷ []))) ≤ 1
+          go : (b : ℕ) → (0 < number_count b (blocks_of_pairs more)) ⊎ (number_count b (blocks_of_pairs more) ≤ 0) → number_count b ((blocks_of_pairs more ++ come) ++ used_blocks t.disk (thread_at w (p ∷ []))) ≤ 1
           go b (inl some) =
               let n = not_flying t.map come k.flying b (fresh b some) in
               let o = once_from_distinct ((blocks_of_pairs more ++ []) ++ used_blocks t.disk (thread_at w (p ∷ []))) x.free.distinct b in
@@ -121,15 +121,15 @@ module _ (t : KeptThread) (index : ℕ) (changes : List PairContentChange) (w : 
               omega arith
 
       -- what comes isn't written
-      come_there : Each (λ b. block_bytes_on_disk disk b ≡ block_bytes_on_disk t.disk b) come
-      come_there = each_from_counted (λ b. block_bytes_on_disk disk b ≡ block_bytes_on_disk t.disk b) come (λ b some. x.same b (
+      come_there : Each (λ b. disk_block disk b ≡ disk_block t.disk b) come
+      come_there = each_from_counted (λ b. disk_block disk b ≡ disk_block t.disk b) come (λ b some. x.same b (
           let n = once_from_distinct ((blocks_of_pairs more ++ come) ++ used_blocks t.disk (thread_at w (p ∷ []))) distinct b in
           let e = count_append b (blocks_of_pairs more ++ come) (used_blocks t.disk (thread_at w (p ∷ []))) in
           let f = count_append b (blocks_of_pairs more) come in
           let g = count_append b (blocks_of_pairs more) (blocks_of_pairs (p ∷ [])) in
-          let h = count_append b (blocks_of_pairs (thread_at w (p ∷ []))) (flat_map (λ s. skip_list_blocks_of_struct t.disk s.struct) (all_slots_not_moved (thread_at w (p ∷ [])))) in
+          let h = count_append b (blocks_of_pairs (thread_at w (p ∷ []))) (flat_map (λ s. struct_blocks t.disk s.struct) (all_slots_not_moved (thread_at w (p ∷ [])))) in
           let i = count_pairs b w (p ∷ []) in
           omega arith))
 
       files : SameFiles t.disk disk (all_slots_not_moved t.pairs)
-      files = subst (λ z. SameFiles t.disk disk (all_slots_not_moved z)) (sym k.there) (recursion_from_All (λ (s : Slot). HasSameFileBlocksOfStructOnDisks t.disk disk s.struct) (all_slots_not_moved (thread_at w (p ∷ []))) x.device.files)
+      files = subst (λ z. SameFiles t.disk disk (all_slots_not_moved z)) (sym k.there) (recursion_from_All (λ (s : Slot). SameFileBlocks t.disk disk s.struct) (all_slots_not_moved (thread_at w (p ∷ []))) x.device.files)

@@ -1,11 +1,11 @@
 -- What a change or a split comes to, and what a stop in it leaves, as a commit of the laws.
 use Rattle.std.proofs.Common.{ℕ, ◌≡◌, ◌≢◌, true, false, ◌⊎◌, inl, inr, ⊎_elim, ◌+◌, ◌<◌, ◌≤◌, List, [], ◌∷◌, ◌++◌, length, sym, ap, subst, ◌∙◌, arith, append-nil, nat_eq}
 use Rattle.std.specs.Prelude.{Contains}
-use Rattle.lfs_operations.proofs.Common.{cases_lt, recursion_from_All, Blocks, AreExactlyTheUsedBlocks, IsBlockFree, PairContentChange, Disk, block_count, HasTreeBeforeOrAfterOperation as IsLeftOf, SurvivesPowerLossInCallsSince, disk_with_blocks, Slot, Pair, blocks_of_pairs, gstate_of_pairs, pair_count_before_root, Tree, IsAcceptedImage, IsWritableImage, all_slots_not_moved, tree_on_disk, used_blocks, Contains-occurrence_count_of_number, occurrence_count_of_number-Contains, IsImageAfterTreeChange, SameFiles, HasSameFileBlocksOfStructOnDisks, ends_in_hard_tail, IsCommit, occurrence_count_of_number, once_from_distinct, count_append, IsTrueAfterAnyPowerLossSince-weaker, Site, dirs_at, thread_at, IsDevice, DeviceCallEvent, PowerLossLeavesSuchBlocksAfterCleanErases, KeptThread, IsDistinct}
+use Rattle.lfs_operations.proofs.Common.{cases_lt, recursion_from_All, Blocks, AreUsed, IsFree, PairChange, Disk, block_count, HasEither as IsLeftOf, SurvivesLossSince, with_blocks, Slot, Pair, blocks_of_pairs, pairs_gstate, pair_count_before_root, Tree, IsAccepted, IsWritable, all_slots_not_moved, tree_on_disk, used_blocks, Contains-number_count, number_count-Contains, IsChangedImage, SameFiles, SameFileBlocks, ends_joined, IsCommit, number_count, once_from_distinct, count_append, HoldsAtLosses-weaker, Site, dirs_at, thread_at, IsDevice, CallEvent, LossLeavesCleanly, KeptThread, IsDistinct}
 use Rattle.lfs_model.proofs.Committed.{commit_writable}
-use Rattle.lfs_model.proofs.Laws.{DirectoryAddressByPath}
-use Rattle.lfs_operations.specs.Changing.{IsLeftByStoppedChangeOrSplit, IsPairChangedOrSplit}
-use Rattle.lfs_operations.specs.Ready.{AreUsedBlocksBeforeMapIsUpdated, ShowsTreeReadyForChange, ShowsTreeReadyOnceMapIsUpdated, HasNoNewBlockInFlight, KeepsStatesOfTakenBlocks}
+use Rattle.lfs_model.proofs.Laws.{PathAddresses}
+use Rattle.lfs_operations.specs.Changing.{LeftByTurn, IsTurned}
+use Rattle.lfs_operations.specs.Ready.{AreUsedUntilUpdate, ShowsReadyTree, ShowsUpdatedTree, HasNoneNew, KeepsTakenStates}
 use Rattle.lfs_operations.proofs.Owning.{count_pairs, used_count_now, used_same}
 use Rattle.lfs_operations.proofs.Placing.{left_after, left_still}
 use Rattle.lfs_operations.proofs.RootStays.{root_stays}
@@ -24,38 +24,38 @@ pub record HasStep (t : KeptThread) (w : Site) (p : Pair) (l olds news r : List 
   pub more : List Pair
   pub commit : Commits t w p l olds news r come new.disk q more
   pub pairs : new.pairs ≡ thread_at w (q ∷ more)
-  pub used : AreUsedBlocksBeforeMapIsUpdated new.map (used_blocks new.disk new.pairs) gone come
-  pub once : (b : ℕ) → occurrence_count_of_number b used.owned ≤ 1
-  pub places : (b : ℕ) → Contains (blocks_of_pairs new.pairs) b → Contains (blocks_of_pairs t.pairs) b ⊎ IsBlockFree t.map b
+  pub used : AreUsedUntilUpdate new.map (used_blocks new.disk new.pairs) gone come
+  pub once : (b : ℕ) → number_count b used.owned ≤ 1
+  pub places : (b : ℕ) → Contains (blocks_of_pairs new.pairs) b → Contains (blocks_of_pairs t.pairs) b ⊎ IsFree t.map b
   pub size : length new.map ≡ block_count new.disk
-  pub stays : KeepsStatesOfTakenBlocks t.map new.map
-  pub none_comes : HasNoNewBlockInFlight t.map new.map
+  pub stays : KeepsTakenStates t.map new.map
+  pub none_comes : HasNoneNew t.map new.map
 
-module _ (t : KeptThread) (index : ℕ) (changes : List PairContentChange) (w : Site) (p : Pair) (l olds news r : List Slot) (gone come : List ℕ) (k : IsSplicing t index changes w p l olds news r gone come) where
-  used_before : AreExactlyTheUsedBlocks t.map (used_blocks t.disk (thread_at w (p ∷ [])))
-  used_before = subst (λ z. AreExactlyTheUsedBlocks t.map (used_blocks t.disk z)) k.there k.ready.used
+module _ (t : KeptThread) (index : ℕ) (changes : List PairChange) (w : Site) (p : Pair) (l olds news r : List Slot) (gone come : List ℕ) (k : IsSplicing t index changes w p l olds news r gone come) where
+  used_before : AreUsed t.map (used_blocks t.disk (thread_at w (p ∷ [])))
+  used_before = subst (λ z. AreUsed t.map (used_blocks t.disk z)) k.there k.ready.used
 
   files_at : {disk : Disk} {q : Pair} {more : List Pair} → IsCommit t.disk disk w p q more come l olds news r → SameFiles t.disk disk (all_slots_not_moved t.pairs)
-  files_at {disk = disk} c = subst (λ z. SameFiles t.disk disk (all_slots_not_moved z)) (sym k.there) (recursion_from_All (λ (s : Slot). HasSameFileBlocksOfStructOnDisks t.disk disk s.struct) (all_slots_not_moved (thread_at w (p ∷ []))) c.device.files)
+  files_at {disk = disk} c = subst (λ z. SameFiles t.disk disk (all_slots_not_moved z)) (sym k.there) (recursion_from_All (λ (s : Slot). SameFileBlocks t.disk disk s.struct) (all_slots_not_moved (thread_at w (p ∷ []))) c.device.files)
 
   -- a block of the pairs was one before, or is one that came
-  place_of : (b : ℕ) (now : List Pair) (fresh : List ℕ) → occurrence_count_of_number b (blocks_of_pairs now) ≡ occurrence_count_of_number b (blocks_of_pairs (p ∷ [])) + occurrence_count_of_number b fresh → Contains (blocks_of_pairs (thread_at w now)) b
-      → Contains (blocks_of_pairs t.pairs) b ⊎ (1 ≤ occurrence_count_of_number b fresh)
-  place_of b now fresh e has = go (cases_lt 0 (occurrence_count_of_number b fresh))
+  place_of : (b : ℕ) (now : List Pair) (fresh : List ℕ) → number_count b (blocks_of_pairs now) ≡ number_count b (blocks_of_pairs (p ∷ [])) + number_count b fresh → Contains (blocks_of_pairs (thread_at w now)) b
+      → Contains (blocks_of_pairs t.pairs) b ⊎ (1 ≤ number_count b fresh)
+  place_of b now fresh e has = go (cases_lt 0 (number_count b fresh))
     where
-      go : (0 < occurrence_count_of_number b fresh) ⊎ (occurrence_count_of_number b fresh ≤ 0) → Contains (blocks_of_pairs t.pairs) b ⊎ (1 ≤ occurrence_count_of_number b fresh)
+      go : (0 < number_count b fresh) ⊎ (number_count b fresh ≤ 0) → Contains (blocks_of_pairs t.pairs) b ⊎ (1 ≤ number_count b fresh)
       go (inl some) = inr some
       go (inr none) =
-          let some = occurrence_count_of_number-Contains (blocks_of_pairs (thread_at w now)) b has in
+          let some = number_count-Contains (blocks_of_pairs (thread_at w now)) b has in
           let c = count_pairs b w now in
           let d = count_pairs b w (p ∷ []) in
-          let g = ap (λ z. occurrence_count_of_number b (blocks_of_pairs z)) k.there in
-          inl (Contains-occurrence_count_of_number (blocks_of_pairs t.pairs) b (omega arith))
+          let g = ap (λ z. number_count b (blocks_of_pairs z)) k.there in
+          inl (Contains-number_count (blocks_of_pairs t.pairs) b (omega arith))
 
   mapped : IsMapped t
   mapped = record { used = k.ready.used; size = k.ready.size }
 
-  pub put_step : (new : KeptThread) → IsPairChangedOrSplit t index changes new → HasStep t w p l olds news r gone come new
+  pub put_step : (new : KeptThread) → IsTurned t index changes new → HasStep t w p l olds news r gone come new
   put_step new is = go (put_turned t index changes w p (l ++ (news ++ r)) p.content.move (turn t index changes w p l olds news r gone come k) mapped new is)
     where
       go : TurnedTo t w p (l ++ (news ++ r)) p.content.move new → HasStep t w p l olds news r gone come new
@@ -71,13 +71,13 @@ module _ (t : KeptThread) (index : ℕ) (changes : List PairContentChange) (w : 
               are = x.used (used_blocks t.disk (thread_at w (p ∷ []))) used_before;
               same = λ b.
                   let e = used_count_now t.disk new.disk w p x.q x.more l olds news r gone come commit.commit (k.blocks new.disk commit.commit.device.geometry (files_at commit.commit) commit.come_same) b in
-                  let f = ap (λ z. occurrence_count_of_number b (used_blocks new.disk z)) x.pairs in
+                  let f = ap (λ z. number_count b (used_blocks new.disk z)) x.pairs in
                   let g = count_append b (blocks_of_pairs x.more) (used_blocks t.disk (thread_at w (p ∷ []))) in
                   omega arith;
             };
             once = λ b. once_from_distinct (blocks_of_pairs x.more ++ used_blocks t.disk (thread_at w (p ∷ []))) (subst (λ z. IsDistinct nat_eq (z ++ used_blocks t.disk (thread_at w (p ∷ [])))) (append-nil (blocks_of_pairs x.more)) x.turned.free.distinct) b;
             places = λ b has. ⊎_elim (λ was. inl was) (λ some. inr (x.fresh b some))
-                (place_of b (x.q ∷ x.more) (blocks_of_pairs x.more) (let a = ap (λ (z : ℕ × ℕ). occurrence_count_of_number b (z.0 ∷ z.1 ∷ [])) x.turned.at in let c = count_append b (x.q.at.0 ∷ x.q.at.1 ∷ []) (blocks_of_pairs x.more) in omega arith)
+                (place_of b (x.q ∷ x.more) (blocks_of_pairs x.more) (let a = ap (λ (z : ℕ × ℕ). number_count b (z.0 ∷ z.1 ∷ [])) x.turned.at in let c = count_append b (x.q.at.0 ∷ x.q.at.1 ∷ []) (blocks_of_pairs x.more) in omega arith)
                 (subst (λ (z : List Pair). Contains (blocks_of_pairs z) b) x.pairs has));
             size = x.size ∙ k.ready.size ∙ sym x.shape.count;
             stays = x.stays;
@@ -89,41 +89,41 @@ module _ (t : KeptThread) (index : ℕ) (changes : List PairContentChange) (w : 
   abbrev pub Stays : Disk → Type 0
   Stays disk = IsDevice t.disk disk (thread_at w (p ∷ [])) (thread_at w (p ∷ []))
 
-  left_step : (left : Blocks) → IsLeftByStoppedChangeOrSplit t index changes left → Stays (disk_with_blocks left t.disk) ⊎ HasCommit t w p l olds news r come (disk_with_blocks left t.disk)
+  left_step : (left : Blocks) → LeftByTurn t index changes left → Stays (with_blocks left t.disk) ⊎ HasCommit t w p l olds news r come (with_blocks left t.disk)
   left_step left is = ⊎_elim (λ on. inl on)
-      (λ (x : TurnedOn t w p (l ++ (news ++ r)) p.content.move (disk_with_blocks left t.disk)). inr (record { q = x.q; more = x.more; commit = commits t index changes w p l olds news r gone come k (disk_with_blocks left t.disk) x.q x.more x.turned x.fresh }))
+      (λ (x : TurnedOn t w p (l ++ (news ++ r)) p.content.move (with_blocks left t.disk)). inr (record { q = x.q; more = x.more; commit = commits t index changes w p l olds news r gone come k (with_blocks left t.disk) x.q x.more x.turned x.fresh }))
       (left_put t index changes w p (l ++ (news ++ r)) p.content.move (turn t index changes w p l olds news r gone come k) mapped left is)
 
   -- Where each commit follows by that change of the tree, a stop leaves the tree from before or from after it.
   abbrev pub AllFollow : (Tree → Tree) → Type 0
   AllFollow change = (disk : Disk) (q : Pair) (more : List Pair) → Commits t w p l olds news r come disk q more
-      → (walk : DirectoryAddressByPath → DirectoryAddressByPath) × IsImageAfterTreeChange t.disk (thread_at w (p ∷ [])) disk (thread_at w (q ∷ more)) change walk
+      → (walk : PathAddresses → PathAddresses) × IsChangedImage t.disk (thread_at w (p ∷ [])) disk (thread_at w (q ∷ more)) change walk
 
-  left_tree : (change : Tree → Tree) → AllFollow change → (ends_in_hard_tail false (w.before ++ w.left) ≡ true → l ++ (news ++ r) ≢ []) → (left : Blocks) → IsLeftByStoppedChangeOrSplit t index changes left
-      → IsLeftOf (disk_with_blocks left t.disk) (tree_on_disk t.disk t.pairs) (change (tree_on_disk t.disk t.pairs))
+  left_tree : (change : Tree → Tree) → AllFollow change → (ends_joined false (w.before ++ w.left) ≡ true → l ++ (news ++ r) ≢ []) → (left : Blocks) → LeftByTurn t index changes left
+      → IsLeftOf (with_blocks left t.disk) (tree_on_disk t.disk t.pairs) (change (tree_on_disk t.disk t.pairs))
   left_tree change follow filled left is = go (left_step left is)
     where
-      go : Stays (disk_with_blocks left t.disk) ⊎ HasCommit t w p l olds news r come (disk_with_blocks left t.disk) → IsLeftOf (disk_with_blocks left t.disk) (tree_on_disk t.disk t.pairs) (change (tree_on_disk t.disk t.pairs))
-      go (inl d) = left_still t.disk left (thread_at w (p ∷ [])) (accepted t index changes w p l olds news r gone come k) (subst (IsWritableImage t.disk) k.there k.ready.writable) d (inl (ap (tree_on_disk t.disk) (sym k.there)))
+      go : Stays (with_blocks left t.disk) ⊎ HasCommit t w p l olds news r come (with_blocks left t.disk) → IsLeftOf (with_blocks left t.disk) (tree_on_disk t.disk t.pairs) (change (tree_on_disk t.disk t.pairs))
+      go (inl d) = left_still t.disk left (thread_at w (p ∷ [])) (accepted t index changes w p l olds news r gone come k) (subst (IsWritable t.disk) k.there k.ready.writable) d (inl (ap (tree_on_disk t.disk) (sym k.there)))
       go (inr h) =
-          let f = follow (disk_with_blocks left t.disk) h.q h.more h.commit in
-          left_after {walk = f.0} (record { follows = f.1; writable = commit_writable t.disk (disk_with_blocks left t.disk) w p h.q h.more come l olds news r h.commit.commit filled }) (inr (ap (λ z. change (tree_on_disk t.disk z)) (sym k.there)))
+          let f = follow (with_blocks left t.disk) h.q h.more h.commit in
+          left_after {walk = f.0} (record { follows = f.1; writable = commit_writable t.disk (with_blocks left t.disk) w p h.q h.more come l olds news r h.commit.commit filled }) (inr (ap (λ z. change (tree_on_disk t.disk z)) (sym k.there)))
 
-  pub survives : (change : Tree → Tree) → AllFollow change → (ends_in_hard_tail false (w.before ++ w.left) ≡ true → l ++ (news ++ r) ≢ []) → (new : List DeviceCallEvent) → PowerLossLeavesSuchBlocksAfterCleanErases t.history new (IsLeftByStoppedChangeOrSplit t index changes)
-      → SurvivesPowerLossInCallsSince t.disk t.history new (tree_on_disk t.disk t.pairs) (change (tree_on_disk t.disk t.pairs))
-  survives change follow filled new stops clean = IsTrueAfterAnyPowerLossSince-weaker (left_tree change follow filled) (stops clean)
+  pub survives : (change : Tree → Tree) → AllFollow change → (ends_joined false (w.before ++ w.left) ≡ true → l ++ (news ++ r) ≢ []) → (new : List CallEvent) → LossLeavesCleanly t.history new (LeftByTurn t index changes)
+      → SurvivesLossSince t.disk t.history new (tree_on_disk t.disk t.pairs) (change (tree_on_disk t.disk t.pairs))
+  survives change follow filled new stops clean = HoldsAtLosses-weaker (left_tree change follow filled) (stops clean)
 
   -- ---- what it shows
 
-  pub becomes : (change : Tree → Tree) → AllFollow change → (ends_in_hard_tail false (w.before ++ w.left) ≡ true → l ++ (news ++ r) ≢ []) → (new : KeptThread) → HasStep t w p l olds news r gone come new
-      → ShowsTreeReadyOnceMapIsUpdated t new (change (tree_on_disk t.disk t.pairs)) gone come
+  pub becomes : (change : Tree → Tree) → AllFollow change → (ends_joined false (w.before ++ w.left) ≡ true → l ++ (news ++ r) ≢ []) → (new : KeptThread) → HasStep t w p l olds news r gone come new
+      → ShowsUpdatedTree t new (change (tree_on_disk t.disk t.pairs)) gone come
   becomes change follow filled new x =
       let f = (follow new.disk x.q x.more x.commit).1 in
       record {
         ready = record {
-          accepted = subst (IsAcceptedImage new.disk) (sym x.pairs) f.accepted;
-          writable = subst (IsWritableImage new.disk) (sym x.pairs) (commit_writable t.disk new.disk w p x.q x.more come l olds news r x.commit.commit filled);
-          settled = ap gstate_of_pairs x.pairs ∙ x.commit.commit.still;
+          accepted = subst (IsAccepted new.disk) (sym x.pairs) f.accepted;
+          writable = subst (IsWritable new.disk) (sym x.pairs) (commit_writable t.disk new.disk w p x.q x.more come l olds news r x.commit.commit filled);
+          settled = ap pairs_gstate x.pairs ∙ x.commit.commit.still;
           used = x.used;
           size = x.size;
           large = subst (λ n. 1024 ≤ n) (sym x.commit.commit.device.geometry.block_size) k.ready.large;
@@ -137,7 +137,7 @@ module _ (t : KeptThread) (index : ℕ) (changes : List PairContentChange) (w : 
       }
 
 -- where no block came or went
-pub ready_again : (t new : KeptThread) (tree : Tree) → ShowsTreeReadyOnceMapIsUpdated t new tree [] [] → ShowsTreeReadyForChange t new tree
+pub ready_again : (t new : KeptThread) (tree : Tree) → ShowsUpdatedTree t new tree [] [] → ShowsReadyTree t new tree
 ready_again t new tree h = record {
   ready = record {
     accepted = h.ready.accepted;

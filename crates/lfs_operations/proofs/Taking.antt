@@ -1,15 +1,15 @@
 -- Two free blocks that are taken.
 use Rattle.std.proofs.Common.{ℕ, zero, suc, ◌≡◌, ◌≢◌, ◌<◌, Bool, true, false, nat_eq, [], ◌∷◌, length, Some, refl, sym, ap, subst, ◌∙◌, arith, set, slice_get, eqb-true, eq-eqb}
-use Rattle.lfs_operations.proofs.Common.{same_Some, BlockState, BlockStateList, IsBlockFree, Free, InFlight, slice_get-set_same, slice_get-set_other}
-use Rattle.lfs_operations.specs.Changing.{AreTwoFreeBlocks}
+use Rattle.lfs_operations.proofs.Common.{same_Some, BlockState, BlockStates, IsFree, Free, InFlight, slice_get-set_same, slice_get-set_other}
+use Rattle.lfs_operations.specs.Changing.{AreTwoFree}
 
-pub within : (sets : BlockStateList) (b : ℕ) (s : BlockState) → slice_get sets b ≡ Some s → b < length sets
+pub within : (sets : BlockStates) (b : ℕ) (s : BlockState) → slice_get sets b ≡ Some s → b < length sets
 within [] b s e = absurd (cc)
 within (x ∷ sets) zero s e = omega arith
 within (x ∷ sets) (suc b) s e = let l = within sets b s e in omega arith
 
 -- a block that was free and is made free again
-pub put_back : (sets : BlockStateList) (b : ℕ) (x s : BlockState) → slice_get sets b ≡ Some s → set (set sets b x) b s ≡ sets
+pub put_back : (sets : BlockStates) (b : ℕ) (x s : BlockState) → slice_get sets b ≡ Some s → set (set sets b x) b s ≡ sets
 put_back [] b x s e = refl
 put_back (y ∷ sets) zero x s e = ap (λ z. z ∷ sets) (sym (same_Some y s e))
 put_back (y ∷ sets) (suc b) x s e = ap (λ z. y ∷ z) (put_back sets b x s e)
@@ -18,7 +18,7 @@ flies : Free ≡ InFlight → ⊥
 flies e = absurd (cc)
 
 -- the second one is another
-pub two_free : (sets : BlockStateList) (a b : ℕ) → IsBlockFree sets a → IsBlockFree (set sets a InFlight) b → AreTwoFreeBlocks sets (a, b)
+pub two_free : (sets : BlockStates) (a b : ℕ) → IsFree sets a → IsFree (set sets a InFlight) b → AreTwoFree sets (a, b)
 two_free sets a b first second = record {
   apart = apart;
   first = first;
@@ -29,7 +29,7 @@ two_free sets a b first second = record {
     apart e = flies (sym (same_Some InFlight Free (sym (slice_get-set_same sets a InFlight (within sets a Free first)) ∙ subst (λ z. slice_get (set sets a InFlight) z ≡ Some Free) (sym e) second)))
 
 -- where the second isn't there, no two are
-pub not_two : (sets : BlockStateList) (a : ℕ) → ((b : ℕ) → IsBlockFree (set sets a InFlight) b → ⊥) → (fresh : ℕ × ℕ) → AreTwoFreeBlocks sets fresh → ⊥
+pub not_two : (sets : BlockStates) (a : ℕ) → ((b : ℕ) → IsFree (set sets a InFlight) b → ⊥) → (fresh : ℕ × ℕ) → AreTwoFree sets fresh → ⊥
 not_two sets a none fresh two = go (nat_eq fresh.0 a) refl
   where
     go : (t : Bool) → nat_eq fresh.0 a ≡ t → ⊥

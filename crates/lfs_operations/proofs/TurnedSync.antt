@@ -1,63 +1,63 @@
 -- A pair of an image with nothing to recover, whose commit turns the sync bit: the step, and what a stop leaves.
 use Rattle.std.proofs.Common.{ℕ, ◌≡◌, ◌≢◌, ◌⊎◌, inl, inr, ◌+◌, true, false, List, [], ◌∷◌, ◌++◌, length, Some, refl, sym, ap, subst, ◌∙◌, arith, append-nil}
-use Rattle.lfs_operations.proofs.Common.{recursion_from_All, Blocks, PairContentChange, Disk, SameGeometry, HasTreeBeforeOrAfterOperation as IsLeftOf, disk_with_blocks, IsSlotWithinWritableLimits, IsWritableImage, all_slots_not_moved, tree_on_disk, pair_with_slots, IsContentFittingPair, Slot, gstate_xor, zero_gstate, DirectoryAddressByPath, Pair, gstate_of_pairs, starts_with_superblock, Tree, IsAcceptedImage, fits_same, IsImageAfterTreeChange, SameFiles, no_move_from, Each, HasSameFileBlocksOfStructOnDisks, HasNoMove, sync_bit_delta, IsStep, IsSite, Site, thread_at, IsDevice, stays_shape, IsWritableImageAfterTreeChange, ends_in_hard_tail, KeptThread, PowerLossLeavesPairOldOrChanged, SlotsBeginWithSuperblock, complete_content_after_changes}
+use Rattle.lfs_operations.proofs.Common.{recursion_from_All, Blocks, PairChange, Disk, SameGeometry, HasEither as IsLeftOf, with_blocks, IsWritableSlot, IsWritable, all_slots_not_moved, tree_on_disk, pair_with_slots, FitsInPair, Slot, gstate_xor, zero_gstate, PathAddresses, Pair, pairs_gstate, starts_superblock, Tree, IsAccepted, fits_same, IsChangedImage, SameFiles, no_move_from, Each, SameFileBlocks, HasNoMove, sync_bit_delta, IsStep, IsSite, Site, thread_at, IsDevice, stays_shape, IsWritableChange, ends_joined, KeptThread, LossLeavesPairChanged, BeginWithSuperblock, complete_after}
 use Rattle.lfs_model.proofs.Splices.{IsSplice}
 use Rattle.lfs_model.proofs.StepsTaken.{commit_taken}
-use Rattle.lfs_operations.specs.Ready.{IsImageReadyForChange}
+use Rattle.lfs_operations.specs.Ready.{IsReadyImage}
 use Rattle.lfs_operations.proofs.MovSet.{HasTurned}
 use Rattle.lfs_operations.proofs.MovTurned.{IsTurn, content_with, left_alone}
 use Rattle.lfs_operations.proofs.Placing.{left_after, left_still}
 use Rattle.lfs_operations.proofs.Threads.{sync_turned}
 
 -- The changes give the pair these slots, in which `news` stand where `olds` did, and turn the sync bit. What they make fits.
-pub record IsSyncTurn (t : KeptThread) (index : ℕ) (changes : List PairContentChange) (w : Site) (p : Pair) (slots l olds news r : List Slot) : Type 0 where
-  pub ready : IsImageReadyForChange t
+pub record IsSyncTurn (t : KeptThread) (index : ℕ) (changes : List PairChange) (w : Site) (p : Pair) (slots l olds news r : List Slot) : Type 0 where
+  pub ready : IsReadyImage t
   pub there : t.pairs ≡ thread_at w (p ∷ [])
   pub place : index ≡ length w.chain + length (w.before ++ w.left)
   pub site : IsSite w (p ∷ [])
-  pub made : complete_content_after_changes t index changes ≡ Some (content_with p slots (gstate_xor p.content.move sync_bit_delta))
-  pub fits : IsContentFittingPair t.disk.block_size t.disk.page (content_with p slots (gstate_xor p.content.move sync_bit_delta))
+  pub made : complete_after t index changes ≡ Some (content_with p slots (gstate_xor p.content.move sync_bit_delta))
+  pub fits : FitsInPair t.disk.block_size t.disk.page (content_with p slots (gstate_xor p.content.move sync_bit_delta))
   pub was : p.content.slots ≡ l ++ (olds ++ r)
   pub now : slots ≡ l ++ (news ++ r)
-  pub front : l ≡ [] → starts_with_superblock (olds ++ r) ≡ false
-  pub fit : Each (IsSlotWithinWritableLimits t.disk.profile t.disk.block_size t.disk.page) news
-  pub filled : ends_in_hard_tail false (w.before ++ w.left) ≡ true → l ++ (news ++ r) ≢ []
+  pub front : l ≡ [] → starts_superblock (olds ++ r) ≡ false
+  pub fit : Each (IsWritableSlot t.disk.profile t.disk.block_size t.disk.page) news
+  pub filled : ends_joined false (w.before ++ w.left) ≡ true → l ++ (news ++ r) ≢ []
   pub splice : (disk : Disk) → SameGeometry t.disk disk → SameFiles t.disk disk (all_slots_not_moved t.pairs) → IsSplice t.disk disk [] l olds news r
 
-module _ {t : KeptThread} {index : ℕ} {changes : List PairContentChange} {w : Site} {p : Pair} {slots l olds news r : List Slot} (k : IsSyncTurn t index changes w p slots l olds news r) where
+module _ {t : KeptThread} {index : ℕ} {changes : List PairChange} {w : Site} {p : Pair} {slots l olds news r : List Slot} (k : IsSyncTurn t index changes w p slots l olds news r) where
   abbrev pub pair_turned : Pair
   pair_turned = record { at = p.at; content = content_with p slots (gstate_xor p.content.move sync_bit_delta) }
 
   abbrev pub Turned : Disk → Type 0
   Turned disk = HasTurned t.disk w p slots (gstate_xor p.content.move sync_bit_delta) disk pair_turned []
 
-  accepted : IsAcceptedImage t.disk (thread_at w (p ∷ []))
-  accepted = subst (IsAcceptedImage t.disk) k.there k.ready.accepted
+  accepted : IsAccepted t.disk (thread_at w (p ∷ []))
+  accepted = subst (IsAccepted t.disk) k.there k.ready.accepted
 
-  writable : IsWritableImage t.disk (thread_at w (p ∷ []))
-  writable = subst (IsWritableImage t.disk) k.there k.ready.writable
+  writable : IsWritable t.disk (thread_at w (p ∷ []))
+  writable = subst (IsWritable t.disk) k.there k.ready.writable
 
-  settled : gstate_of_pairs (thread_at w (p ∷ [])) ≡ zero_gstate
-  settled = ap gstate_of_pairs (sym k.there) ∙ k.ready.settled
+  settled : pairs_gstate (thread_at w (p ∷ [])) ≡ zero_gstate
+  settled = ap pairs_gstate (sym k.there) ∙ k.ready.settled
 
-  pub state_turned : gstate_of_pairs (thread_at w (pair_turned ∷ [])) ≡ sync_bit_delta
+  pub state_turned : pairs_gstate (thread_at w (pair_turned ∷ [])) ≡ sync_bit_delta
   state_turned = sync_turned w p pair_turned refl settled
 
-  pub no_move_turned : HasNoMove (gstate_of_pairs (thread_at w (pair_turned ∷ [])))
+  pub no_move_turned : HasNoMove (pairs_gstate (thread_at w (pair_turned ∷ [])))
   no_move_turned = subst HasNoMove (sym state_turned) (record { kind = refl; id = refl; pair = refl })
 
   -- the superblock stays in slot 0
   pub turn_of : IsTurn t index changes w p slots (gstate_xor p.content.move sync_bit_delta)
-  turn_of = record { accepted = k.ready.accepted; there = k.there; place = k.place; site = k.site; made = k.made; first = λ h. subst SlotsBeginWithSuperblock (sym k.now) (go l k.front (subst SlotsBeginWithSuperblock k.was (h.kind, h.name))) }
+  turn_of = record { accepted = k.ready.accepted; there = k.there; place = k.place; site = k.site; made = k.made; first = λ h. subst BeginWithSuperblock (sym k.now) (go l k.front (subst BeginWithSuperblock k.was (h.kind, h.name))) }
     where
-      go : (l : List Slot) → (l ≡ [] → starts_with_superblock (olds ++ r) ≡ false) → SlotsBeginWithSuperblock (l ++ (olds ++ r)) → SlotsBeginWithSuperblock (l ++ (news ++ r))
+      go : (l : List Slot) → (l ≡ [] → starts_superblock (olds ++ r) ≡ false) → BeginWithSuperblock (l ++ (olds ++ r)) → BeginWithSuperblock (l ++ (news ++ r))
       go [] f e = absurd (let z = sym (f refl) ∙ e.0 in cc)
       go (s ∷ l) f e = e
 
-  starts : starts_with_superblock p.content.slots ≡ true → starts_with_superblock slots ≡ true
-  starts e = ap starts_with_superblock k.now ∙ go l k.front (sym (ap starts_with_superblock k.was) ∙ e)
+  starts : starts_superblock p.content.slots ≡ true → starts_superblock slots ≡ true
+  starts e = ap starts_superblock k.now ∙ go l k.front (sym (ap starts_superblock k.was) ∙ e)
     where
-      go : (l : List Slot) → (l ≡ [] → starts_with_superblock (olds ++ r) ≡ false) → starts_with_superblock (l ++ (olds ++ r)) ≡ true → starts_with_superblock (l ++ (news ++ r)) ≡ true
+      go : (l : List Slot) → (l ≡ [] → starts_superblock (olds ++ r) ≡ false) → starts_superblock (l ++ (olds ++ r)) ≡ true → starts_superblock (l ++ (news ++ r)) ≡ true
       go [] f e = absurd (let z = sym (f refl) ∙ e in cc)
       go (s ∷ l) f e = e
 
@@ -74,15 +74,15 @@ module _ {t : KeptThread} {index : ℕ} {changes : List PairContentChange} {w : 
     was = append-nil p.content.slots ∙ k.was;
     is = append-nil slots ∙ k.now;
     splice = k.splice disk x.device.geometry
-        (subst (λ z. SameFiles t.disk disk (all_slots_not_moved z)) (sym k.there) (recursion_from_All (λ (s : Slot). HasSameFileBlocksOfStructOnDisks t.disk disk s.struct) (all_slots_not_moved (thread_at w (p ∷ []))) x.device.files));
+        (subst (λ z. SameFiles t.disk disk (all_slots_not_moved z)) (sym k.there) (recursion_from_All (λ (s : Slot). SameFileBlocks t.disk disk s.struct) (all_slots_not_moved (thread_at w (p ∷ []))) x.device.files));
   }
 
   -- where the step follows by a change of the tree
-  module _ (change : Tree → Tree) (walk : DirectoryAddressByPath → DirectoryAddressByPath)
+  module _ (change : Tree → Tree) (walk : PathAddresses → PathAddresses)
       (follows : (disk : Disk) → IsStep t.disk disk w p [] pair_turned [] [] [] l olds news r
-      → IsImageAfterTreeChange t.disk (thread_at w (p ∷ [])) disk (thread_at w (pair_turned ∷ [])) change walk) where
+      → IsChangedImage t.disk (thread_at w (p ∷ [])) disk (thread_at w (pair_turned ∷ [])) change walk) where
     pub taken_turned : (disk : Disk) → Turned disk
-        → IsWritableImageAfterTreeChange t.disk (thread_at w (p ∷ [])) disk (thread_at w (pair_turned ∷ [])) change walk
+        → IsWritableChange t.disk (thread_at w (p ∷ [])) disk (thread_at w (pair_turned ∷ [])) change walk
     taken_turned disk x = commit_taken t.disk w p pair_turned [] l olds news r
         (record {
           writable = writable;
@@ -94,10 +94,10 @@ module _ {t : KeptThread} {index : ℕ} {changes : List PairContentChange} {w : 
         })
         disk [] [] change walk (step_turned disk x) (follows disk (step_turned disk x))
 
-    pub left_turned : (left : Blocks) → PowerLossLeavesPairOldOrChanged t index changes left → IsLeftOf (disk_with_blocks left t.disk) (tree_on_disk t.disk t.pairs) (change (tree_on_disk t.disk t.pairs))
+    pub left_turned : (left : Blocks) → LossLeavesPairChanged t index changes left → IsLeftOf (with_blocks left t.disk) (tree_on_disk t.disk t.pairs) (change (tree_on_disk t.disk t.pairs))
     left_turned left is = go (left_alone t index changes w p slots (gstate_xor p.content.move sync_bit_delta) turn_of left is)
       where
-        go : IsDevice t.disk (disk_with_blocks left t.disk) (thread_at w (p ∷ [])) (thread_at w (p ∷ [])) ⊎ Turned (disk_with_blocks left t.disk)
-            → IsLeftOf (disk_with_blocks left t.disk) (tree_on_disk t.disk t.pairs) (change (tree_on_disk t.disk t.pairs))
+        go : IsDevice t.disk (with_blocks left t.disk) (thread_at w (p ∷ [])) (thread_at w (p ∷ [])) ⊎ Turned (with_blocks left t.disk)
+            → IsLeftOf (with_blocks left t.disk) (tree_on_disk t.disk t.pairs) (change (tree_on_disk t.disk t.pairs))
         go (inl on) = left_still t.disk left (thread_at w (p ∷ [])) accepted writable on (inl (ap (tree_on_disk t.disk) (sym k.there)))
-        go (inr x) = left_after (taken_turned (disk_with_blocks left t.disk) x) (inr (ap (λ z. change (tree_on_disk t.disk z)) (sym k.there)))
+        go (inr x) = left_after (taken_turned (with_blocks left t.disk) x) (inr (ap (λ z. change (tree_on_disk t.disk z)) (sym k.there)))

@@ -1,24 +1,24 @@
 -- An entry that goes while the sync bit turns, as a change of its pair.
 use Rattle.std.proofs.Common.{ℕ, ◌≡◌, ◌<◌, List, [], ◌∷◌, ◌++◌, length, Some, refl, sym, ap, ap₂, subst, ◌∙◌, arith, length-append, remove, sum_by}
 use Rattle.std.specs.Option.{option_and_then}
-use Rattle.lfs_operations.proofs.Common.{PairContent, same_Some, sum_by-append, sum_by-cons, Delete, PutMove, raw_pair_content_after_changes, RawPairContent, pair_content_if_slots_complete, raw_content_of_pair_at, AreMoveStateFieldsWithinBitWidths, IsContentFittingPair, Gstate, Slot, gstate_xor, slot_size, Pair, complete_length, complete_remove, completed_from, completed_parts, deletes, does_first, does_nothing, puts_move, sync_bit_delta, remove_here, KeptThread, CanChangePair, IsCommitRefused, complete_content_after_changes, thread_pair_at_index}
-use Rattle.lfs_operations.specs.Editing.{CanEditEntryOfPair}
-use Rattle.lfs_operations.specs.Unlinking.{directory_unlink_changes}
+use Rattle.lfs_operations.proofs.Common.{PairContent, same_Some, sum_by-append, sum_by-cons, Delete, PutMove, changed_content_of, RawContent, complete_content, raw_content, MoveStateFits, FitsInPair, Gstate, Slot, gstate_xor, slot_size, Pair, complete_length, complete_remove, completed_from, completed_parts, deletes, does_first, does_nothing, puts_move, sync_bit_delta, remove_here, KeptThread, CanChangePair, RefusesCommit, complete_after, thread_pair_at}
+use Rattle.lfs_operations.specs.Editing.{CanEditIn}
+use Rattle.lfs_operations.specs.Unlinking.{unlink_changes}
 use Rattle.lfs_operations.proofs.DroppedTails.{move_xor}
 use Rattle.lfs_operations.proofs.Held.{CompletesTo, below, fits_there, here, raw_there}
 
 -- what the entry's pair holds without it; the pair's delta turns the sync bit
-abbrev pub content_without_directory_entry : KeptThread → ℕ → ℕ → PairContent
-content_without_directory_entry t pair id = record {
-  slots = remove (thread_pair_at_index t pair).content.slots id;
-  tail = (thread_pair_at_index t pair).content.tail;
-  move = gstate_xor (thread_pair_at_index t pair).content.move sync_bit_delta;
+abbrev pub content_without_entry : KeptThread → ℕ → ℕ → PairContent
+content_without_entry t pair id = record {
+  slots = remove (thread_pair_at t pair).content.slots id;
+  tail = (thread_pair_at t pair).content.tail;
+  move = gstate_xor (thread_pair_at t pair).content.move sync_bit_delta;
 }
 
-sync_small : AreMoveStateFieldsWithinBitWidths sync_bit_delta
+sync_small : MoveStateFits sync_bit_delta
 sync_small = record { kind = omega arith; id = omega arith; pair = (omega arith, omega arith) }
 
-module _ (t : KeptThread) (index id : ℕ) (can : CanEditEntryOfPair t index id) where
+module _ (t : KeptThread) (index id : ℕ) (can : CanEditIn t index id) where
   abbrev l : List Slot
   l = can.stands.stands.left
 
@@ -28,61 +28,61 @@ module _ (t : KeptThread) (index id : ℕ) (can : CanEditEntryOfPair t index id)
   abbrev u : Slot
   u = can.stands.stands.slot
 
-  pub pair_there : thread_pair_at_index t index ≡ can.stands.pair
+  pub pair_there : thread_pair_at t index ≡ can.stands.pair
   pair_there = here t can.ready can.first index can.stands.pair can.stands.rest can.stands.place
 
-  pub held_there : (thread_pair_at_index t index).content.slots ≡ l ++ u ∷ r
+  pub held_there : (thread_pair_at t index).content.slots ≡ l ++ u ∷ r
   held_there = ap (λ (z : Pair). z.content.slots) pair_there ∙ can.stands.stands.held
 
-  pub slots_gone : remove (thread_pair_at_index t index).content.slots id ≡ l ++ r
+  pub slots_gone : remove (thread_pair_at t index).content.slots id ≡ l ++ r
   slots_gone = ap₂ (λ (z : List Slot) (i : ℕ). remove z i) held_there (sym can.stands.stands.number) ∙ remove_here l r u
 
-  within : id < length (thread_pair_at_index t index).content.slots
+  within : id < length (thread_pair_at t index).content.slots
   within = let h = ap length held_there in let k = length-append l (u ∷ r) in let n = can.stands.stands.number in omega arith
 
-  fits_held : IsContentFittingPair t.disk.block_size t.disk.page (thread_pair_at_index t index).content
-  fits_held = subst (λ (z : Pair). IsContentFittingPair t.disk.block_size t.disk.page z.content) (sym pair_there) (fits_there t can.ready can.first index can.stands.pair can.stands.rest can.stands.place)
+  fits_held : FitsInPair t.disk.block_size t.disk.page (thread_pair_at t index).content
+  fits_held = subst (λ (z : Pair). FitsInPair t.disk.block_size t.disk.page z.content) (sym pair_there) (fits_there t can.ready can.first index can.stands.pair can.stands.rest can.stands.place)
 
-  c : CompletesTo (raw_content_of_pair_at t.disk (thread_pair_at_index t index).at) (thread_pair_at_index t index).content
-  c = subst (λ (z : Pair). CompletesTo (raw_content_of_pair_at t.disk (thread_pair_at_index t index).at) z.content) (sym pair_there) (raw_there t can.ready can.first index can.stands.pair can.stands.rest can.stands.place)
+  c : CompletesTo (raw_content t.disk (thread_pair_at t index).at) (thread_pair_at t index).content
+  c = subst (λ (z : Pair). CompletesTo (raw_content t.disk (thread_pair_at t index).at) z.content) (sym pair_there) (raw_there t can.ready can.first index can.stands.pair can.stands.rest can.stands.place)
 
   abbrev delta : Gstate
-  delta = gstate_xor (thread_pair_at_index t index).content.move sync_bit_delta
+  delta = gstate_xor (thread_pair_at t index).content.move sync_bit_delta
 
-  small : AreMoveStateFieldsWithinBitWidths delta
+  small : MoveStateFits delta
   small =
-      let parts = completed_parts c.raw (thread_pair_at_index t index).content c.complete in
-      move_xor (thread_pair_at_index t index).content.move sync_bit_delta (subst AreMoveStateFieldsWithinBitWidths (sym parts.move) (can.logged c.raw c.is).move) sync_small
+      let parts = completed_parts c.raw (thread_pair_at t index).content c.complete in
+      move_xor (thread_pair_at t index).content.move sync_bit_delta (subst MoveStateFits (sym parts.move) (can.logged c.raw c.is).move) sync_small
 
-  abbrev raw_now : RawPairContent
+  abbrev raw_now : RawContent
   raw_now = record { slots = remove c.raw.slots id; tail = c.raw.tail; move = delta }
 
-  changed_now : raw_pair_content_after_changes c.raw (directory_unlink_changes t index id) ≡ Some raw_now
+  changed_now : changed_content_of c.raw (unlink_changes t index id) ≡ Some raw_now
   changed_now =
       let few = fits_held.count in
-      let n = complete_length c.raw.slots (thread_pair_at_index t index).content.slots (completed_parts c.raw (thread_pair_at_index t index).content c.complete).slots in
+      let n = complete_length c.raw.slots (thread_pair_at t index).content.slots (completed_parts c.raw (thread_pair_at t index).content c.complete).slots in
       let m = within in
-      let middle : RawPairContent = record c.raw { slots = remove c.raw.slots id } in
+      let middle : RawContent = record c.raw { slots = remove c.raw.slots id } in
       does_first (Delete id) (PutMove delta ∷ []) c.raw middle raw_now (deletes c.raw id (omega arith) (omega arith))
       (does_first (PutMove delta) [] middle raw_now raw_now (puts_move middle delta small) (does_nothing raw_now))
 
-  pub unlink_made : complete_content_after_changes t index (directory_unlink_changes t index id) ≡ Some (content_without_directory_entry t index id)
+  pub unlink_made : complete_after t index (unlink_changes t index id) ≡ Some (content_without_entry t index id)
   unlink_made =
-      let parts = completed_parts c.raw (thread_pair_at_index t index).content c.complete in
-      ap (λ o. option_and_then pair_content_if_slots_complete (option_and_then (λ (x : RawPairContent). raw_pair_content_after_changes x (directory_unlink_changes t index id)) o)) c.is
-      ∙ ap (λ o. option_and_then pair_content_if_slots_complete o) changed_now
-      ∙ completed_from raw_now (remove (thread_pair_at_index t index).content.slots id) (complete_remove c.raw.slots (thread_pair_at_index t index).content.slots id parts.slots)
-      ∙ ap (λ z. Some (record { slots = remove (thread_pair_at_index t index).content.slots id; tail = z; move = delta })) (sym parts.tail)
+      let parts = completed_parts c.raw (thread_pair_at t index).content c.complete in
+      ap (λ o. option_and_then complete_content (option_and_then (λ (x : RawContent). changed_content_of x (unlink_changes t index id)) o)) c.is
+      ∙ ap (λ o. option_and_then complete_content o) changed_now
+      ∙ completed_from raw_now (remove (thread_pair_at t index).content.slots id) (complete_remove c.raw.slots (thread_pair_at t index).content.slots id parts.slots)
+      ∙ ap (λ z. Some (record { slots = remove (thread_pair_at t index).content.slots id; tail = z; move = delta })) (sym parts.tail)
 
-  pub can_unlink : CanChangePair t index (directory_unlink_changes t index id)
+  pub can_unlink : CanChangePair t index (unlink_changes t index id)
   can_unlink = record {
     below = below t can.ready can.first index can.stands.pair can.stands.rest can.stands.place;
-    content = content_without_directory_entry t index id;
+    content = content_without_entry t index id;
     made = unlink_made;
     next = refl;
   }
 
-  pub fits_gone : IsContentFittingPair t.disk.block_size t.disk.page (content_without_directory_entry t index id)
+  pub fits_gone : FitsInPair t.disk.block_size t.disk.page (content_without_entry t index id)
   fits_gone =
       let a = ap (sum_by slot_size) held_there in
       let b = sum_by-append slot_size l (u ∷ r) in
@@ -97,5 +97,5 @@ module _ (t : KeptThread) (index id : ℕ) (can : CanEditEntryOfPair t index id)
       let n = fits_held.count in
       record { size = omega arith; count = omega arith }
 
-  pub unlink_not_refused : (new : KeptThread) → IsCommitRefused t index (directory_unlink_changes t index id) new → ⊥
-  unlink_not_refused new is = is.too_large (subst (IsContentFittingPair t.disk.block_size t.disk.page) (same_Some (content_without_directory_entry t index id) is.content (sym unlink_made ∙ is.made)) fits_gone)
+  pub unlink_not_refused : (new : KeptThread) → RefusesCommit t index (unlink_changes t index id) new → ⊥
+  unlink_not_refused new is = is.too_large (subst (FitsInPair t.disk.block_size t.disk.page) (same_Some (content_without_entry t index id) is.content (sym unlink_made ∙ is.made)) fits_gone)

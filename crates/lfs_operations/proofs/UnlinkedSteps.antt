@@ -1,11 +1,11 @@
 -- Two steps of the thread, one after the other: what they write and tell, and what a stop in them leaves.
 use Rattle.std.proofs.Common.{◌⊎◌, ℕ, zero, suc, ◌≡◌, ◌≢◌, ◌-◌, ◌<◌, Result, Ok, List, [], ◌∷◌, get_or, set, refl, sym, ap, subst, ◌∙◌, true, false, cond, inl, inr}
 use Rattle.std.specs.Prelude.{All}
-use Rattle.lfs_operations.proofs.Common.{IsPairChanged, PowerLossLeavesPairOldOrChanged, PairContentChange, All-from_recursion, recursion_from_All, DeviceCallEvent, fault_count_of_history, SurvivesPowerLossInCallsSince, PairContent, zero_gstate, Pair, blocks_of_pair_address, blocks_of_two_pair_addresses, tree_on_disk, IsTrueOfEachCallSince-behind, IsTrueOfEachCallSince-until, IsTrueAfterAnyPowerLossSince-trans, IsTrueAfterAnyPowerLossSince-weaker, PowerLossLeavesSuchBlocksAfterCleanErases, KeptThread, ThreadView, ThreadChangesOnlyTheseBlocks, empty_pair_at_anchor, thread_pair_at_index, sync_bit_delta}
+use Rattle.lfs_operations.proofs.Common.{IsPairCommitted, LossLeavesPairChanged, PairChange, All-from_recursion, recursion_from_All, CallEvent, fault_count, SurvivesLossSince, PairContent, zero_gstate, Pair, address_blocks, addresses_blocks, tree_on_disk, AllCallsSince-behind, AllCallsSince-until, HoldsAtLosses-trans, HoldsAtLosses-weaker, LossLeavesCleanly, KeptThread, ThreadView, ChangesThreadBlocks, empty_anchor, thread_pair_at, sync_bit_delta}
 use Rattle.lfs_device.specs.declared.error.Error.{Error}
-use Rattle.lfs_operations.specs.Dropping.{IsNextPairDropped, IsLeftByStoppedPairDrop}
-use Rattle.lfs_operations.specs.Removing.{ReportsErrorsOfCommitTakingNoBlock, is_pair_dropped_with_slot, tree_without_named_entry, pair_address_written_by_removal}
-use Rattle.lfs_operations.specs.Unlinking.{CanRemoveDirectory, directory_unlink_changes, ReportsErrorsOfCommitsTakingNoBlock, pair_number_after_drop}
+use Rattle.lfs_operations.specs.Dropping.{IsPairDropped, LeftByDrop}
+use Rattle.lfs_operations.specs.Removing.{ReportsErrorsOfCommitTakingNoBlock, drops_with_its_slot, tree_without_entry, written_by_removal}
+use Rattle.lfs_operations.specs.Unlinking.{CanRemoveDirectory, unlink_changes, ReportsErrorsOfCommitsTakingNoBlock, number_after_drop}
 use Rattle.lfs_operations.proofs.Putting.{writes_trans, writes_wider}
 use Rattle.lfs_operations.proofs.RemovedWhole.{StandsWhole}
 use Rattle.lfs_operations.proofs.RmdirThread.{left_first, left_second}
@@ -13,17 +13,17 @@ use Rattle.lfs_operations.proofs.UnlinkedWhole.{whole_first, whole_second, writt
 
 -- ---- blocks
 
-first_two : (a b : ℕ × ℕ) (x : ℕ) → All (λ c. c ≢ x) (blocks_of_two_pair_addresses a b) → All (λ c. c ≢ x) (blocks_of_pair_address a)
-first_two a b x h = let k = recursion_from_All (λ (c : ℕ). c ≢ x) (blocks_of_two_pair_addresses a b) h in All-from_recursion (λ c. c ≢ x) (blocks_of_pair_address a) (k.0, (k.1.0, tt))
+first_two : (a b : ℕ × ℕ) (x : ℕ) → All (λ c. c ≢ x) (addresses_blocks a b) → All (λ c. c ≢ x) (address_blocks a)
+first_two a b x h = let k = recursion_from_All (λ (c : ℕ). c ≢ x) (addresses_blocks a b) h in All-from_recursion (λ c. c ≢ x) (address_blocks a) (k.0, (k.1.0, tt))
 
-last_two : (a b : ℕ × ℕ) (x : ℕ) → All (λ c. c ≢ x) (blocks_of_two_pair_addresses a b) → All (λ c. c ≢ x) (blocks_of_pair_address b)
-last_two a b x h = let k = recursion_from_All (λ (c : ℕ). c ≢ x) (blocks_of_two_pair_addresses a b) h in All-from_recursion (λ c. c ≢ x) (blocks_of_pair_address b) (k.1.1.0, (k.1.1.1.0, tt))
+last_two : (a b : ℕ × ℕ) (x : ℕ) → All (λ c. c ≢ x) (addresses_blocks a b) → All (λ c. c ≢ x) (address_blocks b)
+last_two a b x h = let k = recursion_from_All (λ (c : ℕ). c ≢ x) (addresses_blocks a b) h in All-from_recursion (λ c. c ≢ x) (address_blocks b) (k.1.1.0, (k.1.1.1.0, tt))
 
-pub writes_first : (a b : ℕ × ℕ) {old new : KeptThread} → ThreadChangesOnlyTheseBlocks (blocks_of_pair_address a) old new → ThreadChangesOnlyTheseBlocks (blocks_of_two_pair_addresses a b) old new
-writes_first a b h = writes_wider (blocks_of_two_pair_addresses a b) (first_two a b) h
+pub writes_first : (a b : ℕ × ℕ) {old new : KeptThread} → ChangesThreadBlocks (address_blocks a) old new → ChangesThreadBlocks (addresses_blocks a b) old new
+writes_first a b h = writes_wider (addresses_blocks a b) (first_two a b) h
 
-pub writes_both : (a b : ℕ × ℕ) {old mid new : KeptThread} → ThreadChangesOnlyTheseBlocks (blocks_of_pair_address a) old mid → ThreadChangesOnlyTheseBlocks (blocks_of_pair_address b) mid new → ThreadChangesOnlyTheseBlocks (blocks_of_two_pair_addresses a b) old new
-writes_both a b first second = writes_trans (writes_first a b first) (writes_wider (blocks_of_two_pair_addresses a b) (last_two a b) second)
+pub writes_both : (a b : ℕ × ℕ) {old mid new : KeptThread} → ChangesThreadBlocks (address_blocks a) old mid → ChangesThreadBlocks (address_blocks b) mid new → ChangesThreadBlocks (addresses_blocks a b) old new
+writes_both a b first second = writes_trans (writes_first a b first) (writes_wider (addresses_blocks a b) (last_two a b) second)
 
 -- a change leaves each pair where it is
 pub at_kept : (xs : List Pair) (n k : ℕ) (c : PairContent) (d : Pair) → (get_or (set xs n (record { at = (get_or xs n d).at; content = c })) k d).at ≡ (get_or xs k d).at
@@ -33,13 +33,13 @@ at_kept (x ∷ xs) zero (suc k) c d = refl
 at_kept (x ∷ xs) (suc n) zero c d = refl
 at_kept (x ∷ xs) (suc n) (suc k) c d = at_kept xs n k c d
 
-pub at_there : (t m : KeptThread) (index k : ℕ) (changes : List PairContentChange) → IsPairChanged t index changes m → (thread_pair_at_index m k).at ≡ (thread_pair_at_index t k).at
-at_there t m index k changes h = ap (λ (z : List Pair). (get_or z k empty_pair_at_anchor).at) h.pairs ∙ at_kept t.pairs index k h.content empty_pair_at_anchor
+pub at_there : (t m : KeptThread) (index k : ℕ) (changes : List PairChange) → IsPairCommitted t index changes m → (thread_pair_at m k).at ≡ (thread_pair_at t k).at
+at_there t m index k changes h = ap (λ (z : List Pair). (get_or z k empty_anchor).at) h.pairs ∙ at_kept t.pairs index k h.content empty_anchor
 
-pub writes_two : (t m new : KeptThread) (index gone : ℕ) (changes : List PairContentChange) → IsPairChanged t index changes m → ThreadChangesOnlyTheseBlocks (blocks_of_pair_address (thread_pair_at_index t index).at) t m
-    → ThreadChangesOnlyTheseBlocks (blocks_of_pair_address (thread_pair_at_index m (gone - 1)).at) m new → ThreadChangesOnlyTheseBlocks (blocks_of_two_pair_addresses (thread_pair_at_index t index).at (thread_pair_at_index t (gone - 1)).at) t new
+pub writes_two : (t m new : KeptThread) (index gone : ℕ) (changes : List PairChange) → IsPairCommitted t index changes m → ChangesThreadBlocks (address_blocks (thread_pair_at t index).at) t m
+    → ChangesThreadBlocks (address_blocks (thread_pair_at m (gone - 1)).at) m new → ChangesThreadBlocks (addresses_blocks (thread_pair_at t index).at (thread_pair_at t (gone - 1)).at) t new
 writes_two t m new index gone changes h first second =
-    writes_both (thread_pair_at_index t index).at (thread_pair_at_index t (gone - 1)).at first (subst (λ at. ThreadChangesOnlyTheseBlocks (blocks_of_pair_address at) m new) (at_there t m index (gone - 1) changes h) second)
+    writes_both (thread_pair_at t index).at (thread_pair_at t (gone - 1)).at first (subst (λ at. ChangesThreadBlocks (address_blocks at) m new) (at_there t m index (gone - 1) changes h) second)
 
 -- ---- what they tell
 
@@ -48,49 +48,49 @@ steps_from old new result h = record { failed = h.failed; errors = h.reported.er
 
 pub steps_then : {X Y : Type 0} (old mid new : ThreadView) (a : X) (first : Result X Error) (second : Result Y Error) → first ≡ Ok a → ReportsErrorsOfCommitTakingNoBlock old mid first → ReportsErrorsOfCommitTakingNoBlock mid new second → ReportsErrorsOfCommitsTakingNoBlock old new second
 steps_then old mid new a first second ok one two =
-    let same : fault_count_of_history mid.kept.history ≡ fault_count_of_history old.kept.history = one.reported.no_fault (λ io. absurd (let z = sym ok ∙ io in cc)) in
+    let same : fault_count mid.kept.history ≡ fault_count old.kept.history = one.reported.no_fault (λ io. absurd (let z = sym ok ∙ io in cc)) in
     record {
       failed = two.failed;
       errors = two.reported.errors;
-      fault = λ io. subst (λ n. n < fault_count_of_history new.kept.history) same (two.reported.fault io);
+      fault = λ io. subst (λ n. n < fault_count new.kept.history) same (two.reported.fault io);
       no_fault = λ other. two.reported.no_fault other ∙ same;
     }
 
 -- ---- at a stop
 
 module _ (t : KeptThread) (index id first gone : ℕ) (take : CanRemoveDirectory t index id first gone) where
-  module _ (goes : is_pair_dropped_with_slot t index first ≡ false) where
-    pub first_survives : (new : List DeviceCallEvent) → PowerLossLeavesSuchBlocksAfterCleanErases t.history new (PowerLossLeavesPairOldOrChanged t index (directory_unlink_changes t index id)) → SurvivesPowerLossInCallsSince t.disk t.history new (tree_on_disk t.disk t.pairs) (tree_without_named_entry t take.can.path take.can.name)
-    first_survives new stops clean = IsTrueAfterAnyPowerLossSince-weaker (left_first t index id first gone take goes) (stops clean)
+  module _ (goes : drops_with_its_slot t index first ≡ false) where
+    pub first_survives : (new : List CallEvent) → LossLeavesCleanly t.history new (LossLeavesPairChanged t index (unlink_changes t index id)) → SurvivesLossSince t.disk t.history new (tree_on_disk t.disk t.pairs) (tree_without_entry t take.can.path take.can.name)
+    first_survives new stops clean = HoldsAtLosses-weaker (left_first t index id first gone take goes) (stops clean)
 
-    pub both_survive : (m new : KeptThread) (bs cs : List ℕ) → IsPairChanged t index (directory_unlink_changes t index id) m → ThreadChangesOnlyTheseBlocks bs t m → ThreadChangesOnlyTheseBlocks cs m new → PowerLossLeavesSuchBlocksAfterCleanErases t.history m.history (PowerLossLeavesPairOldOrChanged t index (directory_unlink_changes t index id))
-        → PowerLossLeavesSuchBlocksAfterCleanErases m.history new.history (IsLeftByStoppedPairDrop m (gone - 1) zero_gstate) → SurvivesPowerLossInCallsSince t.disk t.history new.history (tree_on_disk t.disk t.pairs) (tree_without_named_entry t take.can.path take.can.name)
-    both_survive m new bs cs h one two before after clean = IsTrueAfterAnyPowerLossSince-trans
-        (IsTrueAfterAnyPowerLossSince-weaker (left_first t index id first gone take goes) (before (IsTrueOfEachCallSince-until clean one.at_worst two.at_worst)))
-        (IsTrueAfterAnyPowerLossSince-weaker (left_second t index id first gone take goes m h) (after (IsTrueOfEachCallSince-behind clean one.at_worst two.at_worst)))
+    pub both_survive : (m new : KeptThread) (bs cs : List ℕ) → IsPairCommitted t index (unlink_changes t index id) m → ChangesThreadBlocks bs t m → ChangesThreadBlocks cs m new → LossLeavesCleanly t.history m.history (LossLeavesPairChanged t index (unlink_changes t index id))
+        → LossLeavesCleanly m.history new.history (LeftByDrop m (gone - 1) zero_gstate) → SurvivesLossSince t.disk t.history new.history (tree_on_disk t.disk t.pairs) (tree_without_entry t take.can.path take.can.name)
+    both_survive m new bs cs h one two before after clean = HoldsAtLosses-trans
+        (HoldsAtLosses-weaker (left_first t index id first gone take goes) (before (AllCallsSince-until clean one.at_worst two.at_worst)))
+        (HoldsAtLosses-weaker (left_second t index id first gone take goes m h) (after (AllCallsSince-behind clean one.at_worst two.at_worst)))
 
   module _ (s : StandsWhole t index id take.can) where
-    pub first_survives_whole : (new : List DeviceCallEvent) → PowerLossLeavesSuchBlocksAfterCleanErases t.history new (IsLeftByStoppedPairDrop t (index - 1) sync_bit_delta) → SurvivesPowerLossInCallsSince t.disk t.history new (tree_on_disk t.disk t.pairs) (tree_without_named_entry t take.can.path take.can.name)
-    first_survives_whole new stops clean = IsTrueAfterAnyPowerLossSince-weaker (whole_first t index id first gone take s) (stops clean)
+    pub first_survives_whole : (new : List CallEvent) → LossLeavesCleanly t.history new (LeftByDrop t (index - 1) sync_bit_delta) → SurvivesLossSince t.disk t.history new (tree_on_disk t.disk t.pairs) (tree_without_entry t take.can.path take.can.name)
+    first_survives_whole new stops clean = HoldsAtLosses-weaker (whole_first t index id first gone take s) (stops clean)
 
-    pub both_survive_whole : (m new : KeptThread) (bs cs : List ℕ) → IsNextPairDropped t (index - 1) sync_bit_delta m → ThreadChangesOnlyTheseBlocks bs t m → ThreadChangesOnlyTheseBlocks cs m new → PowerLossLeavesSuchBlocksAfterCleanErases t.history m.history (IsLeftByStoppedPairDrop t (index - 1) sync_bit_delta)
-        → PowerLossLeavesSuchBlocksAfterCleanErases m.history new.history (IsLeftByStoppedPairDrop m (pair_number_after_drop index gone - 1) zero_gstate) → SurvivesPowerLossInCallsSince t.disk t.history new.history (tree_on_disk t.disk t.pairs) (tree_without_named_entry t take.can.path take.can.name)
-    both_survive_whole m new bs cs h one two before after clean = IsTrueAfterAnyPowerLossSince-trans
-        (IsTrueAfterAnyPowerLossSince-weaker (whole_first t index id first gone take s) (before (IsTrueOfEachCallSince-until clean one.at_worst two.at_worst)))
-        (IsTrueAfterAnyPowerLossSince-weaker (whole_second t index id first gone take s m h) (after (IsTrueOfEachCallSince-behind clean one.at_worst two.at_worst)))
+    pub both_survive_whole : (m new : KeptThread) (bs cs : List ℕ) → IsPairDropped t (index - 1) sync_bit_delta m → ChangesThreadBlocks bs t m → ChangesThreadBlocks cs m new → LossLeavesCleanly t.history m.history (LeftByDrop t (index - 1) sync_bit_delta)
+        → LossLeavesCleanly m.history new.history (LeftByDrop m (number_after_drop index gone - 1) zero_gstate) → SurvivesLossSince t.disk t.history new.history (tree_on_disk t.disk t.pairs) (tree_without_entry t take.can.path take.can.name)
+    both_survive_whole m new bs cs h one two before after clean = HoldsAtLosses-trans
+        (HoldsAtLosses-weaker (whole_first t index id first gone take s) (before (AllCallsSince-until clean one.at_worst two.at_worst)))
+        (HoldsAtLosses-weaker (whole_second t index id first gone take s m h) (after (AllCallsSince-behind clean one.at_worst two.at_worst)))
 
-    pub writes_whole : (m new : KeptThread) → IsNextPairDropped t (index - 1) sync_bit_delta m → ThreadChangesOnlyTheseBlocks (blocks_of_pair_address (thread_pair_at_index t (index - 1)).at) t m → ThreadChangesOnlyTheseBlocks (blocks_of_pair_address (thread_pair_at_index m (pair_number_after_drop index gone - 1)).at) m new
-        → ThreadChangesOnlyTheseBlocks (blocks_of_two_pair_addresses (thread_pair_at_index t (index - 1)).at (thread_pair_at_index t (gone - 1)).at) t new
+    pub writes_whole : (m new : KeptThread) → IsPairDropped t (index - 1) sync_bit_delta m → ChangesThreadBlocks (address_blocks (thread_pair_at t (index - 1)).at) t m → ChangesThreadBlocks (address_blocks (thread_pair_at m (number_after_drop index gone - 1)).at) m new
+        → ChangesThreadBlocks (addresses_blocks (thread_pair_at t (index - 1)).at (thread_pair_at t (gone - 1)).at) t new
     writes_whole m new h one two = go (written_then t index id first gone take s m h)
       where
-        go : ((thread_pair_at_index m (pair_number_after_drop index gone - 1)).at ≡ (thread_pair_at_index t (gone - 1)).at) ⊎ ((thread_pair_at_index m (pair_number_after_drop index gone - 1)).at ≡ (thread_pair_at_index t (index - 1)).at)
-            → ThreadChangesOnlyTheseBlocks (blocks_of_two_pair_addresses (thread_pair_at_index t (index - 1)).at (thread_pair_at_index t (gone - 1)).at) t new
-        go (inl e) = writes_both (thread_pair_at_index t (index - 1)).at (thread_pair_at_index t (gone - 1)).at one (subst (λ at. ThreadChangesOnlyTheseBlocks (blocks_of_pair_address at) m new) e two)
-        go (inr e) = writes_first (thread_pair_at_index t (index - 1)).at (thread_pair_at_index t (gone - 1)).at (writes_trans one (subst (λ at. ThreadChangesOnlyTheseBlocks (blocks_of_pair_address at) m new) e two))
+        go : ((thread_pair_at m (number_after_drop index gone - 1)).at ≡ (thread_pair_at t (gone - 1)).at) ⊎ ((thread_pair_at m (number_after_drop index gone - 1)).at ≡ (thread_pair_at t (index - 1)).at)
+            → ChangesThreadBlocks (addresses_blocks (thread_pair_at t (index - 1)).at (thread_pair_at t (gone - 1)).at) t new
+        go (inl e) = writes_both (thread_pair_at t (index - 1)).at (thread_pair_at t (gone - 1)).at one (subst (λ at. ChangesThreadBlocks (address_blocks at) m new) e two)
+        go (inr e) = writes_first (thread_pair_at t (index - 1)).at (thread_pair_at t (gone - 1)).at (writes_trans one (subst (λ at. ChangesThreadBlocks (address_blocks at) m new) e two))
 
 -- which pair the first step writes
-pub written_beside : (t : KeptThread) (index first : ℕ) → is_pair_dropped_with_slot t index first ≡ false → pair_address_written_by_removal t index first ≡ (thread_pair_at_index t index).at
-written_beside t index first goes = ap (λ b. cond b (thread_pair_at_index t (index - 1)).at (thread_pair_at_index t index).at) goes
+pub written_beside : (t : KeptThread) (index first : ℕ) → drops_with_its_slot t index first ≡ false → written_by_removal t index first ≡ (thread_pair_at t index).at
+written_beside t index first goes = ap (λ b. cond b (thread_pair_at t (index - 1)).at (thread_pair_at t index).at) goes
 
-pub written_whole : (t : KeptThread) (index first : ℕ) → is_pair_dropped_with_slot t index first ≡ true → pair_address_written_by_removal t index first ≡ (thread_pair_at_index t (index - 1)).at
-written_whole t index first goes = ap (λ b. cond b (thread_pair_at_index t (index - 1)).at (thread_pair_at_index t index).at) goes
+pub written_whole : (t : KeptThread) (index first : ℕ) → drops_with_its_slot t index first ≡ true → written_by_removal t index first ≡ (thread_pair_at t (index - 1)).at
+written_whole t index first goes = ap (λ b. cond b (thread_pair_at t (index - 1)).at (thread_pair_at t index).at) goes

@@ -2,13 +2,13 @@
 use Rattle.std.proofs.Common.{ℕ, ◌≡◌, ◌⊎◌, inl, inr, ◌+◌, ◌-◌, ◌<◌, ◌≤◌, Bool, true, false, cond, List, [], ◌∷◌, ◌++◌, length, refl, sym, ap, ap₂, subst, ◌∙◌, arith, append_assoc, append-nil, length-append, None}
 use Rattle.std.specs.Prelude.{nat_lt}
 use Rattle.std.proofs.lemmas.Bool.{ltb-false, ltb-true}
-use Rattle.lfs_operations.proofs.Common.{tree_after_removal, tree_after_subtree_replacement, Blocks, Disk, HasTreeBeforeOrAfterOperation as IsLeftOf, disk_with_blocks, PairContent, Gstate, Slot, zero_gstate, Pair, gstate_of_pairs, starts_with_superblock, pair_count_before_root, Path, IsAcceptedImage, IsWritableImage, IsPathToDirectory, tree_on_disk, used_blocks, IsImageAfterCompletedOperation, no_move_from, occurrence_count_of_number, HasNoMove, sync_bit_delta, IsStep, directory_goes, step_chain, Site, dirs_at, thread_at, drop_shape, file_blocks_of_slots, IsWritableImageAfterTreeChange, KeptThread, IsPairWrittenOnDisk, thread_pair_at_index, IsChain}
-use Rattle.lfs_model.specs.Operations as ops
+use Rattle.lfs_operations.proofs.Common.{tree_removing, tree_with_subtree, Blocks, Disk, HasEither as IsLeftOf, with_blocks, PairContent, Gstate, Slot, zero_gstate, Pair, pairs_gstate, starts_superblock, pair_count_before_root, Path, IsAccepted, IsWritable, LeadsTo, tree_on_disk, used_blocks, IsCompletion, no_move_from, number_count, HasNoMove, sync_bit_delta, IsStep, directory_goes, step_chain, Site, dirs_at, thread_at, drop_shape, file_blocks, IsWritableChange, KeptThread, IsPairWritten, thread_pair_at, IsChain}
+use Rattle.lfs_model.specs.session.Operations as ops
 use Rattle.lfs_model.proofs.StepsTaken.{drop_taken}
-use Rattle.lfs_operations.specs.Dropping.{CanDropPairAt, IsNextPairDropped, IsLeftByStoppedPairDrop, content_after_next_pair_drop, ShowsTreeAfterPairDrops}
-use Rattle.lfs_operations.specs.Editing.{CanEditEntryOfPair}
-use Rattle.lfs_operations.specs.Removing.{tree_without_named_entry}
-use Rattle.lfs_operations.specs.Unlinking.{CanRemoveDirectory, IsDirectoryRemoved, pair_number_after_drop}
+use Rattle.lfs_operations.specs.Dropping.{CanDropAt, IsPairDropped, LeftByDrop, content_after_drop, ShowsAfterDrops}
+use Rattle.lfs_operations.specs.Editing.{CanEditIn}
+use Rattle.lfs_operations.specs.Removing.{tree_without_entry}
+use Rattle.lfs_operations.specs.Unlinking.{CanRemoveDirectory, IsDirectoryRemoved, number_after_drop}
 use Rattle.lfs_operations.proofs.Dropped.{HasMapWithout, IsToBeDropped, can_drop_pair, device_left, front_there, left_dropped, map_dropped, pairs_left, slots_left, state_left, tail_left}
 use Rattle.lfs_operations.proofs.DroppedTails.{front_is}
 use Rattle.lfs_operations.proofs.Placing.{left_after}
@@ -18,7 +18,7 @@ use Rattle.lfs_operations.proofs.RmdirWhole.{HasPlaceWhole, UnlinksWhole, place_
 use Rattle.lfs_operations.proofs.LastDrop.{IsAllButDropped, is_gone, left_last, pairs_end, shows_dropped, x_there, y}
 
 module _ (t : KeptThread) (index id first gone : ℕ) (take : CanRemoveDirectory t index id first gone) (s : StandsWhole t index id take.can) where
-  abbrev can : CanEditEntryOfPair t index id
+  abbrev can : CanEditIn t index id
   can = take.can
 
   abbrev e : Pair
@@ -28,7 +28,7 @@ module _ (t : KeptThread) (index id first gone : ℕ) (take : CanRemoveDirectory
   u = can.stands.stands.slot
 
   abbrev o : Pair
-  o = thread_pair_at_index t gone
+  o = thread_pair_at t gone
 
   abbrev w : Site
   w = s.w
@@ -42,17 +42,17 @@ module _ (t : KeptThread) (index id first gone : ℕ) (take : CanRemoveDirectory
   abbrev path_there : Path
   path_there = can.path ++ u.name ∷ []
 
-  accepted : IsAcceptedImage t.disk old
-  accepted = subst (IsAcceptedImage t.disk) s.there can.ready.accepted
+  accepted : IsAccepted t.disk old
+  accepted = subst (IsAccepted t.disk) s.there can.ready.accepted
 
-  writable : IsWritableImage t.disk old
-  writable = subst (IsWritableImage t.disk) s.there can.ready.writable
+  writable : IsWritable t.disk old
+  writable = subst (IsWritable t.disk) s.there can.ready.writable
 
-  settled : gstate_of_pairs old ≡ zero_gstate
-  settled = ap gstate_of_pairs (sym s.there) ∙ can.ready.settled
+  settled : pairs_gstate old ≡ zero_gstate
+  settled = ap pairs_gstate (sym s.there) ∙ can.ready.settled
 
-  leads : IsPathToDirectory old can.path can.at
-  leads = subst (λ z. IsPathToDirectory z can.path can.at) s.there can.leads
+  leads : LeadsTo old can.path can.at
+  leads = subst (λ z. LeadsTo z can.path can.at) s.there can.leads
 
   -- ---- the pair that goes
 
@@ -71,11 +71,11 @@ module _ (t : KeptThread) (index id first gone : ℕ) (take : CanRemoveDirectory
   dropping : IsToBeDropped t index sync_bit_delta w x0 e
   dropping = record { accepted = can.ready.accepted; writable = can.ready.writable; storable = record { kind = omega arith; id = omega arith; pair = (omega arith, omega arith) }; there = s.there; number = s.number }
 
-  pub can_drop_entry : CanDropPairAt t index sync_bit_delta
+  pub can_drop_entry : CanDropAt t index sync_bit_delta
   can_drop_entry = can_drop_pair dropping
 
   abbrev c : PairContent
-  c = content_after_next_pair_drop t (index - 1) sync_bit_delta
+  c = content_after_drop t (index - 1) sync_bit_delta
 
   abbrev q : Pair
   q = record { at = x0.at; content = c }
@@ -83,13 +83,13 @@ module _ (t : KeptThread) (index id first gone : ℕ) (take : CanRemoveDirectory
   tail_same : q.content.tail ≡ e.content.tail
   tail_same = tail_left dropping ∙ over_hard x0.content.tail e.content.tail s.hard
 
-  gstate_middle : gstate_of_pairs (thread_at w (q ∷ [])) ≡ sync_bit_delta
+  gstate_middle : pairs_gstate (thread_at w (q ∷ [])) ≡ sync_bit_delta
   gstate_middle = state_left dropping
 
-  no_move_middle : HasNoMove (gstate_of_pairs (thread_at w (q ∷ [])))
+  no_move_middle : HasNoMove (pairs_gstate (thread_at w (q ∷ [])))
   no_move_middle = subst HasNoMove (sym gstate_middle) (record { kind = refl; id = refl; pair = refl })
 
-  step : (disk : Disk) → IsPairWrittenOnDisk t (index - 1) c disk → IsStep t.disk disk w x0 (e ∷ []) q [] [] [] x0.content.slots (u ∷ []) [] []
+  step : (disk : Disk) → IsPairWritten t (index - 1) c disk → IsStep t.disk disk w x0 (e ∷ []) q [] [] [] x0.content.slots (u ∷ []) [] []
   step disk h = record {
     accepted = accepted;
     site = s.site;
@@ -97,18 +97,18 @@ module _ (t : KeptThread) (index id first gone : ℕ) (take : CanRemoveDirectory
     still_none = no_move_middle;
     device = device_left dropping disk h;
     free = record { distinct = accepted.owned_once; in_range = λ k d x. absurd (omega arith) };
-    shape = drop_shape x0 e q refl tail_same (λ k. ap starts_with_superblock (slots_left dropping) ∙ k);
+    shape = drop_shape x0 e q refl tail_same (λ k. ap starts_superblock (slots_left dropping) ∙ k);
     was = ap (λ z. x0.content.slots ++ (z ++ [])) s.held;
     is = append-nil q.content.slots ∙ (slots_left dropping) ∙ sym (append-nil x0.content.slots);
     splice = record { front = λ k. can.stands.stands.entry; entries = tt; lists = tt; blocks = λ b. omega arith };
   }
 
-  first_taken : (disk : Disk) → IsPairWrittenOnDisk t (index - 1) c disk → IsWritableImageAfterTreeChange t.disk old disk (thread_at w (q ∷ [])) (tree_after_removal (can.path ++ u.name ∷ [])) (tree_after_subtree_replacement (can.path ++ u.name ∷ []) (λ t. None))
+  first_taken : (disk : Disk) → IsPairWritten t (index - 1) c disk → IsWritableChange t.disk old disk (thread_at w (q ∷ [])) (tree_removing (can.path ++ u.name ∷ [])) (tree_with_subtree (can.path ++ u.name ∷ []) (λ t. None))
   first_taken disk h = drop_taken t.disk w x0 e q (record { writable = writable; tail = tail_same; slots = (slots_left dropping) })
-      disk [] [] x0.content.slots (u ∷ []) [] [] (tree_after_removal (can.path ++ u.name ∷ [])) (tree_after_subtree_replacement (can.path ++ u.name ∷ []) (λ t. None)) (step disk h)
+      disk [] [] x0.content.slots (u ∷ []) [] [] (tree_removing (can.path ++ u.name ∷ [])) (tree_with_subtree (can.path ++ u.name ∷ []) (λ t. None)) (step disk h)
       (directory_goes t.disk disk w x0 (e ∷ []) q [] [] [] x0.content.slots [] u (step disk h) can.stands.stands.entry can.path can.at leads s.same take.to take.branch own.empty (ap (λ (g : Gstate). g.sync) gstate_middle))
 
-  unlinks : (disk : Disk) → IsPairWrittenOnDisk t (index - 1) c disk → UnlinksWhole t.disk disk w x0 e q u can.path can.at take.to
+  unlinks : (disk : Disk) → IsPairWritten t (index - 1) c disk → UnlinksWhole t.disk disk w x0 e q u can.path can.at take.to
   unlinks disk h = record {
     step = step disk h;
     other = can.stands.stands.entry;
@@ -127,16 +127,16 @@ module _ (t : KeptThread) (index id first gone : ℕ) (take : CanRemoveDirectory
     hard = s.hard;
   }
 
-  place : (disk : Disk) → IsPairWrittenOnDisk t (index - 1) c disk → HasPlaceWhole t.disk disk w x0 e q u can.path o (length front.front) front.before
+  place : (disk : Disk) → IsPairWritten t (index - 1) c disk → HasPlaceWhole t.disk disk w x0 e q u can.path o (length front.front) front.before
   place disk h = place_whole t.disk disk w x0 e q u can.path can.at take.to (unlinks disk h) o take.at take.alone front.front front.before (front.run ++ front.after) own.dirs_are front.soft take.empty
 
   -- ---- between the steps
 
   -- the number that the pair has then
   abbrev now : ℕ
-  now = pair_number_after_drop index gone
+  now = number_after_drop index gone
 
-  module _ (m : KeptThread) (h : IsNextPairDropped t (index - 1) sync_bit_delta m) where
+  module _ (m : KeptThread) (h : IsPairDropped t (index - 1) sync_bit_delta m) where
     abbrev k : HasPlaceWhole t.disk m.disk w x0 e q u can.path o (length front.front) front.before
     k = place m.disk h.written
 
@@ -144,7 +144,7 @@ module _ (t : KeptThread) (index id first gone : ℕ) (take : CanRemoveDirectory
     pairs_middle = pairs_left dropping m h
 
     -- it stands behind one pair fewer where it stood behind the entry's
-    number_now : length (w.chain ++ k.front) + 1 ≡ pair_number_after_drop index gone
+    number_now : length (w.chain ++ k.front) + 1 ≡ number_after_drop index gone
     number_now = go k.number (nat_lt index gone) refl
       where
         go : ((length (w.before ++ w.left) + 1 < length front.front + 1) × (length k.front + 1 ≡ length front.front)) ⊎ ((length front.front + 1 < length (w.before ++ w.left) + 1) × (length k.front ≡ length front.front))
@@ -180,20 +180,20 @@ module _ (t : KeptThread) (index id first gone : ℕ) (take : CanRemoveDirectory
 
     map_middle : HasMapWithout t.map m.map (used_blocks m.disk m.pairs)
     map_middle = map_dropped dropping m h (no_move_from t.pairs can.ready.settled) (record { kind = refl; id = refl; pair = refl }) can.ready.used (used_blocks m.disk m.pairs) (λ b.
-        let f3 = ap (λ z. occurrence_count_of_number b (file_blocks_of_slots t.disk z)) s.held in
-        let f4 : occurrence_count_of_number b (file_blocks_of_slots t.disk (u ∷ [])) ≡ 0 = ap (λ z. occurrence_count_of_number b (file_blocks_of_slots t.disk (record u { struct = z } ∷ []))) take.branch in
+        let f3 = ap (λ z. number_count b (file_blocks t.disk z)) s.held in
+        let f4 : number_count b (file_blocks t.disk (u ∷ [])) ≡ 0 = ap (λ z. number_count b (file_blocks t.disk (record u { struct = z } ∷ []))) take.branch in
         omega arith)
 
     chain_middle : IsChain w.chain (dirs_at w (q ∷ []))
     chain_middle = step_chain t.disk m.disk w x0 (e ∷ []) q [] [] [] x0.content.slots (u ∷ []) [] [] (step m.disk h.written)
 
     -- the directory's own pair may go
-    pub may_go : IsAllButDropped t m (thread_pair_at_index t gone) (pair_number_after_drop index gone) (tree_after_removal (take.can.path ++ take.can.stands.stands.slot.name ∷ [])) (tree_after_subtree_replacement (take.can.path ++ take.can.stands.stands.slot.name ∷ []) (λ t. None))
+    pub may_go : IsAllButDropped t m (thread_pair_at t gone) (number_after_drop index gone) (tree_removing (take.can.path ++ take.can.stands.stands.slot.name ∷ [])) (tree_with_subtree (take.can.path ++ take.can.stands.stands.slot.name ∷ []) (λ t. None))
     may_go = record {
       ready = can.ready;
-      taken = subst (λ z. IsWritableImageAfterTreeChange t.disk t.pairs m.disk z (tree_after_removal path_there) (tree_after_subtree_replacement path_there (λ t. None))) (sym pairs_middle)
-          (subst (λ z. IsWritableImageAfterTreeChange t.disk z m.disk (thread_at w (q ∷ [])) (tree_after_removal path_there) (tree_after_subtree_replacement path_there (λ t. None))) (sym s.there) (first_taken m.disk h.written));
-      no_move = subst (λ z. HasNoMove (gstate_of_pairs z)) (sym pairs_middle) no_move_middle;
+      taken = subst (λ z. IsWritableChange t.disk t.pairs m.disk z (tree_removing path_there) (tree_with_subtree path_there (λ t. None))) (sym pairs_middle)
+          (subst (λ z. IsWritableChange t.disk z m.disk (thread_at w (q ∷ [])) (tree_removing path_there) (tree_with_subtree path_there (λ t. None))) (sym s.there) (first_taken m.disk h.written));
+      no_move = subst (λ z. HasNoMove (pairs_gstate z)) (sym pairs_middle) no_move_middle;
       chain = w.chain;
       front = k.front;
       x = k.x;
@@ -202,7 +202,7 @@ module _ (t : KeptThread) (index id first gone : ℕ) (take : CanRemoveDirectory
       is_chain = subst (IsChain w.chain) k.there chain_middle;
       number = number_now;
       soft = k.soft;
-      drops = λ new y gone. subst (λ z. IsWritableImageAfterTreeChange t.disk z new (w.chain ++ (k.front ++ y ∷ k.back)) (tree_after_removal path_there) (tree_after_subtree_replacement path_there (λ t. None))) (sym s.there) (k.taken new y gone);
+      drops = λ new y gone. subst (λ z. IsWritableChange t.disk z new (w.chain ++ (k.front ++ y ∷ k.back)) (tree_removing path_there) (tree_with_subtree path_there (λ t. None))) (sym s.there) (k.taken new y gone);
       empty = take.empty;
       used = map_middle.used;
       size = map_middle.size ∙ can.ready.size ∙ sym h.written.shape.count;
@@ -211,41 +211,41 @@ module _ (t : KeptThread) (index id first gone : ℕ) (take : CanRemoveDirectory
       shape = h.written.shape;
     }
 
-    turned : tree_after_removal (can.path ++ u.name ∷ []) (tree_on_disk t.disk t.pairs) ≡ tree_without_named_entry t take.can.path take.can.name
-    turned = ap (λ n. tree_after_removal (can.path ++ n ∷ []) (tree_on_disk t.disk t.pairs)) can.stands.stands.named
+    turned : tree_removing (can.path ++ u.name ∷ []) (tree_on_disk t.disk t.pairs) ≡ tree_without_entry t take.can.path take.can.name
+    turned = ap (λ n. tree_removing (can.path ++ n ∷ []) (tree_on_disk t.disk t.pairs)) can.stands.stands.named
 
-    x_now : thread_pair_at_index m (now - 1) ≡ k.x
+    x_now : thread_pair_at m (now - 1) ≡ k.x
     unfolding may_go
     x_now = x_there may_go
 
     -- the pair that is written in the second step is where the one in front of it was, or where the one in front of the entry's was
-    pub written_then : ((thread_pair_at_index m (now - 1)).at ≡ (thread_pair_at_index t (gone - 1)).at) ⊎ ((thread_pair_at_index m (now - 1)).at ≡ (thread_pair_at_index t (index - 1)).at)
+    pub written_then : ((thread_pair_at m (now - 1)).at ≡ (thread_pair_at t (gone - 1)).at) ⊎ ((thread_pair_at m (now - 1)).at ≡ (thread_pair_at t (index - 1)).at)
     written_then = go k.was
       where
         is_old : t.pairs ≡ (w.chain ++ front.front) ++ front.before ∷ o ∷ (front.run ++ front.after)
         is_old = s.there ∙ ap (λ z. w.chain ++ z) own.dirs_are ∙ sym (append_assoc w.chain front.front (front.before ∷ o ∷ (front.run ++ front.after)))
 
-        old_front : thread_pair_at_index t (gone - 1) ≡ front.before
+        old_front : thread_pair_at t (gone - 1) ≡ front.before
         old_front = front_is t (gone - 1) (w.chain ++ front.front) front.before o (front.run ++ front.after) is_old (let g = own.number in omega arith)
 
-        go : (k.x.at ≡ front.before.at) ⊎ (k.x.at ≡ x0.at) → ((thread_pair_at_index m (now - 1)).at ≡ (thread_pair_at_index t (gone - 1)).at) ⊎ ((thread_pair_at_index m (now - 1)).at ≡ (thread_pair_at_index t (index - 1)).at)
+        go : (k.x.at ≡ front.before.at) ⊎ (k.x.at ≡ x0.at) → ((thread_pair_at m (now - 1)).at ≡ (thread_pair_at t (gone - 1)).at) ⊎ ((thread_pair_at m (now - 1)).at ≡ (thread_pair_at t (index - 1)).at)
         go (inl z) = inl (ap (λ (v : Pair). v.at) x_now ∙ z ∙ ap (λ (v : Pair). v.at) (sym old_front))
         go (inr z) = inr (ap (λ (v : Pair). v.at) x_now ∙ z ∙ ap (λ (v : Pair). v.at) (sym (front_there dropping)))
 
-    pub whole_removed : (new : KeptThread) → IsNextPairDropped m (now - 1) zero_gstate new → IsDirectoryRemoved t new take.can.path take.can.name
+    pub whole_removed : (new : KeptThread) → IsPairDropped m (now - 1) zero_gstate new → IsDirectoryRemoved t new take.can.path take.can.name
     unfolding may_go
     whole_removed new g = record {
-      now = subst (λ z. ShowsTreeAfterPairDrops t new z []) turned (shows_dropped may_go new g);
-      completed = λ z given tree is_path. subst (λ s. IsImageAfterCompletedOperation t.disk s z (ops.Remove given) new.disk new.pairs) (sym s.there)
-          (subst (λ s. IsImageAfterCompletedOperation t.disk old z (ops.Remove given) new.disk s) (sym (pairs_end may_go new g))
+      now = subst (λ z. ShowsAfterDrops t new z []) turned (shows_dropped may_go new g);
+      completed = λ z given tree is_path. subst (λ s. IsCompletion t.disk s z (ops.Remove given) new.disk new.pairs) (sym s.there)
+          (subst (λ s. IsCompletion t.disk old z (ops.Remove given) new.disk s) (sym (pairs_end may_go new g))
           (k.completed new.disk (y may_go) (is_gone may_go new.disk g.written) z given (tree ∙ ap (tree_on_disk t.disk) s.there) (is_path ∙ ap (λ n. can.path ++ n ∷ []) (sym can.stands.stands.named))));
     }
 
     -- what a stop in the second step leaves
-    pub whole_second : (left : Blocks) → IsLeftByStoppedPairDrop m (now - 1) zero_gstate left → IsLeftOf (disk_with_blocks left t.disk) (tree_on_disk t.disk t.pairs) (tree_without_named_entry t take.can.path take.can.name)
-    whole_second left g = subst (IsLeftOf (disk_with_blocks left t.disk) (tree_on_disk t.disk t.pairs)) turned (left_last may_go left g)
+    pub whole_second : (left : Blocks) → LeftByDrop m (now - 1) zero_gstate left → IsLeftOf (with_blocks left t.disk) (tree_on_disk t.disk t.pairs) (tree_without_entry t take.can.path take.can.name)
+    whole_second left g = subst (IsLeftOf (with_blocks left t.disk) (tree_on_disk t.disk t.pairs)) turned (left_last may_go left g)
 
   -- ---- at a stop in the first step
 
-  pub whole_first : (left : Blocks) → IsLeftByStoppedPairDrop t (index - 1) sync_bit_delta left → IsLeftOf (disk_with_blocks left t.disk) (tree_on_disk t.disk t.pairs) (tree_without_named_entry t can.path can.name)
-  whole_first = left_dropped dropping (inl refl) (λ disk written. left_after (first_taken disk written) (inr (ap₂ (λ n z. tree_after_removal (can.path ++ n ∷ []) (tree_on_disk t.disk z)) can.stands.stands.named (sym s.there))))
+  pub whole_first : (left : Blocks) → LeftByDrop t (index - 1) sync_bit_delta left → IsLeftOf (with_blocks left t.disk) (tree_on_disk t.disk t.pairs) (tree_without_entry t can.path can.name)
+  whole_first = left_dropped dropping (inl refl) (λ disk written. left_after (first_taken disk written) (inr (ap₂ (λ n z. tree_removing (can.path ++ n ∷ []) (tree_on_disk t.disk z)) can.stands.stands.named (sym s.there))))

@@ -1,56 +1,56 @@
 -- Attributes of an entry, set and removed.
 use Rattle.std.specs.Prelude.{ℕ, ◌≡◌, ◌≤◌, length, List, [], ◌∷◌, ◌++◌, Some}
-use Rattle.lfs_model.specs.TreeEdits.{attributes_of_node, tree_after_change_of_node, node_with_attributes}
-use Rattle.lfs_model.specs.Content.{attributes_with_attribute, attributes_without_attribute}
-use Rattle.lfs_model.specs.InDirectory.{IsPairAtAddress, IsPlaceOfNameInDirectory}
-use Rattle.lfs_model.specs.Names.{Name}
-use Rattle.lfs_model.specs.Operations as ops
-use Rattle.lfs_model.specs.Operations.{Operation}
-use Rattle.lfs_model.specs.Session.{Session}
-use Rattle.lfs_model.specs.Slots.{Attributes, Slot}
-use Rattle.lfs_model.specs.Refusals.{path_of_bytes_or_root}
-use Rattle.lfs_model.specs.Tree.{Path, Tree}
-use Rattle.lfs_model.specs.Profile.{IsEntryWithinWritableLimits}
-use Rattle.lfs_model.specs.Shown.{IsPathToDirectory, tree_on_disk}
-use Rattle.lfs_model.specs.Steps.{IsImageAfterCompletedOperation}
+use Rattle.lfs_model.specs.session.TreeEdits.{node_attributes_of, tree_with_change, with_attributes}
+use Rattle.lfs_model.specs.format.Content.{attributes_with, attributes_without}
+use Rattle.lfs_model.specs.session.InDirectory.{IsPairAt, IsPlaceOf}
+use Rattle.lfs_model.specs.format.Names.{Name}
+use Rattle.lfs_model.specs.session.Operations as ops
+use Rattle.lfs_model.specs.session.Operations.{Operation}
+use Rattle.lfs_model.specs.session.Session.{Session}
+use Rattle.lfs_model.specs.format.Slots.{Attributes, Slot}
+use Rattle.lfs_model.specs.session.Refusals.{path_or_root}
+use Rattle.lfs_model.specs.tree.Tree.{Path, Tree}
+use Rattle.lfs_model.specs.tree.Profile.{IsWritableEntry}
+use Rattle.lfs_model.specs.tree.Shown.{LeadsTo, tree_on_disk}
+use Rattle.lfs_model.specs.layers.Steps.{IsCompletion}
 use Rattle.lfs_thread.specs.Kept.{KeptThread}
-use Rattle.lfs_thread.specs.Steps.{thread_pair_at_index}
-use Rattle.lfs_operations.specs.Ready.{ShowsTreeReadyForChange, IsRawPairContentWellFormed, IsImageReadyForChange}
+use Rattle.lfs_thread.specs.ThreadSteps.{thread_pair_at}
+use Rattle.lfs_operations.specs.Ready.{ShowsReadyTree, IsRawFormed, IsReadyImage}
 
 -- The image may be changed, and an entry is at the id of the pair: the one of that name in the directory at a path.
-pub record CanEditEntryOfPair (t : KeptThread) (pair id : ℕ) : Type 0 where
-  pub ready : IsImageReadyForChange t
+pub record CanEditIn (t : KeptThread) (pair id : ℕ) : Type 0 where
+  pub ready : IsReadyImage t
   pub path : Path
   pub at : ℕ × ℕ
-  pub leads : IsPathToDirectory t.pairs path at
+  pub leads : LeadsTo t.pairs path at
   pub first : ℕ
-  pub begins : IsPairAtAddress t.pairs at first
+  pub begins : IsPairAt t.pairs at first
   pub name : Name
-  pub stands : IsPlaceOfNameInDirectory t.pairs first name pair id
-  pub logged : IsRawPairContentWellFormed t.disk (thread_pair_at_index t pair).at
+  pub stands : IsPlaceOf t.pairs first name pair id
+  pub logged : IsRawFormed t.disk (thread_pair_at t pair).at
 
-abbrev pub slot_of_editable_entry : {t : KeptThread} {pair id : ℕ} → CanEditEntryOfPair t pair id → Slot
-slot_of_editable_entry can = can.stands.stands.slot
+abbrev pub editable_slot : {t : KeptThread} {pair id : ℕ} → CanEditIn t pair id → Slot
+editable_slot can = can.stands.stands.slot
 
 -- the attribute has at most 1,022 bytes, and the entry may have it beside its other ones
 pub record CanSetAttribute (t : KeptThread) (pair id kind : ℕ) (bytes : List ℕ) : Type 0 where
-  pub can : CanEditEntryOfPair t pair id
+  pub can : CanEditIn t pair id
   pub short : length bytes ≤ 1022
-  pub fits : IsEntryWithinWritableLimits t.disk.profile t.disk.block_size t.disk.page (record (slot_of_editable_entry can) { attributes = attributes_with_attribute kind bytes (slot_of_editable_entry can).attributes })
+  pub fits : IsWritableEntry t.disk.profile t.disk.block_size t.disk.page (record (editable_slot can) { attributes = attributes_with kind bytes (editable_slot can).attributes })
 
 -- the tree with other attributes there
-abbrev pub tree_with_attributes_at : KeptThread → Path → Name → (Attributes → Attributes) → Tree
-tree_with_attributes_at t path name f = tree_after_change_of_node (path ++ name ∷ []) (λ n. node_with_attributes (f (attributes_of_node (Some n))) n) (tree_on_disk t.disk t.pairs)
+abbrev pub tree_with_attributes_set : KeptThread → Path → Name → (Attributes → Attributes) → Tree
+tree_with_attributes_set t path name f = tree_with_change (path ++ name ∷ []) (λ n. with_attributes (f (node_attributes_of (Some n))) n) (tree_on_disk t.disk t.pairs)
 
 -- The tree has the entry with those attributes, and its slot is where the layout wants it. So that operation on its path is
 -- completed.
 pub record HasAttributesChanged (old new : KeptThread) (path : Path) (name : Name) (f : Attributes → Attributes) (op : List ℕ → Operation) : Type 0 where
-  pub now : ShowsTreeReadyForChange old new (tree_with_attributes_at old path name f)
-  pub completed : (s : Session) (given : List ℕ) → s.tree ≡ tree_on_disk old.disk old.pairs → path_of_bytes_or_root given ≡ path ++ name ∷ []
-      → IsImageAfterCompletedOperation old.disk old.pairs s (op given) new.disk new.pairs
+  pub now : ShowsReadyTree old new (tree_with_attributes_set old path name f)
+  pub completed : (s : Session) (given : List ℕ) → s.tree ≡ tree_on_disk old.disk old.pairs → path_or_root given ≡ path ++ name ∷ []
+      → IsCompletion old.disk old.pairs s (op given) new.disk new.pairs
 
 abbrev pub HasSetAttribute : KeptThread → KeptThread → Path → Name → ℕ → List ℕ → Type 0
-HasSetAttribute old new path name kind bytes = HasAttributesChanged old new path name (attributes_with_attribute kind bytes) (λ given. ops.SetAttr given kind bytes)
+HasSetAttribute old new path name kind bytes = HasAttributesChanged old new path name (attributes_with kind bytes) (λ given. ops.SetAttr given kind bytes)
 
 abbrev pub HasRemovedAttribute : KeptThread → KeptThread → Path → Name → ℕ → Type 0
-HasRemovedAttribute old new path name kind = HasAttributesChanged old new path name (attributes_without_attribute kind) (λ given. ops.RemoveAttr given kind)
+HasRemovedAttribute old new path name kind = HasAttributesChanged old new path name (attributes_without kind) (λ given. ops.RemoveAttr given kind)

@@ -2,65 +2,65 @@
 use Rattle.std.specs.Prelude.{ℕ, ◌≡◌, ◌⊎◌, ◌<◌, true, false, List, [], ◌∷◌, ◌++◌, length, nat_lt, ◌-◌, if◌then◌else◌, Result, is_err, IfErr, IsErrOf}
 use Rattle.lfs_device.specs.declared.error.Error.{Error}
 use Rattle.lfs_device.specs.declared.error.Error.TheVariants.{Io, NoMemory}
-use Rattle.lfs_model.specs.Changes.{PairContentChange, Delete, PutMove}
-use Rattle.lfs_model.specs.History.{fault_count_of_history}
-use Rattle.lfs_model.specs.Names.{Name}
-use Rattle.lfs_model.specs.Operations as ops
-use Rattle.lfs_model.specs.Session.{Session}
-use Rattle.lfs_model.specs.Slots.{Branch, gstate_xor, same_pair}
-use Rattle.lfs_model.specs.Refusals.{path_of_bytes_or_root}
-use Rattle.lfs_model.specs.Thread.{is_hard_tail}
-use Rattle.lfs_model.specs.Tree.{Path}
-use Rattle.lfs_model.specs.Shown.{tree_on_disk}
-use Rattle.lfs_model.specs.Steps.{IsImageAfterCompletedOperation, sync_bit_delta}
+use Rattle.lfs_model.specs.layers.Changes.{PairChange, Delete, PutMove}
+use Rattle.lfs_model.specs.session.History.{fault_count}
+use Rattle.lfs_model.specs.format.Names.{Name}
+use Rattle.lfs_model.specs.session.Operations as ops
+use Rattle.lfs_model.specs.session.Session.{Session}
+use Rattle.lfs_model.specs.format.Slots.{Branch, gstate_xor, same_pair}
+use Rattle.lfs_model.specs.session.Refusals.{path_or_root}
+use Rattle.lfs_model.specs.format.Thread.{is_hard_tail}
+use Rattle.lfs_model.specs.tree.Tree.{Path}
+use Rattle.lfs_model.specs.tree.Shown.{tree_on_disk}
+use Rattle.lfs_model.specs.layers.Steps.{IsCompletion, sync_bit_delta}
 use Rattle.lfs_thread.specs.Kept.{KeptThread, ThreadView}
-use Rattle.lfs_thread.specs.Steps.{thread_pair_at_index}
-use Rattle.lfs_operations.specs.Changing.{IsPairNotKeptUnchanged}
-use Rattle.lfs_operations.specs.Dropping.{ShowsTreeAfterPairDrops}
-use Rattle.lfs_operations.specs.Editing.{CanEditEntryOfPair, slot_of_editable_entry}
-use Rattle.lfs_operations.specs.Removing.{is_pair_dropped_with_slot, tree_without_named_entry}
+use Rattle.lfs_thread.specs.ThreadSteps.{thread_pair_at}
+use Rattle.lfs_operations.specs.Changing.{IsPairTouched}
+use Rattle.lfs_operations.specs.Dropping.{ShowsAfterDrops}
+use Rattle.lfs_operations.specs.Editing.{CanEditIn, editable_slot}
+use Rattle.lfs_operations.specs.Removing.{drops_with_its_slot, tree_without_entry}
 
 -- ---- the entry is removed
 
 -- the entry goes, and the pair's delta turns the sync bit
-abbrev pub directory_unlink_changes : KeptThread → ℕ → ℕ → List PairContentChange
-directory_unlink_changes t pair id = Delete id ∷ PutMove (gstate_xor (thread_pair_at_index t pair).content.move sync_bit_delta) ∷ []
+abbrev pub unlink_changes : KeptThread → ℕ → ℕ → List PairChange
+unlink_changes t pair id = Delete id ∷ PutMove (gstate_xor (thread_pair_at t pair).content.move sync_bit_delta) ∷ []
 
 -- ---- the operation
 
 -- A directory's entry is at the id of the pair, in the directory that begins with the pair of number `first`. The pair of number
 -- `gone` is the only one of the directory that is removed, and has no slots.
 pub record CanRemoveDirectory (t : KeptThread) (pair id first gone : ℕ) : Type 0 where
-  pub can : CanEditEntryOfPair t pair id
+  pub can : CanEditIn t pair id
   pub begins : can.first ≡ first
   pub to : ℕ × ℕ
-  pub branch : (slot_of_editable_entry can).struct ≡ Branch to
+  pub branch : (editable_slot can).struct ≡ Branch to
   pub below : gone < length t.pairs
-  pub at : same_pair (thread_pair_at_index t gone).at to ≡ true
-  pub empty : (thread_pair_at_index t gone).content.slots ≡ []
-  pub alone : is_hard_tail (thread_pair_at_index t gone).content.tail ≡ false
+  pub at : same_pair (thread_pair_at t gone).at to ≡ true
+  pub empty : (thread_pair_at t gone).content.slots ≡ []
+  pub alone : is_hard_tail (thread_pair_at t gone).content.tail ≡ false
 
 -- the number of a pair after another one was dropped
-abbrev pub pair_number_after_drop : ℕ → ℕ → ℕ
-pair_number_after_drop other pair = if nat_lt other pair then pair - 1 else pair
+abbrev pub number_after_drop : ℕ → ℕ → ℕ
+number_after_drop other pair = if nat_lt other pair then pair - 1 else pair
 
 -- The tree has no such directory, the other slots are where the layout wants them, and its pair is dropped. So a remove of its
 -- path is completed.
 pub record IsDirectoryRemoved (old new : KeptThread) (path : Path) (name : Name) : Type 0 where
-  pub now : ShowsTreeAfterPairDrops old new (tree_without_named_entry old path name) []
-  pub completed : (s : Session) (given : List ℕ) → s.tree ≡ tree_on_disk old.disk old.pairs → path_of_bytes_or_root given ≡ path ++ name ∷ []
-      → IsImageAfterCompletedOperation old.disk old.pairs s (ops.Remove given) new.disk new.pairs
+  pub now : ShowsAfterDrops old new (tree_without_entry old path name) []
+  pub completed : (s : Session) (given : List ℕ) → s.tree ≡ tree_on_disk old.disk old.pairs → path_or_root given ≡ path ++ name ∷ []
+      → IsCompletion old.disk old.pairs s (ops.Remove given) new.disk new.pairs
 
 -- The pair before the directory's own one doesn't stay with what it held. Nor does the one before the entry's pair, where that is
 -- dropped too.
-pub record ArePairsBeforeDroppedPairsAltered (old : KeptThread) (pair first gone : ℕ) (new : KeptThread) : Type 0 where
-  pub front : IsPairNotKeptUnchanged old (gone - 1) new
-  pub entry : is_pair_dropped_with_slot old pair first ≡ true → IsPairNotKeptUnchanged old (pair - 1) new
+pub record AreBeforeAltered (old : KeptThread) (pair first gone : ℕ) (new : KeptThread) : Type 0 where
+  pub front : IsPairTouched old (gone - 1) new
+  pub entry : drops_with_its_slot old pair first ≡ true → IsPairTouched old (pair - 1) new
 
 -- What several steps report that take no block: `Io` comes with a fault of the device, and any other result with none. After an
 -- error the thread has failed.
 pub record ReportsErrorsOfCommitsTakingNoBlock {X : Type 0} (old new : ThreadView) (result : Result X Error) : Type 0 where
   pub failed : new.failed ≡ is_err result
   pub errors : IfErr result (λ e. (e ≡ Io) ⊎ (e ≡ NoMemory))
-  pub fault : IsErrOf result Io → fault_count_of_history old.kept.history < fault_count_of_history new.kept.history
-  pub no_fault : ¬ IsErrOf result Io → fault_count_of_history new.kept.history ≡ fault_count_of_history old.kept.history
+  pub fault : IsErrOf result Io → fault_count old.kept.history < fault_count new.kept.history
+  pub no_fault : ¬ IsErrOf result Io → fault_count new.kept.history ≡ fault_count old.kept.history

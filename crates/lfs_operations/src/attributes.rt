@@ -1,17 +1,17 @@
 // Attributes of entries, set and removed.
 
 ghost use Rattle.std.specs.Prelude.{◌≡◌, ◌∷◌, [], false, OnOk};
-ghost use Rattle.lfs_model.specs.Changes.{PutAttribute};
-ghost use Rattle.lfs_model.specs.Content.{attributes_with_attribute, attributes_without_attribute};
-ghost use Rattle.lfs_model.specs.PowerLoss.{SurvivesPowerLossInCallsSince};
-ghost use Rattle.lfs_model.specs.Shown.{tree_on_disk};
-ghost use Rattle.lfs_thread.specs.Steps.{ThreadChangesOnlyTheseBlocks, thread_pair_at_index};
-ghost use Rattle.lfs_operations.specs.Changing.{ReportsErrorsOfChangeOrSplit, WritesPairAndTwoFreeBlocks};
-ghost use Rattle.lfs_operations.specs.Editing.{CanEditEntryOfPair, CanSetAttribute, HasRemovedAttribute, HasSetAttribute, tree_with_attributes_at};
+ghost use Rattle.lfs_model.specs.layers.Changes.{PutAttribute};
+ghost use Rattle.lfs_model.specs.format.Content.{attributes_with, attributes_without};
+ghost use Rattle.lfs_model.specs.crash.PowerLoss.{SurvivesLossSince};
+ghost use Rattle.lfs_model.specs.tree.Shown.{tree_on_disk};
+ghost use Rattle.lfs_thread.specs.ThreadSteps.{ChangesThreadBlocks, thread_pair_at};
+ghost use Rattle.lfs_operations.specs.Changing.{ReportsErrorsOfChangeOrSplit, WritesPairTwo};
+ghost use Rattle.lfs_operations.specs.Editing.{CanEditIn, CanSetAttribute, HasRemovedAttribute, HasSetAttribute, tree_with_attributes_set};
 ghost use Rattle.lfs_operations.specs.Removing.{ReportsErrorsOfCommitTakingNoBlock};
-ghost use Rattle.lfs_model.specs.Thread.{blocks_of_pair_address};
+ghost use Rattle.lfs_model.specs.format.Thread.{address_blocks};
 
-use crate::changes::change_or_split_pair;
+use crate::changes::change_or_split;
 use lfs_device::{BlockDevice, Error};
 use lfs_pair::Change;
 use lfs_thread::Thread;
@@ -35,16 +35,16 @@ pub fn set_attribute<D: BlockDevice>(
     requires can { CanSetAttribute thread.old.kept pair id kind bytes.now }
     ensures is_set { OnOk result ((set : CanSetAttribute thread.old.kept pair id kind bytes.now) → HasSetAttribute thread.old.kept thread.new.kept set.can.path set.can.name kind bytes.now) }
     ensures errors { ReportsErrorsOfChangeOrSplit thread.old thread.new pair (PutAttribute id kind bytes.now ∷ []) result }
-    ensures device { WritesPairAndTwoFreeBlocks thread.old.kept pair thread.new.kept }
-    ensures survives { (set : CanSetAttribute thread.old.kept pair id kind bytes.now) → SurvivesPowerLossInCallsSince thread.old.kept.disk thread.old.kept.history thread.new.kept.history
-        (tree_on_disk thread.old.kept.disk thread.old.kept.pairs) (tree_with_attributes_at thread.old.kept set.can.path set.can.name (attributes_with_attribute kind bytes.now)) }
+    ensures device { WritesPairTwo thread.old.kept pair thread.new.kept }
+    ensures survives { (set : CanSetAttribute thread.old.kept pair id kind bytes.now) → SurvivesLossSince thread.old.kept.disk thread.old.kept.history thread.new.kept.history
+        (tree_on_disk thread.old.kept.disk thread.old.kept.pairs) (tree_with_attributes_set thread.old.kept set.can.path set.can.name (attributes_with kind bytes.now)) }
 {
     let changes = [Change::Attr {
         id,
         attr: kind,
         bytes,
     }];
-    change_or_split_pair(alloc, thread, pair, &changes)?;
+    change_or_split(alloc, thread, pair, &changes)?;
     Ok(())
 }
 
@@ -59,12 +59,12 @@ pub fn remove_attribute<D: BlockDevice>(
     kind: u8,
 ) -> Result<(), Error>
     requires works { thread.old.failed ≡ false }
-    requires can { CanEditEntryOfPair thread.old.kept pair id }
-    ensures is_removed { OnOk result ((can : CanEditEntryOfPair thread.old.kept pair id) → HasRemovedAttribute thread.old.kept thread.new.kept can.path can.name kind) }
+    requires can { CanEditIn thread.old.kept pair id }
+    ensures is_removed { OnOk result ((can : CanEditIn thread.old.kept pair id) → HasRemovedAttribute thread.old.kept thread.new.kept can.path can.name kind) }
     ensures errors { ReportsErrorsOfCommitTakingNoBlock thread.old thread.new result }
-    ensures device { ThreadChangesOnlyTheseBlocks (blocks_of_pair_address (thread_pair_at_index thread.old.kept pair).at) thread.old.kept thread.new.kept }
-    ensures survives { (can : CanEditEntryOfPair thread.old.kept pair id) → SurvivesPowerLossInCallsSince thread.old.kept.disk thread.old.kept.history thread.new.kept.history
-        (tree_on_disk thread.old.kept.disk thread.old.kept.pairs) (tree_with_attributes_at thread.old.kept can.path can.name (attributes_without_attribute kind)) }
+    ensures device { ChangesThreadBlocks (address_blocks (thread_pair_at thread.old.kept pair).at) thread.old.kept thread.new.kept }
+    ensures survives { (can : CanEditIn thread.old.kept pair id) → SurvivesLossSince thread.old.kept.disk thread.old.kept.history thread.new.kept.history
+        (tree_on_disk thread.old.kept.disk thread.old.kept.pairs) (tree_with_attributes_set thread.old.kept can.path can.name (attributes_without kind)) }
 {
     // What is left fits, so the commit is never refused.
     thread.commit_pair_changes(alloc, pair, &[Change::NoAttr { id, attr: kind }])?;

@@ -20,7 +20,7 @@ mod structs;
 pub use attributes::{remove_attribute, set_attribute};
 pub use directory_removals::remove_directory;
 pub use moves::{
-    rename_across_pairs, rename_onto_directory_across_pairs, rename_onto_file_across_pairs,
+    rename_across_pairs, onto_directory_across, onto_file_across,
 };
 pub use new_directories::make_directory;
 pub use new_files::create_file;

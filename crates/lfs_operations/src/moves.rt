@@ -1,36 +1,36 @@
 // Slots that move from one pair into another.
 
 ghost use Rattle.std.specs.Prelude.{◌≡◌, ◌<◌, ◌-◌, ◌^◌, ◌∷◌, true, false, length, IfOk, OnOk};
-ghost use Rattle.lfs_model.specs.Changes.{Delete, PutMove};
-ghost use Rattle.lfs_model.specs.Slots.{gstate_xor};
-ghost use Rattle.lfs_operations.specs.RenamingView.{slot_copy_view};
-ghost use Rattle.lfs_operations.specs.RenamingSlots.{slot_creation_changes};
-ghost use Rattle.lfs_model.specs.LoggedContent.{Are32BitPairAddresses};
-ghost use Rattle.lfs_model.specs.PowerLoss.{SurvivesPowerLossInCallsSince};
-ghost use Rattle.lfs_model.specs.Thread.{gstate_of_pairs, blocks_of_pair_address, blocks_of_two_pair_addresses};
-ghost use Rattle.lfs_model.specs.Shown.{tree_on_disk};
+ghost use Rattle.lfs_model.specs.layers.Changes.{Delete, PutMove};
+ghost use Rattle.lfs_model.specs.format.Slots.{gstate_xor};
+ghost use Rattle.lfs_operations.specs.RenamingView.{slot_copy};
+ghost use Rattle.lfs_operations.specs.RenamingSlots.{slot_changes};
+ghost use Rattle.lfs_model.specs.layers.LoggedContent.{AreWords};
+ghost use Rattle.lfs_model.specs.crash.PowerLoss.{SurvivesLossSince};
+ghost use Rattle.lfs_model.specs.format.Thread.{pairs_gstate, address_blocks, addresses_blocks};
+ghost use Rattle.lfs_model.specs.tree.Shown.{tree_on_disk};
 ghost use Rattle.lfs_tag.specs.FieldsView.{move_view};
 ghost use Rattle.lfs_thread.specs.Kept.{KeptThread};
-ghost use Rattle.lfs_thread.specs.Steps.{ThreadChangesOnlyTheseBlocks, thread_pair_at_index};
+ghost use Rattle.lfs_thread.specs.ThreadSteps.{ChangesThreadBlocks, thread_pair_at};
 ghost use Rattle.lfs_pair.specs.ChangeView.{changes_view};
-ghost use Rattle.lfs_operations.specs.Altering.{ChangesOnlyGivenAlteredOrFreeBlocks};
-ghost use Rattle.lfs_operations.specs.Changing.{CanChangeOrSplitPair, IsPairChangedOrSplit, WritesOnlyThreadPairsAndTwoFreeBlocks};
-ghost use Rattle.lfs_operations.specs.MoveEnds.{CanEndMoveAt, HasEndedMoveAt, pair_written_at_move_end, gstate_naming_moved_slot, delta_without_move};
-ghost use Rattle.lfs_operations.specs.MovingSteps.{CanEndMoveAfterFirstCommit, IsSlotPutAndMoveEnded, SurvivesBothMoveCommits, ReportsErrorsOfCommitsTakingBlocks, WritesTwoPairsAndTwoFreeBlocks, pair_written_by_second_move_commit, pair_number_after_insertion};
-ghost use Rattle.lfs_operations.specs.MovingAcross.{CanRenameAcrossPairs, IsEntryRenamedAcrossPairs, rename_across_pairs_changes, tree_with_moved_entry};
-ghost use Rattle.lfs_operations.specs.MovingOnto.{CanReplaceEntryAcrossPairs, CanReplaceFileAcrossPairs, CanReplaceDirectoryAcrossPairs, IsEntryReplacedAcrossPairs, IsFileReplacedAcrossPairs, replace_entry_across_pairs_changes, replace_file_across_pairs_changes};
+ghost use Rattle.lfs_operations.specs.Altering.{ChangesGiven};
+ghost use Rattle.lfs_operations.specs.Changing.{CanTurn, IsTurned, WritesThreadTwo};
+ghost use Rattle.lfs_operations.specs.MoveEnds.{CanEndAt, HasEndedAt, written_at_end, gstate_naming, delta_without_move};
+ghost use Rattle.lfs_operations.specs.MovingSteps.{CanEndSecond, IsPutEnded, SurvivesBothCommits, ReportsErrorsOfCommitsTakingBlocks, WritesTwoTwo, second_commit_pair, number_after_insertion};
+ghost use Rattle.lfs_operations.specs.MovingAcross.{CanRenameAcross, IsRenamedAcross, across_changes, tree_moved};
+ghost use Rattle.lfs_operations.specs.MovingOnto.{CanReplaceEntryOver, CanReplaceFileOver, CanReplaceDirectoryOver, IsEntryReplaced, IsFileReplaced, entry_over_changes, file_over_changes};
 ghost use Rattle.lfs_operations.specs.Removing.{ReportsErrorsOfCommitTakingNoBlock};
 ghost use Rattle.lfs_operations.specs.EndingMove.{gstate_without_move};
 
-use crate::changes::change_or_split_pair;
+use crate::changes::change_or_split;
 use crate::drops::drop_pair_at;
-use crate::removals::is_pair_dropped_with_only_slot;
-use crate::slot_copies::{SlotCopy, copy_slot_of_pair, push_slot_creation_changes};
+use crate::removals::drops_with_slot;
+use crate::slot_copies::{SlotCopy, copy_pair_slot, push_slot_changes};
 use lfs_device::{BlockDevice, Error};
 use lfs_pair::Change;
 use lfs_tag::MoveState;
 use lfs_tag::kinds::DELETE;
-use lfs_thread::{Thread, gstate_xor_delta, pair_number_at_address};
+use lfs_thread::{Thread, gstate_xor_delta, number_at_address};
 use std::alloc::{AllocError, Global};
 
 // Returns a pair's delta of the global state, changed so that no move is set.
@@ -38,7 +38,7 @@ fn delta_without_move<D: BlockDevice>(thread: &Thread<D>, pair: usize) -> MoveSt
     requires works { thread.now.failed ≡ false }
     requires below { pair < length thread.now.kept.pairs }
     ensures delta { move_view result ≡ delta_without_move thread.now.kept pair }
-    ensures address { Are32BitPairAddresses (move_view result).pair }
+    ensures address { AreWords (move_view result).pair }
 {
     let mut state = thread.state();
     state.sync = false;
@@ -47,18 +47,18 @@ fn delta_without_move<D: BlockDevice>(thread: &Thread<D>, pair: usize) -> MoveSt
 }
 
 // Removes the slot that a set move names from its pair, which stays, and ends the move.
-fn end_move_keeping_pair<D: BlockDevice>(
+fn end_by_commit<D: BlockDevice>(
     alloc: Global,
     thread: &mut Thread<D>,
     pair: usize,
     id: u16,
 ) -> Result<(), Error>
     requires works { thread.old.failed ≡ false }
-    requires can { CanEndMoveAt thread.old.kept pair id false }
-    ensures ended { OnOk result (HasEndedMoveAt thread.old.kept pair id false thread.new.kept) }
+    requires can { CanEndAt thread.old.kept pair id false }
+    ensures ended { OnOk result (HasEndedAt thread.old.kept pair id false thread.new.kept) }
     ensures errors { ReportsErrorsOfCommitTakingNoBlock thread.old thread.new result }
-    ensures device { ThreadChangesOnlyTheseBlocks (blocks_of_pair_address (thread_pair_at_index thread.old.kept pair).at) thread.old.kept thread.new.kept }
-    ensures survives { SurvivesPowerLossInCallsSince thread.old.kept.disk thread.old.kept.history thread.new.kept.history
+    ensures device { ChangesThreadBlocks (address_blocks (thread_pair_at thread.old.kept pair).at) thread.old.kept thread.new.kept }
+    ensures survives { SurvivesLossSince thread.old.kept.disk thread.old.kept.history thread.new.kept.history
         (tree_on_disk thread.old.kept.disk thread.old.kept.pairs) (tree_on_disk thread.old.kept.disk thread.old.kept.pairs) }
 {
     let state = delta_without_move(thread, pair);
@@ -72,9 +72,9 @@ fn end_move_keeping_pair<D: BlockDevice>(
 }
 
 // Returns the global state without the move that is set.
-fn thread_gstate_without_move<D: BlockDevice>(thread: &Thread<D>) -> MoveState
+fn settled_gstate<D: BlockDevice>(thread: &Thread<D>) -> MoveState
     requires { thread.now.failed ≡ false }
-    ensures { move_view result ≡ gstate_without_move (gstate_of_pairs thread.now.kept.pairs) }
+    ensures { move_view result ≡ gstate_without_move (pairs_gstate thread.now.kept.pairs) }
 {
     let mut state = MoveState::none();
     state.sync = thread.state().sync;
@@ -82,21 +82,21 @@ fn thread_gstate_without_move<D: BlockDevice>(thread: &Thread<D>) -> MoveState
 }
 
 // Drops a pair whose only slot a set move names, and ends the move.
-fn end_move_dropping_pair<D: BlockDevice>(
+fn end_by_drop<D: BlockDevice>(
     alloc: Global,
     thread: &mut Thread<D>,
     pair: usize,
     id: u16,
 ) -> Result<(), Error>
     requires works { thread.old.failed ≡ false }
-    requires can { CanEndMoveAt thread.old.kept pair id true }
-    ensures ended { OnOk result (HasEndedMoveAt thread.old.kept pair id true thread.new.kept) }
+    requires can { CanEndAt thread.old.kept pair id true }
+    ensures ended { OnOk result (HasEndedAt thread.old.kept pair id true thread.new.kept) }
     ensures errors { ReportsErrorsOfCommitTakingNoBlock thread.old thread.new result }
-    ensures device { ThreadChangesOnlyTheseBlocks (blocks_of_pair_address (thread_pair_at_index thread.old.kept (pair - 1)).at) thread.old.kept thread.new.kept }
-    ensures survives { SurvivesPowerLossInCallsSince thread.old.kept.disk thread.old.kept.history thread.new.kept.history
+    ensures device { ChangesThreadBlocks (address_blocks (thread_pair_at thread.old.kept (pair - 1)).at) thread.old.kept thread.new.kept }
+    ensures survives { SurvivesLossSince thread.old.kept.disk thread.old.kept.history thread.new.kept.history
         (tree_on_disk thread.old.kept.disk thread.old.kept.pairs) (tree_on_disk thread.old.kept.disk thread.old.kept.pairs) }
 {
-    let state = thread_gstate_without_move(thread);
+    let state = settled_gstate(thread);
     drop_pair_at(alloc, thread, pair, &state)?;
     Ok(())
 }
@@ -111,31 +111,31 @@ pub(crate) fn end_move<D: BlockDevice>(
     goes: bool,
 ) -> Result<(), Error>
     requires works { thread.old.failed ≡ false }
-    requires can { CanEndMoveAt thread.old.kept pair id goes }
-    ensures ended { OnOk result (HasEndedMoveAt thread.old.kept pair id goes thread.new.kept) }
+    requires can { CanEndAt thread.old.kept pair id goes }
+    ensures ended { OnOk result (HasEndedAt thread.old.kept pair id goes thread.new.kept) }
     ensures errors { ReportsErrorsOfCommitTakingNoBlock thread.old thread.new result }
-    ensures device { ThreadChangesOnlyTheseBlocks (blocks_of_pair_address (thread_pair_at_index thread.old.kept (pair_written_at_move_end pair goes)).at) thread.old.kept thread.new.kept }
-    ensures survives { SurvivesPowerLossInCallsSince thread.old.kept.disk thread.old.kept.history thread.new.kept.history
+    ensures device { ChangesThreadBlocks (address_blocks (thread_pair_at thread.old.kept (written_at_end pair goes)).at) thread.old.kept thread.new.kept }
+    ensures survives { SurvivesLossSince thread.old.kept.disk thread.old.kept.history thread.new.kept.history
         (tree_on_disk thread.old.kept.disk thread.old.kept.pairs) (tree_on_disk thread.old.kept.disk thread.old.kept.pairs) }
 {
     if goes {
-        end_move_dropping_pair(alloc, thread, pair, id)
+        end_by_drop(alloc, thread, pair, id)
     } else {
-        end_move_keeping_pair(alloc, thread, pair, id)
+        end_by_commit(alloc, thread, pair, id)
     }
 }
 
 // Returns the number of a pair after `fresh` pairs were put in after the pair `other`.
-fn pair_number_after_inserted_pairs(pair: usize, other: usize, fresh: usize) -> usize
-    requires { pair_number_after_insertion pair other fresh < 2 ^ 64 }
-    ensures { result ≡ pair_number_after_insertion pair other fresh }
+fn number_after_inserted(pair: usize, other: usize, fresh: usize) -> usize
+    requires { number_after_insertion pair other fresh < 2 ^ 64 }
+    ensures { result ≡ number_after_insertion pair other fresh }
 {
     if pair < other { pair } else { pair + fresh }
 }
 
 // Puts changes that set a move into a pair. Then it ends the move in another pair, which has the
 // slot that the move names.
-fn put_changes_and_end_move<D: BlockDevice>(
+fn put_and_end<D: BlockDevice>(
     alloc: Global,
     thread: &mut Thread<D>,
     old_pair: usize,
@@ -145,24 +145,24 @@ fn put_changes_and_end_move<D: BlockDevice>(
     changes: &[Change<'_>],
 ) -> Result<(), Error>
     requires works { thread.old.failed ≡ false }
-    requires can { CanChangeOrSplitPair thread.old.kept new_pair (changes_view changes.now) }
-    requires ends { (mid : KeptThread) → IsPairChangedOrSplit thread.old.kept new_pair (changes_view changes.now) mid → CanEndMoveAfterFirstCommit thread.old.kept old_pair old_id goes new_pair mid }
-    ensures done { OnOk result (IsSlotPutAndMoveEnded thread.old.kept old_pair old_id goes new_pair (changes_view changes.now) thread.new.kept) }
+    requires can { CanTurn thread.old.kept new_pair (changes_view changes.now) }
+    requires ends { (mid : KeptThread) → IsTurned thread.old.kept new_pair (changes_view changes.now) mid → CanEndSecond thread.old.kept old_pair old_id goes new_pair mid }
+    ensures done { OnOk result (IsPutEnded thread.old.kept old_pair old_id goes new_pair (changes_view changes.now) thread.new.kept) }
     ensures errors { ReportsErrorsOfCommitsTakingBlocks thread.old thread.new new_pair (changes_view changes.now) result }
-    ensures device { WritesTwoPairsAndTwoFreeBlocks thread.old.kept (pair_written_at_move_end old_pair goes) new_pair thread.new.kept }
-    ensures survives { SurvivesBothMoveCommits thread.old.kept new_pair (changes_view changes.now) thread.new.kept }
+    ensures device { WritesTwoTwo thread.old.kept (written_at_end old_pair goes) new_pair thread.new.kept }
+    ensures survives { SurvivesBothCommits thread.old.kept new_pair (changes_view changes.now) thread.new.kept }
 {
     let before = thread.len();
-    change_or_split_pair(alloc, thread, new_pair, changes)?;
+    change_or_split(alloc, thread, new_pair, changes)?;
     let fresh = thread.len() - before;
-    let pair = pair_number_after_inserted_pairs(old_pair, new_pair, fresh);
+    let pair = number_after_inserted(old_pair, new_pair, fresh);
     end_move(alloc, thread, pair, old_id, goes)?;
     Ok(())
 }
 
 // Returns the delta of a pair that sets a move, which names a slot of another pair. With `sync` it
 // sets the sync bit, too. No move is set before.
-fn delta_that_sets_move<D: BlockDevice>(
+fn move_setting_delta<D: BlockDevice>(
     thread: &Thread<D>,
     old_pair: usize,
     old_id: u16,
@@ -172,8 +172,8 @@ fn delta_that_sets_move<D: BlockDevice>(
     requires works { thread.now.failed ≡ false }
     requires old_below { old_pair < length thread.now.kept.pairs }
     requires new_below { new_pair < length thread.now.kept.pairs }
-    ensures delta { move_view result ≡ gstate_xor (gstate_naming_moved_slot sync (thread_pair_at_index thread.now.kept old_pair).at old_id) (thread_pair_at_index thread.now.kept new_pair).content.move }
-    ensures address { Are32BitPairAddresses (thread_pair_at_index thread.now.kept old_pair).at }
+    ensures delta { move_view result ≡ gstate_xor (gstate_naming sync (thread_pair_at thread.now.kept old_pair).at old_id) (thread_pair_at thread.now.kept new_pair).content.move }
+    ensures address { AreWords (thread_pair_at thread.now.kept old_pair).at }
 {
     let pair = thread.blocks_of_pair(old_pair);
     let state = MoveState {
@@ -187,18 +187,18 @@ fn delta_that_sets_move<D: BlockDevice>(
 }
 
 // Returns the changes that set a delta of the global state, and put in a copied slot at an id.
-fn changes_setting_move_and_copying_slot<'a>(
+fn copying_changes<'a>(
     alloc: Global,
     state: MoveState,
     id: u16,
     name: &'a [u8],
     copy: &'a SlotCopy,
 ) -> Result<Vec<Change<'a>>, AllocError>
-    ensures { IfOk result (λ changes. changes_view changes.items ≡ PutMove (move_view state) ∷ slot_creation_changes id name.now (slot_copy_view copy.now)) }
+    ensures { IfOk result (λ changes. changes_view changes.items ≡ PutMove (move_view state) ∷ slot_changes id name.now (slot_copy copy.now)) }
 {
     let mut changes = Vec::new(alloc);
     changes.push(Change::Move { state })?;
-    push_slot_creation_changes(&mut changes, id, name, copy)?;
+    push_slot_changes(&mut changes, id, name, copy)?;
     Ok(changes)
 }
 
@@ -228,44 +228,44 @@ pub fn rename_across_pairs<D: BlockDevice>(
     name: &[u8],
 ) -> Result<(), Error>
     requires works { thread.old.failed ≡ false }
-    requires can { CanRenameAcrossPairs thread.old.kept old_pair old_id first new_pair new_id name.now }
-    ensures renamed { OnOk result ((rename : CanRenameAcrossPairs thread.old.kept old_pair old_id first new_pair new_id name.now)
-        → IsEntryRenamedAcrossPairs thread.old.kept thread.new.kept rename.old.path rename.old.name rename.path name.now) }
-    ensures alters { OnOk result (ChangesOnlyGivenAlteredOrFreeBlocks thread.old.kept (blocks_of_pair_address (thread_pair_at_index thread.old.kept old_pair).at) thread.new.kept) }
-    ensures errors { ReportsErrorsOfCommitsTakingBlocks thread.old thread.new new_pair (rename_across_pairs_changes thread.old.kept old_pair old_id new_pair new_id name.now) result }
-    ensures device { WritesTwoPairsAndTwoFreeBlocks thread.old.kept (pair_written_by_second_move_commit thread.old.kept old_pair first) new_pair thread.new.kept }
-    ensures survives { (rename : CanRenameAcrossPairs thread.old.kept old_pair old_id first new_pair new_id name.now) → SurvivesPowerLossInCallsSince thread.old.kept.disk thread.old.kept.history thread.new.kept.history
-        (tree_on_disk thread.old.kept.disk thread.old.kept.pairs) (tree_with_moved_entry thread.old.kept rename.old.path rename.old.name rename.path name.now) }
+    requires can { CanRenameAcross thread.old.kept old_pair old_id first new_pair new_id name.now }
+    ensures renamed { OnOk result ((rename : CanRenameAcross thread.old.kept old_pair old_id first new_pair new_id name.now)
+        → IsRenamedAcross thread.old.kept thread.new.kept rename.old.path rename.old.name rename.path name.now) }
+    ensures alters { OnOk result (ChangesGiven thread.old.kept (address_blocks (thread_pair_at thread.old.kept old_pair).at) thread.new.kept) }
+    ensures errors { ReportsErrorsOfCommitsTakingBlocks thread.old thread.new new_pair (across_changes thread.old.kept old_pair old_id new_pair new_id name.now) result }
+    ensures device { WritesTwoTwo thread.old.kept (second_commit_pair thread.old.kept old_pair first) new_pair thread.new.kept }
+    ensures survives { (rename : CanRenameAcross thread.old.kept old_pair old_id first new_pair new_id name.now) → SurvivesLossSince thread.old.kept.disk thread.old.kept.history thread.new.kept.history
+        (tree_on_disk thread.old.kept.disk thread.old.kept.pairs) (tree_moved thread.old.kept rename.old.path rename.old.name rename.path name.now) }
 {
-    let goes = is_pair_dropped_with_only_slot(thread, old_pair, first);
-    let copy = copy_slot_of_pair(alloc, thread, old_pair, old_id)?;
-    let state = delta_that_sets_move(thread, old_pair, old_id, new_pair, false);
-    let changes = changes_setting_move_and_copying_slot(alloc, state, new_id, name, &copy)?;
-    put_changes_and_end_move(alloc, thread, old_pair, old_id, goes, new_pair, &changes)?;
+    let goes = drops_with_slot(thread, old_pair, first);
+    let copy = copy_pair_slot(alloc, thread, old_pair, old_id)?;
+    let state = move_setting_delta(thread, old_pair, old_id, new_pair, false);
+    let changes = copying_changes(alloc, state, new_id, name, &copy)?;
+    put_and_end(alloc, thread, old_pair, old_id, goes, new_pair, &changes)?;
     Ok(())
 }
 
 // Returns the changes that set a delta of the global state, and put a copied slot in place of the
 // slot at an id.
-fn changes_setting_move_and_replacing_slot<'a>(
+fn replacing_changes<'a>(
     alloc: Global,
     state: MoveState,
     id: u16,
     name: &'a [u8],
     copy: &'a SlotCopy,
 ) -> Result<Vec<Change<'a>>, AllocError>
-    ensures { IfOk result (λ changes. changes_view changes.items ≡ PutMove (move_view state) ∷ Delete id ∷ slot_creation_changes id name.now (slot_copy_view copy.now)) }
+    ensures { IfOk result (λ changes. changes_view changes.items ≡ PutMove (move_view state) ∷ Delete id ∷ slot_changes id name.now (slot_copy copy.now)) }
 {
     let mut changes = Vec::new(alloc);
     changes.push(Change::Move { state })?;
     changes.push(Change::Delete { id })?;
-    push_slot_creation_changes(&mut changes, id, name, copy)?;
+    push_slot_changes(&mut changes, id, name, copy)?;
     Ok(changes)
 }
 
 // Puts the entry at an id of a pair in place of the one at an id of another pair, as
 // `rename_across_pairs` does. The sync bit is set with it, or not.
-fn replace_entry_across_pairs<D: BlockDevice>(
+fn replace_across<D: BlockDevice>(
     alloc: Global,
     thread: &mut Thread<D>,
     old_pair: usize,
@@ -277,18 +277,18 @@ fn replace_entry_across_pairs<D: BlockDevice>(
     sync: bool,
 ) -> Result<(), Error>
     requires works { thread.old.failed ≡ false }
-    requires can { CanReplaceEntryAcrossPairs thread.old.kept sync old_pair old_id first new_pair new_id name.now }
-    ensures moved { OnOk result (IsEntryReplacedAcrossPairs thread.old.kept sync old_pair old_id first new_pair new_id name.now thread.new.kept) }
-    ensures errors { ReportsErrorsOfCommitsTakingBlocks thread.old thread.new new_pair (replace_entry_across_pairs_changes sync thread.old.kept old_pair old_id new_pair new_id name.now) result }
-    ensures device { WritesTwoPairsAndTwoFreeBlocks thread.old.kept (pair_written_by_second_move_commit thread.old.kept old_pair first) new_pair thread.new.kept }
-    ensures survives { (rename : CanReplaceEntryAcrossPairs thread.old.kept sync old_pair old_id first new_pair new_id name.now) → SurvivesPowerLossInCallsSince thread.old.kept.disk thread.old.kept.history thread.new.kept.history
-        (tree_on_disk thread.old.kept.disk thread.old.kept.pairs) (tree_with_moved_entry thread.old.kept rename.old.path rename.old.name rename.path name.now) }
+    requires can { CanReplaceEntryOver thread.old.kept sync old_pair old_id first new_pair new_id name.now }
+    ensures moved { OnOk result (IsEntryReplaced thread.old.kept sync old_pair old_id first new_pair new_id name.now thread.new.kept) }
+    ensures errors { ReportsErrorsOfCommitsTakingBlocks thread.old thread.new new_pair (entry_over_changes sync thread.old.kept old_pair old_id new_pair new_id name.now) result }
+    ensures device { WritesTwoTwo thread.old.kept (second_commit_pair thread.old.kept old_pair first) new_pair thread.new.kept }
+    ensures survives { (rename : CanReplaceEntryOver thread.old.kept sync old_pair old_id first new_pair new_id name.now) → SurvivesLossSince thread.old.kept.disk thread.old.kept.history thread.new.kept.history
+        (tree_on_disk thread.old.kept.disk thread.old.kept.pairs) (tree_moved thread.old.kept rename.old.path rename.old.name rename.path name.now) }
 {
-    let goes = is_pair_dropped_with_only_slot(thread, old_pair, first);
-    let copy = copy_slot_of_pair(alloc, thread, old_pair, old_id)?;
-    let state = delta_that_sets_move(thread, old_pair, old_id, new_pair, sync);
-    let changes = changes_setting_move_and_replacing_slot(alloc, state, new_id, name, &copy)?;
-    put_changes_and_end_move(alloc, thread, old_pair, old_id, goes, new_pair, &changes)?;
+    let goes = drops_with_slot(thread, old_pair, first);
+    let copy = copy_pair_slot(alloc, thread, old_pair, old_id)?;
+    let state = move_setting_delta(thread, old_pair, old_id, new_pair, sync);
+    let changes = replacing_changes(alloc, state, new_id, name, &copy)?;
+    put_and_end(alloc, thread, old_pair, old_id, goes, new_pair, &changes)?;
     Ok(())
 }
 
@@ -298,7 +298,7 @@ fn replace_entry_across_pairs<D: BlockDevice>(
 /// them.
 ///
 /// Errors are those of [`rename_across_pairs`].
-pub fn rename_onto_file_across_pairs<D: BlockDevice>(
+pub fn onto_file_across<D: BlockDevice>(
     alloc: Global,
     thread: &mut Thread<D>,
     old_pair: usize,
@@ -309,28 +309,28 @@ pub fn rename_onto_file_across_pairs<D: BlockDevice>(
     name: &[u8],
 ) -> Result<(), Error>
     requires works { thread.old.failed ≡ false }
-    requires can { CanReplaceFileAcrossPairs thread.old.kept old_pair old_id first new_pair new_id name.now }
-    ensures replaced { OnOk result ((rename : CanReplaceFileAcrossPairs thread.old.kept old_pair old_id first new_pair new_id name.now)
-        → IsFileReplacedAcrossPairs thread.old.kept thread.new.kept rename.old.path rename.old.name rename.path name.now rename.target.stands.slot.struct) }
-    ensures alters { OnOk result (ChangesOnlyGivenAlteredOrFreeBlocks thread.old.kept (blocks_of_two_pair_addresses (thread_pair_at_index thread.old.kept old_pair).at (thread_pair_at_index thread.old.kept new_pair).at) thread.new.kept) }
-    ensures errors { ReportsErrorsOfCommitsTakingBlocks thread.old thread.new new_pair (replace_file_across_pairs_changes thread.old.kept old_pair old_id new_pair new_id name.now) result }
-    ensures device { WritesTwoPairsAndTwoFreeBlocks thread.old.kept (pair_written_by_second_move_commit thread.old.kept old_pair first) new_pair thread.new.kept }
-    ensures survives { (rename : CanReplaceFileAcrossPairs thread.old.kept old_pair old_id first new_pair new_id name.now) → SurvivesPowerLossInCallsSince thread.old.kept.disk thread.old.kept.history thread.new.kept.history
-        (tree_on_disk thread.old.kept.disk thread.old.kept.pairs) (tree_with_moved_entry thread.old.kept rename.old.path rename.old.name rename.path name.now) }
+    requires can { CanReplaceFileOver thread.old.kept old_pair old_id first new_pair new_id name.now }
+    ensures replaced { OnOk result ((rename : CanReplaceFileOver thread.old.kept old_pair old_id first new_pair new_id name.now)
+        → IsFileReplaced thread.old.kept thread.new.kept rename.old.path rename.old.name rename.path name.now rename.target.stands.slot.struct) }
+    ensures alters { OnOk result (ChangesGiven thread.old.kept (addresses_blocks (thread_pair_at thread.old.kept old_pair).at (thread_pair_at thread.old.kept new_pair).at) thread.new.kept) }
+    ensures errors { ReportsErrorsOfCommitsTakingBlocks thread.old thread.new new_pair (file_over_changes thread.old.kept old_pair old_id new_pair new_id name.now) result }
+    ensures device { WritesTwoTwo thread.old.kept (second_commit_pair thread.old.kept old_pair first) new_pair thread.new.kept }
+    ensures survives { (rename : CanReplaceFileOver thread.old.kept old_pair old_id first new_pair new_id name.now) → SurvivesLossSince thread.old.kept.disk thread.old.kept.history thread.new.kept.history
+        (tree_on_disk thread.old.kept.disk thread.old.kept.pairs) (tree_moved thread.old.kept rename.old.path rename.old.name rename.path name.now) }
 {
-    replace_entry_across_pairs(
+    replace_across(
         alloc, thread, old_pair, old_id, first, new_pair, new_id, name, false,
     )
 }
 
 /// Renames an entry of one pair onto an empty directory at an id of another pair, in the same
 /// directory or another one. The directory's own pair has number `gone` in the thread. The call
-/// works as [`rename_onto_file_across_pairs`], with two differences. The sync bit is set with the move.
+/// works as [`onto_file_across`], with two differences. The sync bit is set with the move.
 /// And a third commit drops the directory's own pair, to which no path leads any more, and clears
 /// the bit.
 ///
 /// Errors are those of [`rename_across_pairs`].
-pub fn rename_onto_directory_across_pairs<D: BlockDevice>(
+pub fn onto_directory_across<D: BlockDevice>(
     alloc: Global,
     thread: &mut Thread<D>,
     old_pair: usize,
@@ -342,21 +342,21 @@ pub fn rename_onto_directory_across_pairs<D: BlockDevice>(
     gone: usize,
 ) -> Result<(), Error>
     requires works { thread.old.failed ≡ false }
-    requires can { CanReplaceDirectoryAcrossPairs thread.old.kept old_pair old_id first new_pair new_id name.now gone }
-    ensures renamed { OnOk result ((rename : CanReplaceDirectoryAcrossPairs thread.old.kept old_pair old_id first new_pair new_id name.now gone)
-        → IsEntryRenamedAcrossPairs thread.old.kept thread.new.kept rename.old.path rename.old.name rename.path name.now) }
-    ensures alters { OnOk result (ChangesOnlyGivenAlteredOrFreeBlocks thread.old.kept (blocks_of_two_pair_addresses (thread_pair_at_index thread.old.kept old_pair).at (thread_pair_at_index thread.old.kept new_pair).at) thread.new.kept) }
-    ensures errors { ReportsErrorsOfCommitsTakingBlocks thread.old thread.new new_pair (replace_entry_across_pairs_changes true thread.old.kept old_pair old_id new_pair new_id name.now) result }
-    ensures device { WritesOnlyThreadPairsAndTwoFreeBlocks thread.old.kept thread.new.kept }
-    ensures survives { (rename : CanReplaceDirectoryAcrossPairs thread.old.kept old_pair old_id first new_pair new_id name.now gone) → SurvivesPowerLossInCallsSince thread.old.kept.disk thread.old.kept.history thread.new.kept.history
-        (tree_on_disk thread.old.kept.disk thread.old.kept.pairs) (tree_with_moved_entry thread.old.kept rename.old.path rename.old.name rename.path name.now) }
+    requires can { CanReplaceDirectoryOver thread.old.kept old_pair old_id first new_pair new_id name.now gone }
+    ensures renamed { OnOk result ((rename : CanReplaceDirectoryOver thread.old.kept old_pair old_id first new_pair new_id name.now gone)
+        → IsRenamedAcross thread.old.kept thread.new.kept rename.old.path rename.old.name rename.path name.now) }
+    ensures alters { OnOk result (ChangesGiven thread.old.kept (addresses_blocks (thread_pair_at thread.old.kept old_pair).at (thread_pair_at thread.old.kept new_pair).at) thread.new.kept) }
+    ensures errors { ReportsErrorsOfCommitsTakingBlocks thread.old thread.new new_pair (entry_over_changes true thread.old.kept old_pair old_id new_pair new_id name.now) result }
+    ensures device { WritesThreadTwo thread.old.kept thread.new.kept }
+    ensures survives { (rename : CanReplaceDirectoryOver thread.old.kept old_pair old_id first new_pair new_id name.now gone) → SurvivesLossSince thread.old.kept.disk thread.old.kept.history thread.new.kept.history
+        (tree_on_disk thread.old.kept.disk thread.old.kept.pairs) (tree_moved thread.old.kept rename.old.path rename.old.name rename.path name.now) }
 {
     let at = thread.blocks_of_pair(gone);
-    replace_entry_across_pairs(
+    replace_across(
         alloc, thread, old_pair, old_id, first, new_pair, new_id, name, true,
     )?;
     // Other pairs may have been put in or dropped before it in the thread.
-    if let Some(index) = pair_number_at_address(thread, at) {
+    if let Some(index) = number_at_address(thread, at) {
         drop_pair_at(alloc, thread, index, &MoveState::none())?;
     }
     Ok(())

@@ -1,13 +1,13 @@
 // Empty files that are created.
 
 ghost use Rattle.std.specs.Prelude.{◌≡◌, ◌≤◌, ◌+◌, false, OnOk};
-ghost use Rattle.lfs_model.specs.History.{read_count_of_history};
-ghost use Rattle.lfs_model.specs.PowerLoss.{SurvivesPowerLossInCallsSince};
-ghost use Rattle.lfs_model.specs.Shown.{tree_on_disk};
-ghost use Rattle.lfs_operations.specs.Changing.{IsPairNotKeptUnchanged, ReportsErrorsOfChangeOrSplit, WritesPairAndTwoFreeBlocks};
-ghost use Rattle.lfs_operations.specs.Creating.{CanCreateFileInPair, IsFileCreated, file_creation_changes, tree_with_new_file};
+ghost use Rattle.lfs_model.specs.session.History.{read_count};
+ghost use Rattle.lfs_model.specs.crash.PowerLoss.{SurvivesLossSince};
+ghost use Rattle.lfs_model.specs.tree.Shown.{tree_on_disk};
+ghost use Rattle.lfs_operations.specs.Changing.{IsPairTouched, ReportsErrorsOfChangeOrSplit, WritesPairTwo};
+ghost use Rattle.lfs_operations.specs.Creating.{CanCreateIn, IsFileCreated, creation_changes, tree_with_file};
 
-use crate::changes::change_or_split_pair;
+use crate::changes::change_or_split;
 use lfs_device::{BlockDevice, Error};
 use lfs_pair::Change;
 use lfs_tag::kinds::{FILE_NAME, INLINE_STRUCT};
@@ -30,14 +30,14 @@ pub fn create_file<D: BlockDevice>(
     name: &[u8],
 ) -> Result<(), Error>
     requires works { thread.old.failed ≡ false }
-    requires can { CanCreateFileInPair thread.old.kept pair id name.now }
-    ensures created { OnOk result ((can : CanCreateFileInPair thread.old.kept pair id name.now) → IsFileCreated thread.old.kept thread.new.kept can.path name.now) }
-    ensures alters { OnOk result (IsPairNotKeptUnchanged thread.old.kept pair thread.new.kept) }
-    ensures errors { ReportsErrorsOfChangeOrSplit thread.old thread.new pair (file_creation_changes id name.now) result }
-    ensures device { WritesPairAndTwoFreeBlocks thread.old.kept pair thread.new.kept }
-    ensures few { read_count_of_history thread.new.kept.history ≤ read_count_of_history thread.old.kept.history + 6 }
-    ensures survives { (can : CanCreateFileInPair thread.old.kept pair id name.now) → SurvivesPowerLossInCallsSince thread.old.kept.disk thread.old.kept.history thread.new.kept.history
-        (tree_on_disk thread.old.kept.disk thread.old.kept.pairs) (tree_with_new_file thread.old.kept can.path name.now) }
+    requires can { CanCreateIn thread.old.kept pair id name.now }
+    ensures created { OnOk result ((can : CanCreateIn thread.old.kept pair id name.now) → IsFileCreated thread.old.kept thread.new.kept can.path name.now) }
+    ensures alters { OnOk result (IsPairTouched thread.old.kept pair thread.new.kept) }
+    ensures errors { ReportsErrorsOfChangeOrSplit thread.old thread.new pair (creation_changes id name.now) result }
+    ensures device { WritesPairTwo thread.old.kept pair thread.new.kept }
+    ensures few { read_count thread.new.kept.history ≤ read_count thread.old.kept.history + 6 }
+    ensures survives { (can : CanCreateIn thread.old.kept pair id name.now) → SurvivesLossSince thread.old.kept.disk thread.old.kept.history thread.new.kept.history
+        (tree_on_disk thread.old.kept.disk thread.old.kept.pairs) (tree_with_file thread.old.kept can.path name.now) }
 {
     let changes = [
         Change::Create {
@@ -51,6 +51,6 @@ pub fn create_file<D: BlockDevice>(
             bytes: &[],
         },
     ];
-    change_or_split_pair(alloc, thread, pair, &changes)?;
+    change_or_split(alloc, thread, pair, &changes)?;
     Ok(())
 }

@@ -1,33 +1,33 @@
 // The recovery: what a loss of power left half done is ended.
 
 ghost use Rattle.std.specs.Prelude.{◌≡◌, ◌<◌, ◌+◌, ◌-◌, ◌&&◌, false, OnOk, length, if◌then◌else◌, IfNone, IfSome, Option, Some};
-ghost use Rattle.lfs_model.specs.PowerLoss.{SurvivesPowerLossInCallsSince};
-ghost use Rattle.lfs_model.specs.Recovery.{IsNothingLeftToRecover};
-ghost use Rattle.lfs_model.specs.Slots.{zero_gstate};
-ghost use Rattle.lfs_model.specs.Thread.{blocks_of_pairs, gstate_of_pairs, blocks_of_pair_address};
-ghost use Rattle.lfs_model.specs.View.{IsAcceptedImage};
-ghost use Rattle.lfs_model.specs.Shown.{tree_on_disk};
-ghost use Rattle.lfs_model.specs.Steps.{HasNoMove};
+ghost use Rattle.lfs_model.specs.crash.PowerLoss.{SurvivesLossSince};
+ghost use Rattle.lfs_model.specs.session.Recovery.{IsRecovered};
+ghost use Rattle.lfs_model.specs.format.Slots.{zero_gstate};
+ghost use Rattle.lfs_model.specs.format.Thread.{blocks_of_pairs, pairs_gstate, address_blocks};
+ghost use Rattle.lfs_model.specs.tree.View.{IsAccepted};
+ghost use Rattle.lfs_model.specs.tree.Shown.{tree_on_disk};
+ghost use Rattle.lfs_model.specs.layers.Steps.{HasNoMove};
 ghost use Rattle.lfs_tag.specs.FieldsView.{move_view};
-ghost use Rattle.lfs_thread.specs.Device.{PowerLossLeavesSuchBlocksAfterCleanErases};
-ghost use Rattle.lfs_thread.specs.Steps.{complete_content_after_changes, IsPairChanged, PowerLossLeavesPairOldOrChanged, ThreadChangesOnlyTheseBlocks, thread_pair_at_index};
-ghost use Rattle.lfs_operations.specs.Deltas.{content_reaching_gstate, CanSetGstateInPair, has_hard_tail_at, gstate_setting_changes, delta_reaching_gstate};
-ghost use Rattle.lfs_operations.specs.Recovering.{CanClearSyncBit, CanDropUnreachedPairs, HasDroppedUnreachedPairsAndRecovered, IsSyncBitCleared, ReportsErrorsOfRecovery, gstate_zero_after_last_unreached_pair_drop};
-ghost use Rattle.lfs_operations.specs.EndingMove.{CanEndMove, HasEndedMove, HasMovedSlotInPair, has_one_slot_after_hard_tail};
+ghost use Rattle.lfs_thread.specs.ThreadDevice.{LossLeavesCleanly};
+ghost use Rattle.lfs_thread.specs.ThreadSteps.{complete_after, IsPairCommitted, LossLeavesPairChanged, ChangesThreadBlocks, thread_pair_at};
+ghost use Rattle.lfs_operations.specs.Deltas.{content_reaching_gstate, CanSetGstate, has_tail_at, gstate_changes, delta_reaching_gstate};
+ghost use Rattle.lfs_operations.specs.Recovering.{CanClearSync, CanDropPairs, HasDroppedRecovered, IsSyncCleared, ReportsErrorsOfRecovery, gstate_after_drops};
+ghost use Rattle.lfs_operations.specs.EndingMove.{CanEndMove, HasEndedMove, HasMovedSlot, has_one_follower};
 ghost use Rattle.lfs_operations.specs.Removing.{ReportsErrorsOfCommitTakingNoBlock};
 
 use crate::drops::drop_pair_at;
 use crate::moves;
-use crate::new_directories::show_device_facts_to_proof;
+use crate::new_directories::lemma_device_facts;
 use lfs_device::{BlockDevice, Error};
 use lfs_pair::Change;
 use lfs_tag::MoveState;
 use lfs_tag::kinds::DELETE;
-use lfs_thread::{Thread, gstate_xor_delta, pair_number_at_address};
+use lfs_thread::{Thread, gstate_xor_delta, number_at_address};
 use std::alloc::Global;
 
 // Returns the delta that a pair gets, so that the global state becomes `wanted`.
-fn delta_that_reaches_gstate<D: BlockDevice>(
+fn delta_to_gstate<D: BlockDevice>(
     thread: &Thread<D>,
     index: usize,
     wanted: &MoveState,
@@ -41,43 +41,43 @@ fn delta_that_reaches_gstate<D: BlockDevice>(
 }
 
 // Returns whether a pair's tail is a hard one.
-fn is_tail_of_pair_hard<D: BlockDevice>(thread: &Thread<D>, index: usize) -> bool
+fn follows_tail<D: BlockDevice>(thread: &Thread<D>, index: usize) -> bool
     requires works { thread.now.failed ≡ false }
     requires below { index < length thread.now.kept.pairs }
-    ensures { result ≡ has_hard_tail_at thread.now.kept index }
+    ensures { result ≡ has_tail_at thread.now.kept index }
 {
     thread.next(index).is_some()
 }
 
 // Changes a pair's delta, so that the global state becomes `wanted`.
-fn set_gstate_in_pair<D: BlockDevice>(
+fn set_gstate_in<D: BlockDevice>(
     alloc: Global,
     thread: &mut Thread<D>,
     index: usize,
     wanted: &MoveState,
 ) -> Result<(), Error>
     requires works { thread.old.failed ≡ false }
-    requires can { CanSetGstateInPair thread.old.kept index (move_view wanted.now) }
-    ensures is_set { OnOk result (IsPairChanged thread.old.kept index (gstate_setting_changes thread.old.kept index (move_view wanted.now)) thread.new.kept) }
+    requires can { CanSetGstate thread.old.kept index (move_view wanted.now) }
+    ensures is_set { OnOk result (IsPairCommitted thread.old.kept index (gstate_changes thread.old.kept index (move_view wanted.now)) thread.new.kept) }
     ensures errors { ReportsErrorsOfCommitTakingNoBlock thread.old thread.new result }
-    ensures made { complete_content_after_changes thread.old.kept index (gstate_setting_changes thread.old.kept index (move_view wanted.now)) ≡ Some (content_reaching_gstate thread.old.kept index (move_view wanted.now)) }
-    ensures device { ThreadChangesOnlyTheseBlocks (blocks_of_pair_address (thread_pair_at_index thread.old.kept index).at) thread.old.kept thread.new.kept }
-    ensures stops { PowerLossLeavesSuchBlocksAfterCleanErases thread.old.kept.history thread.new.kept.history (PowerLossLeavesPairOldOrChanged thread.old.kept index (gstate_setting_changes thread.old.kept index (move_view wanted.now))) }
+    ensures made { complete_after thread.old.kept index (gstate_changes thread.old.kept index (move_view wanted.now)) ≡ Some (content_reaching_gstate thread.old.kept index (move_view wanted.now)) }
+    ensures device { ChangesThreadBlocks (address_blocks (thread_pair_at thread.old.kept index).at) thread.old.kept thread.new.kept }
+    ensures stops { LossLeavesCleanly thread.old.kept.history thread.new.kept.history (LossLeavesPairChanged thread.old.kept index (gstate_changes thread.old.kept index (move_view wanted.now))) }
 {
-    show_device_facts_to_proof(thread);
-    let state = delta_that_reaches_gstate(thread, index, wanted);
+    lemma_device_facts(thread);
+    let state = delta_to_gstate(thread, index, wanted);
     // The pair has the slots that it had, so the commit is never refused.
     thread.commit_pair_changes(alloc, index, &[Change::Move { state }])?;
     Ok(())
 }
 
 // Returns the global state that is wanted after a pair is dropped: zero after the last one.
-fn gstate_zero_after_dropping_last_unreached_pair<D: BlockDevice>(
+fn lemma_gstate_zero<D: BlockDevice>(
     thread: &Thread<D>,
     is_last: bool,
 ) -> MoveState
     requires { thread.now.failed ≡ false }
-    ensures { move_view result ≡ gstate_zero_after_last_unreached_pair_drop thread.now.kept is_last }
+    ensures { move_view result ≡ gstate_after_drops thread.now.kept is_last }
 {
     if is_last {
         MoveState::none()
@@ -89,17 +89,17 @@ fn gstate_zero_after_dropping_last_unreached_pair<D: BlockDevice>(
 // Clears the sync bit, if it is set. A path leads to each directory then.
 fn clear_sync_bit<D: BlockDevice>(alloc: Global, thread: &mut Thread<D>) -> Result<(), Error>
     requires works { thread.old.failed ≡ false }
-    requires can { CanClearSyncBit thread.old.kept }
-    ensures nothing { gstate_of_pairs thread.old.kept.pairs ≡ zero_gstate → thread.new.kept ≡ thread.old.kept }
-    ensures is_cleared { OnOk result (IsSyncBitCleared thread.old.kept thread.new.kept) }
+    requires can { CanClearSync thread.old.kept }
+    ensures nothing { pairs_gstate thread.old.kept.pairs ≡ zero_gstate → thread.new.kept ≡ thread.old.kept }
+    ensures is_cleared { OnOk result (IsSyncCleared thread.old.kept thread.new.kept) }
     ensures errors { ReportsErrorsOfCommitTakingNoBlock thread.old thread.new result }
-    ensures device { ThreadChangesOnlyTheseBlocks (blocks_of_pairs thread.old.kept.pairs) thread.old.kept thread.new.kept }
-    ensures survives { SurvivesPowerLossInCallsSince thread.old.kept.disk thread.old.kept.history thread.new.kept.history
+    ensures device { ChangesThreadBlocks (blocks_of_pairs thread.old.kept.pairs) thread.old.kept thread.new.kept }
+    ensures survives { SurvivesLossSince thread.old.kept.disk thread.old.kept.history thread.new.kept.history
         (tree_on_disk thread.old.kept.disk thread.old.kept.pairs) (tree_on_disk thread.old.kept.disk thread.old.kept.pairs) }
 {
     if thread.state().sync {
         let last = thread.len() - 1;
-        set_gstate_in_pair(alloc, thread, last, &MoveState::none())?;
+        set_gstate_in(alloc, thread, last, &MoveState::none())?;
     }
     Ok(())
 }
@@ -121,17 +121,17 @@ pub fn drop_unreached_pairs<D: BlockDevice>(
     unreached: &[usize],
 ) -> Result<(), Error>
     requires works { thread.old.failed ≡ false }
-    requires can { CanDropUnreachedPairs thread.old.kept unreached.now }
-    ensures nothing { IsNothingLeftToRecover thread.old.kept.pairs → thread.new.kept ≡ thread.old.kept }
-    ensures recovered { OnOk result (HasDroppedUnreachedPairsAndRecovered thread.old.kept unreached.now thread.new.kept) }
+    requires can { CanDropPairs thread.old.kept unreached.now }
+    ensures nothing { IsRecovered thread.old.kept.pairs → thread.new.kept ≡ thread.old.kept }
+    ensures recovered { OnOk result (HasDroppedRecovered thread.old.kept unreached.now thread.new.kept) }
     ensures errors { ReportsErrorsOfRecovery thread.old thread.new result }
-    ensures device { ThreadChangesOnlyTheseBlocks (blocks_of_pairs thread.old.kept.pairs) thread.old.kept thread.new.kept }
-    ensures survives { SurvivesPowerLossInCallsSince thread.old.kept.disk thread.old.kept.history thread.new.kept.history
+    ensures device { ChangesThreadBlocks (blocks_of_pairs thread.old.kept.pairs) thread.old.kept thread.new.kept }
+    ensures survives { SurvivesLossSince thread.old.kept.disk thread.old.kept.history thread.new.kept.history
         (tree_on_disk thread.old.kept.disk thread.old.kept.pairs) (tree_on_disk thread.old.kept.disk thread.old.kept.pairs) }
 {
     for dropped in 0..unreached.len() {
         let behind = unreached[dropped] - dropped;
-        let wanted = gstate_zero_after_dropping_last_unreached_pair(
+        let wanted = lemma_gstate_zero(
             thread,
             dropped + 1 == unreached.len(),
         );
@@ -142,25 +142,25 @@ pub fn drop_unreached_pairs<D: BlockDevice>(
 }
 
 // Returns the number of the pair whose slot a set move names. Returns None where no move is set.
-fn pair_number_of_moved_slot<D: BlockDevice>(thread: &Thread<D>, state: &MoveState) -> Option<usize>
-    requires accepted { IsAcceptedImage thread.now.kept.disk thread.now.kept.pairs }
-    requires state { move_view state.now ≡ gstate_of_pairs thread.now.kept.pairs }
-    ensures there { IfSome result (HasMovedSlotInPair thread.now.kept) }
-    ensures none { IfNone result (HasNoMove (gstate_of_pairs thread.now.kept.pairs)) }
+fn moved_slot_pair<D: BlockDevice>(thread: &Thread<D>, state: &MoveState) -> Option<usize>
+    requires accepted { IsAccepted thread.now.kept.disk thread.now.kept.pairs }
+    requires state { move_view state.now ≡ pairs_gstate thread.now.kept.pairs }
+    ensures there { IfSome result (HasMovedSlot thread.now.kept) }
+    ensures none { IfNone result (HasNoMove (pairs_gstate thread.now.kept.pairs)) }
 {
     if state.kind != DELETE {
         return None;
     }
-    pair_number_at_address(thread, state.pair)
+    number_at_address(thread, state.pair)
 }
 
 // Returns whether a pair has one slot, and a hard tail names the pair.
-fn is_one_slot_after_hard_tail<D: BlockDevice>(thread: &Thread<D>, index: usize) -> bool
+fn one_after_tail<D: BlockDevice>(thread: &Thread<D>, index: usize) -> bool
     requires works { thread.now.failed ≡ false }
     requires below { index < length thread.now.kept.pairs }
-    ensures { result ≡ has_one_slot_after_hard_tail thread.now.kept index }
+    ensures { result ≡ has_one_follower thread.now.kept index }
 {
-    index > 0 && thread.slot_count(index) == 1 && is_tail_of_pair_hard(thread, index - 1)
+    index > 0 && thread.slot_count(index) == 1 && follows_tail(thread, index - 1)
 }
 
 /// Ends a set move in one commit: the slot that the move names is removed (DESIGN.md of littlefs,
@@ -172,19 +172,19 @@ fn is_one_slot_after_hard_tail<D: BlockDevice>(thread: &Thread<D>, index: usize)
 pub fn end_move<D: BlockDevice>(alloc: Global, thread: &mut Thread<D>) -> Result<(), Error>
     requires works { thread.old.failed ≡ false }
     requires can { CanEndMove thread.old.kept }
-    ensures nothing { HasNoMove (gstate_of_pairs thread.old.kept.pairs) → thread.new.kept ≡ thread.old.kept }
+    ensures nothing { HasNoMove (pairs_gstate thread.old.kept.pairs) → thread.new.kept ≡ thread.old.kept }
     ensures ended { OnOk result (HasEndedMove thread.old.kept thread.new.kept) }
     ensures errors { ReportsErrorsOfRecovery thread.old thread.new result }
-    ensures device { ThreadChangesOnlyTheseBlocks (blocks_of_pairs thread.old.kept.pairs) thread.old.kept thread.new.kept }
-    ensures survives { SurvivesPowerLossInCallsSince thread.old.kept.disk thread.old.kept.history thread.new.kept.history
+    ensures device { ChangesThreadBlocks (blocks_of_pairs thread.old.kept.pairs) thread.old.kept thread.new.kept }
+    ensures survives { SurvivesLossSince thread.old.kept.disk thread.old.kept.history thread.new.kept.history
         (tree_on_disk thread.old.kept.disk thread.old.kept.pairs) (tree_on_disk thread.old.kept.disk thread.old.kept.pairs) }
 {
     let state = thread.state();
-    let Some(index) = pair_number_of_moved_slot(thread, &state) else {
+    let Some(index) = moved_slot_pair(thread, &state) else {
         return Ok(());
     };
-    let goes = is_one_slot_after_hard_tail(thread, index);
-    show_device_facts_to_proof(thread);
+    let goes = one_after_tail(thread, index);
+    lemma_device_facts(thread);
     moves::end_move(alloc, thread, index, state.id, goes)?;
     Ok(())
 }

@@ -1,44 +1,44 @@
 // Entries that get another name and stay in their pair.
 
 ghost use Rattle.std.specs.Prelude.{◌≡◌, ◌∷◌, IfOk, OnOk, false};
-ghost use Rattle.lfs_model.specs.Changes.{Delete};
-ghost use Rattle.lfs_model.specs.PowerLoss.{SurvivesPowerLossInCallsSince};
-ghost use Rattle.lfs_model.specs.Shown.{tree_on_disk};
+ghost use Rattle.lfs_model.specs.layers.Changes.{Delete};
+ghost use Rattle.lfs_model.specs.crash.PowerLoss.{SurvivesLossSince};
+ghost use Rattle.lfs_model.specs.tree.Shown.{tree_on_disk};
 ghost use Rattle.lfs_pair.specs.ChangeView.{changes_view};
-ghost use Rattle.lfs_operations.specs.Changing.{WritesPairAndTwoFreeBlocks};
-ghost use Rattle.lfs_operations.specs.Renaming.{CanRenameWithinPair, CanRenameOntoFileInPair, IsEntryRenamedInPair, IsEntryRenamedOntoFileInPair, ReportsErrorsOfReadThenChangeOrSplit, id_after_slot_removal, rename_within_pair_changes, rename_onto_file_in_pair_changes, tree_with_renamed_entry};
-ghost use Rattle.lfs_operations.specs.RenamingView.{slot_copy_view};
-ghost use Rattle.lfs_operations.specs.RenamingSlots.{slot_creation_changes};
+ghost use Rattle.lfs_operations.specs.Changing.{WritesPairTwo};
+ghost use Rattle.lfs_operations.specs.Renaming.{CanRenameWithin, CanRenameOnto, IsRenamedWithin, IsRenamedOnto, ReportsErrorsOfReadThenChangeOrSplit, id_after_removal, within_changes, onto_changes, tree_renamed};
+ghost use Rattle.lfs_operations.specs.RenamingView.{slot_copy};
+ghost use Rattle.lfs_operations.specs.RenamingSlots.{slot_changes};
 
-use crate::changes::change_or_split_pair;
-use crate::slot_copies::{SlotCopy, copy_slot_of_pair, push_slot_creation_changes};
+use crate::changes::change_or_split;
+use crate::slot_copies::{SlotCopy, copy_pair_slot, push_slot_changes};
 use lfs_device::{BlockDevice, Error};
 use lfs_pair::Change;
 use lfs_thread::Thread;
 use std::alloc::{AllocError, Global};
 
 // Returns a place among slots after the slot at an id was removed.
-pub(crate) fn slot_id_after_other_slot_removal(id: u16, place: u16) -> u16
-    ensures { result ≡ id_after_slot_removal id place }
+pub(crate) fn id_after_removed(id: u16, place: u16) -> u16
+    ensures { result ≡ id_after_removal id place }
 {
     if id < place { place - 1 } else { place }
 }
 
 // Returns the changes that remove the slot at an id, and put in its copy at a place.
-fn changes_renaming_slot_in_pair<'a>(
+fn renaming_changes<'a>(
     alloc: Global,
     id: u16,
     place: u16,
     name: &'a [u8],
     copy: &'a SlotCopy,
 ) -> Result<Vec<Change<'a>>, AllocError>
-    ensures { IfOk result (λ changes. changes_view changes.items ≡ Delete id ∷ slot_creation_changes (id_after_slot_removal id place) name.now (slot_copy_view copy.now)) }
+    ensures { IfOk result (λ changes. changes_view changes.items ≡ Delete id ∷ slot_changes (id_after_removal id place) name.now (slot_copy copy.now)) }
 {
     let mut changes = Vec::new(alloc);
     changes.push(Change::Delete { id })?;
-    push_slot_creation_changes(
+    push_slot_changes(
         &mut changes,
-        slot_id_after_other_slot_removal(id, place),
+        id_after_removed(id, place),
         name,
         copy,
     )?;
@@ -64,35 +64,35 @@ pub fn rename<D: BlockDevice>(
     name: &[u8],
 ) -> Result<(), Error>
     requires works { thread.old.failed ≡ false }
-    requires can { CanRenameWithinPair thread.old.kept pair id place name.now }
-    ensures renamed { OnOk result ((rename : CanRenameWithinPair thread.old.kept pair id place name.now) → IsEntryRenamedInPair thread.old.kept thread.new.kept rename.can.path rename.can.name name.now) }
-    ensures errors { ReportsErrorsOfReadThenChangeOrSplit thread.old thread.new pair (rename_within_pair_changes thread.old.kept pair id place name.now) result }
-    ensures device { WritesPairAndTwoFreeBlocks thread.old.kept pair thread.new.kept }
-    ensures survives { (rename : CanRenameWithinPair thread.old.kept pair id place name.now) → SurvivesPowerLossInCallsSince thread.old.kept.disk thread.old.kept.history thread.new.kept.history
-        (tree_on_disk thread.old.kept.disk thread.old.kept.pairs) (tree_with_renamed_entry thread.old.kept rename.can.path rename.can.name name.now) }
+    requires can { CanRenameWithin thread.old.kept pair id place name.now }
+    ensures renamed { OnOk result ((rename : CanRenameWithin thread.old.kept pair id place name.now) → IsRenamedWithin thread.old.kept thread.new.kept rename.can.path rename.can.name name.now) }
+    ensures errors { ReportsErrorsOfReadThenChangeOrSplit thread.old thread.new pair (within_changes thread.old.kept pair id place name.now) result }
+    ensures device { WritesPairTwo thread.old.kept pair thread.new.kept }
+    ensures survives { (rename : CanRenameWithin thread.old.kept pair id place name.now) → SurvivesLossSince thread.old.kept.disk thread.old.kept.history thread.new.kept.history
+        (tree_on_disk thread.old.kept.disk thread.old.kept.pairs) (tree_renamed thread.old.kept rename.can.path rename.can.name name.now) }
 {
-    let copy = copy_slot_of_pair(alloc, thread, pair, id)?;
-    let changes = changes_renaming_slot_in_pair(alloc, id, place, name, &copy)?;
-    change_or_split_pair(alloc, thread, pair, &changes)?;
+    let copy = copy_pair_slot(alloc, thread, pair, id)?;
+    let changes = renaming_changes(alloc, id, place, name, &copy)?;
+    change_or_split(alloc, thread, pair, &changes)?;
     Ok(())
 }
 
 // Returns the changes that remove the slots at an id and a place, and put in a copy of the first at
 // the place.
-fn changes_renaming_slot_onto_file<'a>(
+fn renaming_onto_changes<'a>(
     alloc: Global,
     id: u16,
     place: u16,
     name: &'a [u8],
     copy: &'a SlotCopy,
 ) -> Result<Vec<Change<'a>>, AllocError>
-    ensures { IfOk result (λ changes. changes_view changes.items ≡ Delete id ∷ Delete (id_after_slot_removal id place) ∷ slot_creation_changes (id_after_slot_removal id place) name.now (slot_copy_view copy.now)) }
+    ensures { IfOk result (λ changes. changes_view changes.items ≡ Delete id ∷ Delete (id_after_removal id place) ∷ slot_changes (id_after_removal id place) name.now (slot_copy copy.now)) }
 {
-    let place = slot_id_after_other_slot_removal(id, place);
+    let place = id_after_removed(id, place);
     let mut changes = Vec::new(alloc);
     changes.push(Change::Delete { id })?;
     changes.push(Change::Delete { id: place })?;
-    push_slot_creation_changes(&mut changes, place, name, copy)?;
+    push_slot_changes(&mut changes, place, name, copy)?;
     Ok(changes)
 }
 
@@ -111,16 +111,16 @@ pub fn rename_onto_file<D: BlockDevice>(
     name: &[u8],
 ) -> Result<(), Error>
     requires works { thread.old.failed ≡ false }
-    requires can { CanRenameOntoFileInPair thread.old.kept pair id place name.now }
-    ensures renamed { OnOk result ((rename : CanRenameOntoFileInPair thread.old.kept pair id place name.now)
-        → IsEntryRenamedOntoFileInPair thread.old.kept thread.new.kept rename.can.path rename.can.name name.now rename.target.stands.slot.struct) }
-    ensures errors { ReportsErrorsOfReadThenChangeOrSplit thread.old thread.new pair (rename_onto_file_in_pair_changes thread.old.kept pair id place name.now) result }
-    ensures device { WritesPairAndTwoFreeBlocks thread.old.kept pair thread.new.kept }
-    ensures survives { (rename : CanRenameOntoFileInPair thread.old.kept pair id place name.now) → SurvivesPowerLossInCallsSince thread.old.kept.disk thread.old.kept.history thread.new.kept.history
-        (tree_on_disk thread.old.kept.disk thread.old.kept.pairs) (tree_with_renamed_entry thread.old.kept rename.can.path rename.can.name name.now) }
+    requires can { CanRenameOnto thread.old.kept pair id place name.now }
+    ensures renamed { OnOk result ((rename : CanRenameOnto thread.old.kept pair id place name.now)
+        → IsRenamedOnto thread.old.kept thread.new.kept rename.can.path rename.can.name name.now rename.target.stands.slot.struct) }
+    ensures errors { ReportsErrorsOfReadThenChangeOrSplit thread.old thread.new pair (onto_changes thread.old.kept pair id place name.now) result }
+    ensures device { WritesPairTwo thread.old.kept pair thread.new.kept }
+    ensures survives { (rename : CanRenameOnto thread.old.kept pair id place name.now) → SurvivesLossSince thread.old.kept.disk thread.old.kept.history thread.new.kept.history
+        (tree_on_disk thread.old.kept.disk thread.old.kept.pairs) (tree_renamed thread.old.kept rename.can.path rename.can.name name.now) }
 {
-    let copy = copy_slot_of_pair(alloc, thread, pair, id)?;
-    let changes = changes_renaming_slot_onto_file(alloc, id, place, name, &copy)?;
-    change_or_split_pair(alloc, thread, pair, &changes)?;
+    let copy = copy_pair_slot(alloc, thread, pair, id)?;
+    let changes = renaming_onto_changes(alloc, id, place, name, &copy)?;
+    change_or_split(alloc, thread, pair, &changes)?;
     Ok(())
 }

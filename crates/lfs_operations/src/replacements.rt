@@ -1,23 +1,23 @@
 // Entries that replace a directory of their pair.
 
 ghost use Rattle.std.specs.Prelude.{◌≡◌, ◌-◌, ◌∷◌, IfOk, OnOk, false};
-ghost use Rattle.lfs_model.specs.Changes.{Delete, PutMove};
-ghost use Rattle.lfs_model.specs.PowerLoss.{SurvivesPowerLossInCallsSince};
-ghost use Rattle.lfs_model.specs.Shown.{tree_on_disk};
+ghost use Rattle.lfs_model.specs.layers.Changes.{Delete, PutMove};
+ghost use Rattle.lfs_model.specs.crash.PowerLoss.{SurvivesLossSince};
+ghost use Rattle.lfs_model.specs.tree.Shown.{tree_on_disk};
 ghost use Rattle.lfs_tag.specs.FieldsView.{move_view};
 ghost use Rattle.lfs_pair.specs.ChangeView.{changes_view};
-ghost use Rattle.lfs_thread.specs.Steps.{ThreadChangesOnlyTheseBlocks, thread_pair_at_index};
-ghost use Rattle.lfs_operations.specs.Altering.{ChangesOnlyGivenAlteredOrFreeBlocks};
-ghost use Rattle.lfs_operations.specs.Renaming.{id_after_slot_removal, tree_with_renamed_entry};
-ghost use Rattle.lfs_operations.specs.RenamingOver.{CanRenameOntoDirectoryInPair, CanReplaceDirectoryInPair, IsEntryRenamedOntoDirectory, IsDirectoryReplacedInPair, ReportsErrorsOfReadThenCommit, ReportsErrorsOfReadThenCommits};
-ghost use Rattle.lfs_operations.specs.RenamingView.{slot_copy_view};
-ghost use Rattle.lfs_operations.specs.RenamingSlots.{slot_creation_changes};
-ghost use Rattle.lfs_model.specs.Thread.{blocks_of_pair_address, blocks_of_two_pair_addresses};
+ghost use Rattle.lfs_thread.specs.ThreadSteps.{ChangesThreadBlocks, thread_pair_at};
+ghost use Rattle.lfs_operations.specs.Altering.{ChangesGiven};
+ghost use Rattle.lfs_operations.specs.Renaming.{id_after_removal, tree_renamed};
+ghost use Rattle.lfs_operations.specs.RenamingOver.{CanRenameOver, CanReplaceDirectory, IsRenamedOver, IsDirectoryReplaced, ReportsErrorsOfReadThenCommit, ReportsErrorsOfReadThenCommits};
+ghost use Rattle.lfs_operations.specs.RenamingView.{slot_copy};
+ghost use Rattle.lfs_operations.specs.RenamingSlots.{slot_changes};
+ghost use Rattle.lfs_model.specs.format.Thread.{address_blocks, addresses_blocks};
 
-use crate::directory_removals::delta_of_sync_bit;
+use crate::directory_removals::sync_delta;
 use crate::drops::drop_pair_at;
-use crate::renames::slot_id_after_other_slot_removal;
-use crate::slot_copies::{SlotCopy, copy_slot_of_pair, push_slot_creation_changes};
+use crate::renames::id_after_removed;
+use crate::slot_copies::{SlotCopy, copy_pair_slot, push_slot_changes};
 use lfs_device::{BlockDevice, Error};
 use lfs_pair::Change;
 use lfs_tag::MoveState;
@@ -34,14 +34,14 @@ fn changes_replacing_directory<'a>(
     name: &'a [u8],
     copy: &'a SlotCopy,
 ) -> Result<Vec<Change<'a>>, AllocError>
-    ensures { IfOk result (λ changes. changes_view changes.items ≡ PutMove (move_view state) ∷ Delete id ∷ Delete (id_after_slot_removal id place) ∷ slot_creation_changes (id_after_slot_removal id place) name.now (slot_copy_view copy.now)) }
+    ensures { IfOk result (λ changes. changes_view changes.items ≡ PutMove (move_view state) ∷ Delete id ∷ Delete (id_after_removal id place) ∷ slot_changes (id_after_removal id place) name.now (slot_copy copy.now)) }
 {
-    let place = slot_id_after_other_slot_removal(id, place);
+    let place = id_after_removed(id, place);
     let mut changes = Vec::new(alloc);
     changes.push(Change::Move { state })?;
     changes.push(Change::Delete { id })?;
     changes.push(Change::Delete { id: place })?;
-    push_slot_creation_changes(&mut changes, place, name, copy)?;
+    push_slot_changes(&mut changes, place, name, copy)?;
     Ok(changes)
 }
 
@@ -52,7 +52,7 @@ fn changes_replacing_directory<'a>(
 // Errors: `Io` where a call of the device failed. `NoMemory` where memory for the pair's slots, a
 // copy of the entry and the pair's block isn't granted; nothing was written then. The thread has
 // failed after either, unless the entry couldn't be read and copied. Then the thread is as it was.
-pub(crate) fn rename_over_directory_in_pair<D: BlockDevice>(
+pub(crate) fn rename_over_directory<D: BlockDevice>(
     alloc: Global,
     thread: &mut Thread<D>,
     pair: usize,
@@ -61,15 +61,15 @@ pub(crate) fn rename_over_directory_in_pair<D: BlockDevice>(
     name: &[u8],
 ) -> Result<(), Error>
     requires works { thread.old.failed ≡ false }
-    requires can { CanReplaceDirectoryInPair thread.old.kept pair id place name.now }
-    ensures renamed { OnOk result ((rename : CanReplaceDirectoryInPair thread.old.kept pair id place name.now) → IsDirectoryReplacedInPair thread.old.kept thread.new.kept pair id place rename.can.path rename.can.name name.now) }
+    requires can { CanReplaceDirectory thread.old.kept pair id place name.now }
+    ensures renamed { OnOk result ((rename : CanReplaceDirectory thread.old.kept pair id place name.now) → IsDirectoryReplaced thread.old.kept thread.new.kept pair id place rename.can.path rename.can.name name.now) }
     ensures errors { ReportsErrorsOfReadThenCommit thread.old thread.new result }
-    ensures device { ThreadChangesOnlyTheseBlocks (blocks_of_pair_address (thread_pair_at_index thread.old.kept pair).at) thread.old.kept thread.new.kept }
-    ensures survives { (rename : CanReplaceDirectoryInPair thread.old.kept pair id place name.now) → SurvivesPowerLossInCallsSince thread.old.kept.disk thread.old.kept.history thread.new.kept.history
-        (tree_on_disk thread.old.kept.disk thread.old.kept.pairs) (tree_with_renamed_entry thread.old.kept rename.can.path rename.can.name name.now) }
+    ensures device { ChangesThreadBlocks (address_blocks (thread_pair_at thread.old.kept pair).at) thread.old.kept thread.new.kept }
+    ensures survives { (rename : CanReplaceDirectory thread.old.kept pair id place name.now) → SurvivesLossSince thread.old.kept.disk thread.old.kept.history thread.new.kept.history
+        (tree_on_disk thread.old.kept.disk thread.old.kept.pairs) (tree_renamed thread.old.kept rename.can.path rename.can.name name.now) }
 {
-    let copy = copy_slot_of_pair(alloc, thread, pair, id)?;
-    let state = gstate_xor_delta(&thread.delta(pair), &delta_of_sync_bit());
+    let copy = copy_pair_slot(alloc, thread, pair, id)?;
+    let state = gstate_xor_delta(&thread.delta(pair), &sync_delta());
     let changes = changes_replacing_directory(alloc, state, id, place, name, &copy)?;
     // Two slots are replaced by one, with the name of the one and the rest of the other. So the
     // commit is never refused.
@@ -97,16 +97,16 @@ pub fn rename_onto_directory<D: BlockDevice>(
     gone: usize,
 ) -> Result<(), Error>
     requires works { thread.old.failed ≡ false }
-    requires can { CanRenameOntoDirectoryInPair thread.old.kept pair id place name.now gone }
-    ensures renamed { OnOk result ((rename : CanRenameOntoDirectoryInPair thread.old.kept pair id place name.now gone)
-        → IsEntryRenamedOntoDirectory thread.old.kept thread.new.kept rename.over.can.path rename.over.can.name name.now) }
-    ensures alters { OnOk result (ChangesOnlyGivenAlteredOrFreeBlocks thread.old.kept (blocks_of_pair_address (thread_pair_at_index thread.old.kept pair).at) thread.new.kept) }
+    requires can { CanRenameOver thread.old.kept pair id place name.now gone }
+    ensures renamed { OnOk result ((rename : CanRenameOver thread.old.kept pair id place name.now gone)
+        → IsRenamedOver thread.old.kept thread.new.kept rename.over.can.path rename.over.can.name name.now) }
+    ensures alters { OnOk result (ChangesGiven thread.old.kept (address_blocks (thread_pair_at thread.old.kept pair).at) thread.new.kept) }
     ensures errors { ReportsErrorsOfReadThenCommits thread.old thread.new result }
-    ensures device { ThreadChangesOnlyTheseBlocks (blocks_of_two_pair_addresses (thread_pair_at_index thread.old.kept pair).at (thread_pair_at_index thread.old.kept (gone - 1)).at) thread.old.kept thread.new.kept }
-    ensures survives { (rename : CanRenameOntoDirectoryInPair thread.old.kept pair id place name.now gone) → SurvivesPowerLossInCallsSince thread.old.kept.disk thread.old.kept.history thread.new.kept.history
-        (tree_on_disk thread.old.kept.disk thread.old.kept.pairs) (tree_with_renamed_entry thread.old.kept rename.over.can.path rename.over.can.name name.now) }
+    ensures device { ChangesThreadBlocks (addresses_blocks (thread_pair_at thread.old.kept pair).at (thread_pair_at thread.old.kept (gone - 1)).at) thread.old.kept thread.new.kept }
+    ensures survives { (rename : CanRenameOver thread.old.kept pair id place name.now gone) → SurvivesLossSince thread.old.kept.disk thread.old.kept.history thread.new.kept.history
+        (tree_on_disk thread.old.kept.disk thread.old.kept.pairs) (tree_renamed thread.old.kept rename.over.can.path rename.over.can.name name.now) }
 {
-    rename_over_directory_in_pair(alloc, thread, pair, id, place, name)?;
+    rename_over_directory(alloc, thread, pair, id, place, name)?;
     drop_pair_at(alloc, thread, gone, &MoveState::none())?;
     Ok(())
 }

@@ -1,15 +1,15 @@
 // Copies of slots, which are written elsewhere.
 
 ghost use Rattle.std.specs.Prelude.{◌≡◌, ◌<◌, ◌++◌, Some, IfErr, IfOk, IsSome, OnOk, false, length, map};
-ghost use Rattle.lfs_model.specs.Content.{RawPairContent, content_after_log_entries, empty_raw_pair_content, slot_of_id};
-ghost use Rattle.lfs_model.specs.Log.{log_entries_of_block};
-ghost use Rattle.lfs_model.specs.Slots.{PairContent as ModelContent};
+ghost use Rattle.lfs_model.specs.format.Content.{RawContent, content_after, empty_raw_content, slot_of_id};
+ghost use Rattle.lfs_model.specs.format.Log.{block_entries};
+ghost use Rattle.lfs_model.specs.format.Slots.{PairContent as ModelContent};
 ghost use Rattle.lfs_pair.specs.ChangeView.{changes_view};
-ghost use Rattle.lfs_tag.specs.ContentView.{attribute_view, name_or_struct_view, slot_view};
-ghost use Rattle.lfs_thread.specs.CachedLog.{IsLogBlockOfContent};
-ghost use Rattle.lfs_thread.specs.Steps.{IoMeantFaultNoMemoryWroteNothing, IsThreadOnlyRead};
-ghost use Rattle.lfs_operations.specs.RenamingSlots.{HasSlotOfId, put_attribute_changes, nameless_slot_at, nameless_slot_of, slot_creation_changes};
-ghost use Rattle.lfs_operations.specs.RenamingView.{attribute_copy_view, slot_copy_view, struct_copy_view};
+ghost use Rattle.lfs_tag.specs.ContentView.{attribute_view, data_view, slot_view};
+ghost use Rattle.lfs_thread.specs.CachedLog.{IsContentLog};
+ghost use Rattle.lfs_thread.specs.ThreadSteps.{IoMeantFaultNoMemoryWroteNothing, OnlyReadsThread};
+ghost use Rattle.lfs_operations.specs.RenamingSlots.{HasSlot, attribute_changes, nameless_at, nameless_of, slot_changes};
+ghost use Rattle.lfs_operations.specs.RenamingView.{attribute_copy, slot_copy, struct_copy};
 
 use lfs_device::{BlockDevice, Error};
 use lfs_pair::Change;
@@ -39,11 +39,11 @@ pub(crate) struct SlotCopy {
     attributes: Vec<AttributeCopy>,
 }
 
-fn copy_struct_type_and_bytes(
+fn copy_struct(
     alloc: Global,
     part: &NameOrStruct<'_>,
 ) -> Result<StructCopy, AllocError>
-    ensures { IfOk result (λ copy. struct_copy_view copy ≡ name_or_struct_view part.now) }
+    ensures { IfOk result (λ copy. struct_copy copy ≡ data_view part.now) }
 {
     let bytes = Vec::from_slice(alloc, part.bytes)?;
     Ok(StructCopy {
@@ -53,7 +53,7 @@ fn copy_struct_type_and_bytes(
 }
 
 fn copy_attribute(alloc: Global, attribute: &Attribute<'_>) -> Result<AttributeCopy, AllocError>
-    ensures { IfOk result (λ copy. attribute_copy_view copy ≡ attribute_view attribute.now) }
+    ensures { IfOk result (λ copy. attribute_copy copy ≡ attribute_view attribute.now) }
 {
     let bytes = Vec::from_slice(alloc, attribute.bytes)?;
     Ok(AttributeCopy {
@@ -66,7 +66,7 @@ fn copy_attributes(
     alloc: Global,
     attributes: &[Attribute<'_>],
 ) -> Result<Vec<AttributeCopy>, AllocError>
-    ensures { IfOk result (λ copies. map attribute_copy_view copies.items ≡ map attribute_view attributes.now) }
+    ensures { IfOk result (λ copies. map attribute_copy copies.items ≡ map attribute_view attributes.now) }
 {
     let mut copies = Vec::new(alloc);
     for attribute in attributes {
@@ -79,10 +79,10 @@ fn copy_attributes(
 fn copy_slot(alloc: Global, slot: &Slot<'_>) -> Result<SlotCopy, AllocError>
     requires named { IsSome slot.now.name }
     requires structured { IsSome slot.now.structure }
-    ensures { IfOk result (λ copy. slot_copy_view copy ≡ nameless_slot_of (slot_view slot.now)) }
+    ensures { IfOk result (λ copy. slot_copy copy ≡ nameless_of (slot_view slot.now)) }
 {
     let name_kind = slot.name.unwrap().kind;
-    let structure = copy_struct_type_and_bytes(alloc, &slot.structure.unwrap())?;
+    let structure = copy_struct(alloc, &slot.structure.unwrap())?;
     let attributes = copy_attributes(alloc, &slot.attributes)?;
     Ok(SlotCopy {
         name_kind,
@@ -92,9 +92,9 @@ fn copy_slot(alloc: Global, slot: &Slot<'_>) -> Result<SlotCopy, AllocError>
 }
 
 // Copies the slot at an id of a log.
-fn copy_slot_of_log(alloc: Global, log: &Log<'_>, id: u16) -> Result<SlotCopy, Error>
-    requires { (content : ModelContent) × (IsLogBlockOfContent log.now content × (id < length content.slots)) }
-    ensures copied { (raw : RawPairContent) → content_after_log_entries empty_raw_pair_content (log_entries_of_block log.now) ≡ Some raw → IfOk result (λ copy. slot_copy_view copy ≡ nameless_slot_of (slot_of_id raw.slots id)) }
+fn copy_log_slot(alloc: Global, log: &Log<'_>, id: u16) -> Result<SlotCopy, Error>
+    requires { (content : ModelContent) × (IsContentLog log.now content × (id < length content.slots)) }
+    ensures copied { (raw : RawContent) → content_after empty_raw_content (block_entries log.now) ≡ Some raw → IfOk result (λ copy. slot_copy copy ≡ nameless_of (slot_of_id raw.slots id)) }
     ensures errors { IfErr result (λ e. e ≡ Error.NoMemory) }
 {
     let content = Content::read(alloc, log)?;
@@ -103,32 +103,32 @@ fn copy_slot_of_log(alloc: Global, log: &Log<'_>, id: u16) -> Result<SlotCopy, E
 }
 
 // Copies the slot at an id of a pair. After an error the thread works on, too.
-pub(crate) fn copy_slot_of_pair<D: BlockDevice>(
+pub(crate) fn copy_pair_slot<D: BlockDevice>(
     alloc: Global,
     thread: &mut Thread<D>,
     pair: usize,
     id: u16,
 ) -> Result<SlotCopy, Error>
     requires works { thread.old.failed ≡ false }
-    requires there { HasSlotOfId thread.old.kept pair id }
-    ensures copied { IfOk result (λ copy. slot_copy_view copy ≡ nameless_slot_at thread.old.kept pair id) }
-    ensures only { IsThreadOnlyRead thread.old.kept thread.new.kept }
+    requires there { HasSlot thread.old.kept pair id }
+    ensures copied { IfOk result (λ copy. slot_copy copy ≡ nameless_at thread.old.kept pair id) }
+    ensures only { OnlyReadsThread thread.old.kept thread.new.kept }
     ensures works { thread.new.failed ≡ false }
     ensures errors { IoMeantFaultNoMemoryWroteNothing thread.old.kept thread.new.kept result }
 {
     thread.load_pair(pair)?;
-    let copy = copy_slot_of_log(alloc, &thread.lend(pair).unwrap(), id)?;
+    let copy = copy_log_slot(alloc, &thread.lend(pair).unwrap(), id)?;
     Ok(copy)
 }
 
 // Adds the changes that put in a copied slot at an id, under that name.
-pub(crate) fn push_slot_creation_changes<'a>(
+pub(crate) fn push_slot_changes<'a>(
     changes: &mut Vec<Change<'a>>,
     id: u16,
     name: &'a [u8],
     copy: &'a SlotCopy,
 ) -> Result<(), AllocError>
-    ensures { OnOk result (changes_view changes.new.items ≡ changes_view changes.old.items ++ slot_creation_changes id name.now (slot_copy_view copy.now)) }
+    ensures { OnOk result (changes_view changes.new.items ≡ changes_view changes.old.items ++ slot_changes id name.now (slot_copy copy.now)) }
 {
     changes.push(Change::Create {
         id,
@@ -149,7 +149,7 @@ fn push_attribute_changes<'a>(
     id: u16,
     attributes: &'a [AttributeCopy],
 ) -> Result<(), AllocError>
-    ensures { OnOk result (changes_view changes.new.items ≡ changes_view changes.old.items ++ put_attribute_changes id (map attribute_copy_view attributes.now)) }
+    ensures { OnOk result (changes_view changes.new.items ≡ changes_view changes.old.items ++ attribute_changes id (map attribute_copy attributes.now)) }
 {
     for attribute in attributes {
         changes.push(Change::Attr {

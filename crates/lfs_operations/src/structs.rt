@@ -1,13 +1,13 @@
 // Structs of files, which are set.
 
 ghost use Rattle.std.specs.Prelude.{◌≡◌, ◌∷◌, [], false, OnOk};
-ghost use Rattle.lfs_model.specs.Changes.{PutStruct};
-ghost use Rattle.lfs_model.specs.PowerLoss.{SurvivesPowerLossInCallsSince};
-ghost use Rattle.lfs_model.specs.Shown.{tree_on_disk};
-ghost use Rattle.lfs_operations.specs.Changing.{ReportsErrorsOfChangeOrSplit, WritesPairAndTwoFreeBlocks};
-ghost use Rattle.lfs_operations.specs.Storing.{CanSetFileStruct, HasStoredContentsOfFile, tree_with_contents_at};
+ghost use Rattle.lfs_model.specs.layers.Changes.{PutStruct};
+ghost use Rattle.lfs_model.specs.crash.PowerLoss.{SurvivesLossSince};
+ghost use Rattle.lfs_model.specs.tree.Shown.{tree_on_disk};
+ghost use Rattle.lfs_operations.specs.Changing.{ReportsErrorsOfChangeOrSplit, WritesPairTwo};
+ghost use Rattle.lfs_operations.specs.Storing.{CanSetStruct, HasStoredContents, tree_with_contents};
 
-use crate::changes::change_or_split_pair;
+use crate::changes::change_or_split;
 use lfs_device::{BlockDevice, Error};
 use lfs_pair::Change;
 use lfs_thread::Thread;
@@ -30,15 +30,15 @@ pub fn set_struct<D: BlockDevice>(
     bytes: &[u8],
 ) -> Result<(), Error>
     requires works { thread.old.failed ≡ false }
-    requires can { CanSetFileStruct thread.old.kept pair id kind bytes.now }
-    ensures is_stored { OnOk result ((store : CanSetFileStruct thread.old.kept pair id kind bytes.now)
-        → HasStoredContentsOfFile thread.old.kept thread.new.kept store.can.path store.can.name store.contents store.gone store.come) }
+    requires can { CanSetStruct thread.old.kept pair id kind bytes.now }
+    ensures is_stored { OnOk result ((store : CanSetStruct thread.old.kept pair id kind bytes.now)
+        → HasStoredContents thread.old.kept thread.new.kept store.can.path store.can.name store.contents store.gone store.come) }
     ensures errors { ReportsErrorsOfChangeOrSplit thread.old thread.new pair (PutStruct id kind bytes.now ∷ []) result }
-    ensures device { WritesPairAndTwoFreeBlocks thread.old.kept pair thread.new.kept }
-    ensures survives { (store : CanSetFileStruct thread.old.kept pair id kind bytes.now) → SurvivesPowerLossInCallsSince thread.old.kept.disk thread.old.kept.history thread.new.kept.history
-        (tree_on_disk thread.old.kept.disk thread.old.kept.pairs) (tree_with_contents_at thread.old.kept store.can.path store.can.name store.contents) }
+    ensures device { WritesPairTwo thread.old.kept pair thread.new.kept }
+    ensures survives { (store : CanSetStruct thread.old.kept pair id kind bytes.now) → SurvivesLossSince thread.old.kept.disk thread.old.kept.history thread.new.kept.history
+        (tree_on_disk thread.old.kept.disk thread.old.kept.pairs) (tree_with_contents thread.old.kept store.can.path store.can.name store.contents) }
 {
     let changes = [Change::Struct { id, kind, bytes }];
-    change_or_split_pair(alloc, thread, pair, &changes)?;
+    change_or_split(alloc, thread, pair, &changes)?;
     Ok(())
 }

@@ -1,62 +1,62 @@
 -- A content written into an erased block, as its first commit.
 use Rattle.std.proofs.Common.{ℕ, ◌≡◌, ◌+◌, ◌≤◌, Bool, false, List, [], ◌∷◌, Some, inl, inr, refl, sym, ap, ◌∙◌, subst, arith}
-use Rattle.lfs_model.specs.Blocks.{Blocks, block_bytes_by_number, AreBlocksEqualExceptOne}
-use Rattle.lfs_model.specs.Geometry.{IsValidGeometry}
-use Rattle.lfs_model.specs.Content.{RawPairContent, empty_raw_pair_content}
-use Rattle.lfs_model.specs.Commit.{encoded_size_of_log_entries, page_aligned_commit_end}
-use Rattle.lfs_model.specs.WrittenContent.{IsRawContentFittingPair, log_entries_of_content}
-use Rattle.lfs_model.specs.LoggedContent.{AreNamedSlots, IsWellFormedRawPairContent, IsStorableRawPairContent}
-use Rattle.lfs_model.specs.History.{DeviceCallEvent, device_call_event_with_blocks, Erase, IsTrueOfEachCallSince, IsTrueAfterAnyPowerLossSince}
-use Rattle.lfs_model.specs.Stops.{MayStoppedEraseLeaveBlock, LeavesNoNewLogIfSuccessfulErase, AreBlocksLeftByPowerLossInCall}
+use Rattle.lfs_model.specs.format.Blocks.{Blocks, block_bytes, SameExcept}
+use Rattle.lfs_model.specs.format.Geometry.{IsValidGeometry}
+use Rattle.lfs_model.specs.format.Content.{RawContent, empty_raw_content}
+use Rattle.lfs_model.specs.layers.Commit.{encoded_size, commit_end_aligned}
+use Rattle.lfs_model.specs.layers.WrittenContent.{RawContentFits, content_entries}
+use Rattle.lfs_model.specs.layers.LoggedContent.{AreNamed, IsWellFormed, IsStorable}
+use Rattle.lfs_model.specs.session.History.{CallEvent, call_event, Erase, AllCallsSince, HoldsAtLosses}
+use Rattle.lfs_model.specs.crash.Stops.{MayEraseLeave, ErasesCleanly, LeftByLoss}
 use Rattle.lfs_model.proofs.Appended.{appended_content}
-use Rattle.lfs_model.proofs.Histories.{began, goes_on, goes_on_by, IsTrueAfterAnyPowerLossSince-weaker, IsTrueOfEachCallSince-until, IsTrueOfEachCallSince-only}
-use Rattle.lfs_model.proofs.Overwrites.{AreBlocksEqualExceptOne-trans}
-use Rattle.lfs_model.proofs.Pages.{page_positive, page_aligned_commit_end-below}
+use Rattle.lfs_model.proofs.Histories.{began, goes_on, goes_on_by, HoldsAtLosses-weaker, AllCallsSince-until, AllCallsSince-only}
+use Rattle.lfs_model.proofs.Overwrites.{SameExcept-trans}
+use Rattle.lfs_model.proofs.Pages.{page_positive, commit_end_aligned-below}
 use Rattle.lfs_model.proofs.WrittenAnew.{entries_of-reads}
 use Rattle.lfs_model.proofs.WrittenSizes.{written_size}
-use Rattle.lfs_tag.specs.Builder.{CommitBeingBuilt, padded_commit_end}
-use Rattle.lfs_pair.specs.Writing.{commit_with_more_entries, LogGetsCommit, HasContentInOneCommit, PowerLossLeavesOldLogOrCommit, PowerLossLeavesOldLogOrRewrittenContent, DiffersOnlyInBlockAsPropertyAllows}
+use Rattle.lfs_tag.specs.Builder.{PartialCommit, padded_end_of}
+use Rattle.lfs_pair.specs.Writing.{commit_with_more, LogGetsCommit, HasOneCommit, LossLeavesCommit, LossLeavesRewritten, DiffersInBlock}
 use Rattle.lfs_pair.proofs.Committed.{Gets-has_commit}
 
 -- the commit, in a buffer of a block
-abbrev pub anew : (size page revision : ℕ) → RawPairContent → CommitBeingBuilt
-anew size page revision c = record { page = page; room = size; previous = 0xffffffff; revision = Some revision; entries = log_entries_of_content c }
+abbrev pub anew : (size page revision : ℕ) → RawContent → PartialCommit
+anew size page revision c = record { page = page; room = size; previous = 0xffffffff; revision = Some revision; entries = content_entries c }
 
-pub is_anew : {b started : CommitBeingBuilt} {size page revision room paged previous : ℕ} (c : RawPairContent) → b ≡ commit_with_more_entries (log_entries_of_content c) started
+pub is_anew : {b started : PartialCommit} {size page revision room paged previous : ℕ} (c : RawContent) → b ≡ commit_with_more (content_entries c) started
     → started ≡ record { page = paged; room = room; previous = previous; revision = Some revision; entries = [] } → room ≡ size → paged ≡ page → previous ≡ 0xffffffff → b ≡ anew size page revision c
 is_anew {size = size} {page = page} {revision = revision} {room = room} {paged = paged} {previous = previous} c pushed start long pages before =
-    pushed ∙ ap (commit_with_more_entries (log_entries_of_content c)) (start
+    pushed ∙ ap (commit_with_more (content_entries c)) (start
     ∙ ap (λ n. record { page = paged; room = n; previous = previous; revision = Some revision; entries = [] }) long
     ∙ ap (λ n. record { page = n; room = size; previous = previous; revision = Some revision; entries = [] }) pages
     ∙ ap (λ n. record { page = page; room = size; previous = n; revision = Some revision; entries = [] }) before)
 
 -- ---- it fits the block
 
-anew_ends : (size page count revision : ℕ) (c : RawPairContent) → IsValidGeometry size page count → IsRawContentFittingPair size page c → padded_commit_end (anew size page revision c) ≤ size
+anew_ends : (size page count revision : ℕ) (c : RawContent) → IsValidGeometry size page count → RawContentFits size page c → padded_end_of (anew size page revision c) ≤ size
 anew_ends size page count revision c valid fits =
-    let end = page_aligned_commit_end-below page (4 + encoded_size_of_log_entries (log_entries_of_content c)) (page_positive page valid.power) in
+    let end = commit_end_aligned-below page (4 + encoded_size (content_entries c)) (page_positive page valid.power) in
     omega (arith, end, written_size c, fits.size, valid.pages, valid.no_smaller)
 
-pub anew_room : {b : CommitBeingBuilt} {size page count revision : ℕ} {c : RawPairContent} → b ≡ anew size page revision c → IsValidGeometry size page count → IsRawContentFittingPair size page c → padded_commit_end b ≤ b.room
-anew_room {size = size} {page} {count} {revision} {c} is valid fits = subst (λ (d : CommitBeingBuilt). padded_commit_end d ≤ d.room) (sym is) (anew_ends size page count revision c valid fits)
+pub anew_room : {b : PartialCommit} {size page count revision : ℕ} {c : RawContent} → b ≡ anew size page revision c → IsValidGeometry size page count → RawContentFits size page c → padded_end_of b ≤ b.room
+anew_room {size = size} {page} {count} {revision} {c} is valid fits = subst (λ (d : PartialCommit). padded_end_of d ≤ d.room) (sym is) (anew_ends size page count revision c valid fits)
 
 -- where it begins at 0
-pub anew_within : {b : CommitBeingBuilt} {size page count revision : ℕ} {c : RawPairContent} → b ≡ anew size page revision c → IsValidGeometry size page count → IsRawContentFittingPair size page c → 0 + padded_commit_end b ≤ size
+pub anew_within : {b : PartialCommit} {size page count revision : ℕ} {c : RawContent} → b ≡ anew size page revision c → IsValidGeometry size page count → RawContentFits size page c → 0 + padded_end_of b ≤ size
 anew_within {size = size} {page} {count} {revision} {c} is valid fits =
-    let ends = anew_ends size page count revision c valid fits in subst (λ (d : CommitBeingBuilt). 0 + padded_commit_end d ≤ size) (sym is) (omega arith)
+    let ends = anew_ends size page count revision c valid fits in subst (λ (d : PartialCommit). 0 + padded_end_of d ≤ size) (sym is) (omega arith)
 
 -- ---- what the block then holds
 
-pub fits_sound : {c : RawPairContent} {size page : ℕ} → IsWellFormedRawPairContent c → AreNamedSlots c.slots → IsRawContentFittingPair size page c → IsStorableRawPairContent c
+pub fits_sound : {c : RawContent} {size page : ℕ} → IsWellFormed c → AreNamed c.slots → RawContentFits size page c → IsStorable c
 fits_sound logged names fits = record { logged = logged; names = names; few = omega (arith, fits.count) }
 
-pub anew_holds : {b : CommitBeingBuilt} {size page revision : ℕ} {c : RawPairContent} {old : List ℕ} (new : List ℕ) → b ≡ anew size page revision c → IsStorableRawPairContent c → LogGetsCommit b old new → HasContentInOneCommit revision c new
+pub anew_holds : {b : PartialCommit} {size page revision : ℕ} {c : RawContent} {old : List ℕ} (new : List ℕ) → b ≡ anew size page revision c → IsStorable c → LogGetsCommit b old new → HasOneCommit revision c new
 anew_holds {c = c} {old = old} new is sound gets =
-    let got = subst (λ (d : CommitBeingBuilt). LogGetsCommit d old new) is gets in
+    let got = subst (λ (d : PartialCommit). LogGetsCommit d old new) is gets in
     record {
       has_commit = Gets-has_commit got;
       revision_is = got.revision;
-      content = appended_content new [] (log_entries_of_content c) got.checksum empty_raw_pair_content c got.commits got.class refl (entries_of-reads c sound);
+      content = appended_content new [] (content_entries c) got.checksum empty_raw_content c got.commits got.class refl (entries_of-reads c sound);
       checksum = got.checksum;
       class = got.class;
       commits = got.commits;
@@ -64,16 +64,16 @@ anew_holds {c = c} {old = old} new is sound gets =
 
 -- ---- what a stop on the way there leaves
 
-left_by_erase : {block revision : ℕ} {c : RawPairContent} {old : Blocks} (disk : Blocks) → AreBlocksEqualExceptOne block old disk × MayStoppedEraseLeaveBlock (block_bytes_by_number old block) (block_bytes_by_number disk block)
-    → DiffersOnlyInBlockAsPropertyAllows block (PowerLossLeavesOldLogOrRewrittenContent revision c) old disk
+left_by_erase : {block revision : ℕ} {c : RawContent} {old : Blocks} (disk : Blocks) → SameExcept block old disk × MayEraseLeave (block_bytes old block) (block_bytes disk block)
+    → DiffersInBlock block (LossLeavesRewritten revision c) old disk
 left_by_erase disk left = (left.0, elim left.1 [ inl same ↦ inl same | inr none ↦ inr (inl none) ])
 
-pub leaves_erase : {block revision : ℕ} {c : RawPairContent} {old mid : Blocks} {failed : Bool} {before after : List DeviceCallEvent} → after ≡ device_call_event_with_blocks (Erase block) old mid failed ∷ before
-    → IsTrueAfterAnyPowerLossSince AreBlocksLeftByPowerLossInCall before after (DiffersOnlyInBlockAsPropertyAllows block (PowerLossLeavesOldLogOrRewrittenContent revision c) old)
+pub leaves_erase : {block revision : ℕ} {c : RawContent} {old mid : Blocks} {failed : Bool} {before after : List CallEvent} → after ≡ call_event (Erase block) old mid failed ∷ before
+    → HoldsAtLosses LeftByLoss before after (DiffersInBlock block (LossLeavesRewritten revision c) old)
 leaves_erase is = goes_on began is left_by_erase
 
-left_anew : {b : CommitBeingBuilt} {size page revision : ℕ} {c : RawPairContent} (old mid left : List ℕ) → b ≡ anew size page revision c → IsStorableRawPairContent c → MayStoppedEraseLeaveBlock old mid
-    → PowerLossLeavesOldLogOrCommit b 0 mid left → PowerLossLeavesOldLogOrRewrittenContent revision c old left
+left_anew : {b : PartialCommit} {size page revision : ℕ} {c : RawContent} (old mid left : List ℕ) → b ≡ anew size page revision c → IsStorable c → MayEraseLeave old mid
+    → LossLeavesCommit b 0 mid left → LossLeavesRewritten revision c old left
 left_anew old mid left is sound erased stopped = elim stopped [
   | inl same ↦ elim erased [ inl was ↦ inl (same ∙ was) | inr none ↦ inr (inl (same ∙ none)) ]
   | inr more ↦ elim more [
@@ -83,18 +83,18 @@ left_anew old mid left is sound erased stopped = elim stopped [
 ]
 
 -- of an erase that leaves the old log or none, and of the commit behind it
-pub leaves_anew : {b : CommitBeingBuilt} {size page revision block : ℕ} {c : RawPairContent} {old mid : Blocks} {before erased after : List DeviceCallEvent} → b ≡ anew size page revision c → IsStorableRawPairContent c
-    → AreBlocksEqualExceptOne block old mid → erased ≡ device_call_event_with_blocks (Erase block) old mid false ∷ before → IsTrueAfterAnyPowerLossSince AreBlocksLeftByPowerLossInCall erased after (DiffersOnlyInBlockAsPropertyAllows block (PowerLossLeavesOldLogOrCommit b 0) mid) → IsTrueOfEachCallSince LeavesNoNewLogIfSuccessfulErase before after
-    → IsTrueAfterAnyPowerLossSince AreBlocksLeftByPowerLossInCall before after (DiffersOnlyInBlockAsPropertyAllows block (PowerLossLeavesOldLogOrRewrittenContent revision c) old)
+pub leaves_anew : {b : PartialCommit} {size page revision block : ℕ} {c : RawContent} {old mid : Blocks} {before erased after : List CallEvent} → b ≡ anew size page revision c → IsStorable c
+    → SameExcept block old mid → erased ≡ call_event (Erase block) old mid false ∷ before → HoldsAtLosses LeftByLoss erased after (DiffersInBlock block (LossLeavesCommit b 0) mid) → AllCallsSince ErasesCleanly before after
+    → HoldsAtLosses LeftByLoss before after (DiffersInBlock block (LossLeavesRewritten revision c) old)
 leaves_anew {revision = revision} {block = block} {c = c} {old = old} {mid = mid} {before = before} {erased = erased} is sound same here behind clean =
-    let first : IsTrueAfterAnyPowerLossSince AreBlocksLeftByPowerLossInCall before erased (DiffersOnlyInBlockAsPropertyAllows block (PowerLossLeavesOldLogOrRewrittenContent revision c) old) = leaves_erase here in
-    let left : MayStoppedEraseLeaveBlock (block_bytes_by_number old block) (block_bytes_by_number mid block) = IsTrueOfEachCallSince-only (IsTrueOfEachCallSince-until clean first behind) here in
-    goes_on_by first (IsTrueAfterAnyPowerLossSince-weaker (λ disk stopped. (AreBlocksEqualExceptOne-trans same stopped.0, left_anew (block_bytes_by_number old block) (block_bytes_by_number mid block) (block_bytes_by_number disk block) is sound left stopped.1)) behind)
+    let first : HoldsAtLosses LeftByLoss before erased (DiffersInBlock block (LossLeavesRewritten revision c) old) = leaves_erase here in
+    let left : MayEraseLeave (block_bytes old block) (block_bytes mid block) = AllCallsSince-only (AllCallsSince-until clean first behind) here in
+    goes_on_by first (HoldsAtLosses-weaker (λ disk stopped. (SameExcept-trans same stopped.0, left_anew (block_bytes old block) (block_bytes mid block) (block_bytes disk block) is sound left stopped.1)) behind)
 
 -- ---- where it ends
 
 pub nothing_more : (n : ℕ) → 0 + n ≡ n
 nothing_more n = omega arith
 
-pub anew_end : {b : CommitBeingBuilt} {size page revision : ℕ} (c : RawPairContent) (end : ℕ) → end ≡ 0 + padded_commit_end b → b ≡ anew size page revision c → end ≡ page_aligned_commit_end page (4 + encoded_size_of_log_entries (log_entries_of_content c))
-anew_end {page = page} c end is built = is ∙ ap (λ (d : CommitBeingBuilt). 0 + padded_commit_end d) built ∙ nothing_more (page_aligned_commit_end page (4 + encoded_size_of_log_entries (log_entries_of_content c)))
+pub anew_end : {b : PartialCommit} {size page revision : ℕ} (c : RawContent) (end : ℕ) → end ≡ 0 + padded_end_of b → b ≡ anew size page revision c → end ≡ commit_end_aligned page (4 + encoded_size (content_entries c))
+anew_end {page = page} c end is built = is ∙ ap (λ (d : PartialCommit). 0 + padded_end_of d) built ∙ nothing_more (commit_end_aligned page (4 + encoded_size (content_entries c)))

@@ -4,12 +4,12 @@ use Rattle.std.specs.List.{list_all}
 use Rattle.std.proofs.lemmas.Bool.{and_parts}
 use Rattle.std.proofs.lemmas.List.{append-nil}
 use Rattle.std.proofs.lemmas.List.Concat.{flat_map-append}
-use Rattle.lfs_model.specs.Content.{RawPairContent, content_after_log_entries}
-use Rattle.lfs_model.specs.Changes.{PairContentChange, log_entries_of_change, log_entries_of_changes}
-use Rattle.lfs_model.proofs.WrittenAnew.{then, content_after_log_entries-append}
+use Rattle.lfs_model.specs.format.Content.{RawContent, content_after}
+use Rattle.lfs_model.specs.layers.Changes.{PairChange, change_entries, entries_of_changes}
+use Rattle.lfs_model.proofs.WrittenAnew.{then, content_after-append}
 use Rattle.lfs_tag.specs.declared.content.ContentError.{ContentError}
 use Rattle.lfs_tag.specs.declared.content.ContentError.TheVariants.{Malformed, NoMemory}
-use Rattle.lfs_tag.specs.ContentGives.{IsErrorOfReadingContent}
+use Rattle.lfs_tag.specs.ContentGives.{IsContentError}
 use Rattle.std.specs.Option.{option_and_then}
 
 pub all_at : {X Y : Type 0} (p : Y → Bool) (f : X → Y) (xs : List X) (i : ℕ) (d : X) → list_all p (map f xs) ≡ true → i < length xs → p (f (get_or xs i d)) ≡ true
@@ -32,21 +32,21 @@ mapped_split f (x ∷ xs) (suc i) d l =
     let more : suc i + 1 ≡ suc (i + 1) = omega arith in rw more (ap (λ ys. f x ∷ ys) (mapped_split f xs i d (omega arith)))
 
 -- one change more
-pub one_more : (c mid new : RawPairContent) (front : List PairContentChange) (change : PairContentChange) → content_after_log_entries c (log_entries_of_changes front) ≡ Some mid → content_after_log_entries mid (log_entries_of_change change) ≡ Some new
-    → content_after_log_entries c (log_entries_of_changes (front ++ change ∷ [])) ≡ Some new
+pub one_more : (c mid new : RawContent) (front : List PairChange) (change : PairChange) → content_after c (entries_of_changes front) ≡ Some mid → content_after mid (change_entries change) ≡ Some new
+    → content_after c (entries_of_changes (front ++ change ∷ [])) ≡ Some new
 one_more c mid new front change so_far here =
-    ap (content_after_log_entries c) (flat_map-append log_entries_of_change front (change ∷ []) ∙ ap (λ z. log_entries_of_changes front ++ z) (append-nil (log_entries_of_change change)))
-    ∙ then c mid (log_entries_of_changes front) (log_entries_of_change change) (Some new) so_far here
+    ap (content_after c) (flat_map-append change_entries front (change ∷ []) ∙ ap (λ z. entries_of_changes front ++ z) (append-nil (change_entries change)))
+    ∙ then c mid (entries_of_changes front) (change_entries change) (Some new) so_far here
 
 -- a change that fails makes all fail
-pub one_fails : (c mid : RawPairContent) (front : List PairContentChange) (change : PairContentChange) (others : List PairContentChange) → content_after_log_entries c (log_entries_of_changes front) ≡ Some mid → content_after_log_entries mid (log_entries_of_change change) ≡ None
-    → content_after_log_entries c (log_entries_of_changes (front ++ change ∷ others)) ≡ None
+pub one_fails : (c mid : RawContent) (front : List PairChange) (change : PairChange) (others : List PairChange) → content_after c (entries_of_changes front) ≡ Some mid → content_after mid (change_entries change) ≡ None
+    → content_after c (entries_of_changes (front ++ change ∷ others)) ≡ None
 one_fails c mid front change others so_far here =
-    ap (content_after_log_entries c) (flat_map-append log_entries_of_change front (change ∷ others))
-    ∙ then c mid (log_entries_of_changes front) (log_entries_of_change change ++ log_entries_of_changes others) None so_far
-    (content_after_log_entries-append mid (log_entries_of_change change) (log_entries_of_changes others) ∙ ap (option_and_then (λ d. content_after_log_entries d (log_entries_of_changes others))) here)
+    ap (content_after c) (flat_map-append change_entries front (change ∷ others))
+    ∙ then c mid (entries_of_changes front) (change_entries change ++ entries_of_changes others) None so_far
+    (content_after-append mid (change_entries change) (entries_of_changes others) ∙ ap (option_and_then (λ d. content_after d (entries_of_changes others))) here)
 
 -- an error of one step is one of all
-pub fails_on : {X Y : Type 0} (e : ContentError) (o : Option X) (p : Option Y) → (o ≡ None → p ≡ None) → IsErrorOfReadingContent e o → IsErrorOfReadingContent e p
+pub fails_on : {X Y : Type 0} (e : ContentError) (o : Option X) (p : Option Y) → (o ≡ None → p ≡ None) → IsContentError e o → IsContentError e p
 fails_on Malformed o p h f = h f
 fails_on NoMemory o p h f = tt

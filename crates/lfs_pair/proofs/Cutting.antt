@@ -3,10 +3,10 @@ use Rattle.std.proofs.Common.{ℕ, zero, suc, ◌≡◌, ◌+◌, ◌*◌, ◌-�
 use Rattle.std.proofs.lemmas.Bool.{cases_lt}
 use Rattle.std.proofs.lemmas.List.{length-map, length-take-le}
 use Rattle.std.proofs.lemmas.List.Sums.{sum_by-cons, sum_by-take-drop, sum_by-take-le}
-use Rattle.lfs_model.specs.Disk.{pair_capacity, slots_per_pair_limit}
-use Rattle.lfs_model.specs.Content.{RawSlot}
-use Rattle.lfs_model.specs.WrittenContent.{raw_slot_size}
-use Rattle.lfs_pair.specs.Cut.{AreSlotsFittingPair, IsFittingSplitOfSlots, CanSplitSlotsIntoTwoPairs, IsCutIndexNearHalfOfSlotBytes}
+use Rattle.lfs_model.specs.format.Disk.{pair_capacity, slots_limit}
+use Rattle.lfs_model.specs.format.Content.{RawSlot}
+use Rattle.lfs_model.specs.layers.WrittenContent.{slot_size_raw}
+use Rattle.lfs_pair.specs.HalfCut.{SlotsFitPair, IsFittingSplit, CanSplit, IsHalfCut}
 
 -- a longer front is no smaller
 front_grows : {X : Type 0} (f : X → ℕ) (xs : List X) (a b : ℕ) → a ≤ b → sum_by f (take a xs) ≤ sum_by f (take b xs)
@@ -16,69 +16,69 @@ front_grows f (x ∷ xs) (suc a) zero l = absurd (omega arith)
 front_grows f (x ∷ xs) (suc a) (suc b) l = omega (arith, front_grows f xs a b (omega arith), sum_by-cons f x (take a xs), sum_by-cons f x (take b xs))
 
 -- what is cut fits two pairs
-total_small : (block_size page : ℕ) (slots : List RawSlot) → CanSplitSlotsIntoTwoPairs block_size page slots → sum_by raw_slot_size slots ≤ 2 * pair_capacity block_size page
-total_small block_size page slots can = omega (arith, sum_by-take-drop raw_slot_size slots can.cut, can.is_cut.front.size, can.is_cut.back.size)
+total_small : (block_size page : ℕ) (slots : List RawSlot) → CanSplit block_size page slots → sum_by slot_size_raw slots ≤ 2 * pair_capacity block_size page
+total_small block_size page slots can = omega (arith, sum_by-take-drop slot_size_raw slots can.cut, can.is_cut.front.size, can.is_cut.back.size)
 
 -- behind a longer front the back fits too
-cut_after : (block_size page : ℕ) (slots : List RawSlot) (first cut : ℕ) → IsFittingSplitOfSlots block_size page slots first → first ≤ cut → cut ≤ length slots → AreSlotsFittingPair block_size page (take cut slots) → IsFittingSplitOfSlots block_size page slots cut
+cut_after : (block_size page : ℕ) (slots : List RawSlot) (first cut : ℕ) → IsFittingSplit block_size page slots first → first ≤ cut → cut ≤ length slots → SlotsFitPair block_size page (take cut slots) → IsFittingSplit block_size page slots cut
 cut_after block_size page slots first cut is before within fits =
-    let less = front_grows raw_slot_size slots first cut before in
+    let less = front_grows slot_size_raw slots first cut before in
     record {
       within = within;
       front = fits;
       back = record {
-        size = omega (arith, sum_by-take-drop raw_slot_size slots first, sum_by-take-drop raw_slot_size slots cut, less, is.back.size);
+        size = omega (arith, sum_by-take-drop slot_size_raw slots first, sum_by-take-drop slot_size_raw slots cut, less, is.back.size);
         count = omega (arith, length-drop first slots, length-drop cut slots, is.back.count);
       };
     }
 
 -- where a longer front doesn't fit, no cut is later
-not_later : (block_size page : ℕ) (slots : List RawSlot) (cut k : ℕ) → (cut + 1 ≤ slots_per_pair_limit → sum_by raw_slot_size (take (cut + 1) slots) ≤ pair_capacity block_size page → ⊥) → IsFittingSplitOfSlots block_size page slots k → k ≤ cut
+not_later : (block_size page : ℕ) (slots : List RawSlot) (cut k : ℕ) → (cut + 1 ≤ slots_limit → sum_by slot_size_raw (take (cut + 1) slots) ≤ pair_capacity block_size page → ⊥) → IsFittingSplit block_size page slots k → k ≤ cut
 not_later block_size page slots cut k full is = elim (cases_lt cut k) [
-  | inl later ↦ absurd (full (omega (arith, length-take-le k slots is.within, is.front.count)) (omega (arith, front_grows raw_slot_size slots (cut + 1) k (omega arith), is.front.size)))
+  | inl later ↦ absurd (full (omega (arith, length-take-le k slots is.within, is.front.count)) (omega (arith, front_grows slot_size_raw slots (cut + 1) k (omega arith), is.front.size)))
   | inr le ↦ le
 ]
 
 -- an earlier cut was passed over, since more may stand in front
 abbrev pub Passes : ℕ → ℕ → List RawSlot → ℕ → Type 0
-Passes block_size page slots cut = (k : ℕ) → k < cut → IsFittingSplitOfSlots block_size page slots k → 2 * sum_by raw_slot_size (take cut slots) ≤ sum_by raw_slot_size slots
+Passes block_size page slots cut = (k : ℕ) → k < cut → IsFittingSplit block_size page slots k → 2 * sum_by slot_size_raw (take cut slots) ≤ sum_by slot_size_raw slots
 
 -- the slots that may stand in front before the cut
 pub record Fronts (block_size page : ℕ) (slots : List RawSlot) (cut : ℕ) : Type 0 where
-  pub fits : AreSlotsFittingPair block_size page (take cut slots)
+  pub fits : SlotsFitPair block_size page (take cut slots)
   pub passes : Passes block_size page slots cut
 
 pub nothing_in_front : (block_size page : ℕ) (slots : List RawSlot) → Fronts block_size page slots 0
 nothing_in_front block_size page slots = record { fits = record { size = omega arith; count = omega arith }; passes = λ k l is. absurd (omega arith) }
 
 -- at the end all stand in front
-pub cut_at_end : (block_size page : ℕ) (slots : List RawSlot) (cut : ℕ) → cut ≡ length slots → Fronts block_size page slots cut → IsCutIndexNearHalfOfSlotBytes block_size page slots cut
+pub cut_at_end : (block_size page : ℕ) (slots : List RawSlot) (cut : ℕ) → cut ≡ length slots → Fronts block_size page slots cut → IsHalfCut block_size page slots cut
 cut_at_end block_size page slots cut is front =
     let none : drop cut slots ≡ [] = drop_of_length-le slots (omega arith) in
     record {
-      is_cut = record { within = omega arith; front = front.fits; back = subst (AreSlotsFittingPair block_size page) (sym none) (record { size = omega arith; count = omega arith }) };
+      is_cut = record { within = omega arith; front = front.fits; back = subst (SlotsFitPair block_size page) (sym none) (record { size = omega arith; count = omega arith }) };
       later = λ k l other. absurd (omega (arith, other.within));
       earlier = front.passes;
     }
 
 -- the back fits, and one slot more in front is past the middle
 pub cut_where_fits : (block_size page : ℕ) (slots : List RawSlot) (cut : ℕ) → cut ≤ length slots → Fronts block_size page slots cut
-    → sum_by raw_slot_size slots - sum_by raw_slot_size (take cut slots) ≤ pair_capacity block_size page → length slots - cut ≤ slots_per_pair_limit
-    → sum_by raw_slot_size slots < 2 * sum_by raw_slot_size (take (cut + 1) slots) → IsCutIndexNearHalfOfSlotBytes block_size page slots cut
+    → sum_by slot_size_raw slots - sum_by slot_size_raw (take cut slots) ≤ pair_capacity block_size page → length slots - cut ≤ slots_limit
+    → sum_by slot_size_raw slots < 2 * sum_by slot_size_raw (take (cut + 1) slots) → IsHalfCut block_size page slots cut
 cut_where_fits block_size page slots cut within front size count past =
     record {
       is_cut = record {
         within = within;
         front = front.fits;
-        back = record { size = omega (arith, sum_by-take-drop raw_slot_size slots cut, size); count = omega (arith, length-drop cut slots, count) };
+        back = record { size = omega (arith, sum_by-take-drop slot_size_raw slots cut, size); count = omega (arith, length-drop cut slots, count) };
       };
-      later = λ k l other. omega (arith, past, front_grows raw_slot_size slots (cut + 1) k (omega arith));
+      later = λ k l other. omega (arith, past, front_grows slot_size_raw slots (cut + 1) k (omega arith));
       earlier = front.passes;
     }
 
 -- the next slot doesn't fit in front
-pub cut_where_full : (block_size page : ℕ) (slots : List RawSlot) (cut : ℕ) → cut < length slots → Fronts block_size page slots cut → CanSplitSlotsIntoTwoPairs block_size page slots
-    → (cut + 1 ≤ slots_per_pair_limit → sum_by raw_slot_size (take (cut + 1) slots) ≤ pair_capacity block_size page → ⊥) → IsCutIndexNearHalfOfSlotBytes block_size page slots cut
+pub cut_where_full : (block_size page : ℕ) (slots : List RawSlot) (cut : ℕ) → cut < length slots → Fronts block_size page slots cut → CanSplit block_size page slots
+    → (cut + 1 ≤ slots_limit → sum_by slot_size_raw (take (cut + 1) slots) ≤ pair_capacity block_size page → ⊥) → IsHalfCut block_size page slots cut
 cut_where_full block_size page slots cut within front can full =
     record {
       is_cut = cut_after block_size page slots can.cut cut can.is_cut (not_later block_size page slots cut can.cut full can.is_cut) (omega arith) front.fits;
@@ -87,14 +87,14 @@ cut_where_full block_size page slots cut within front can full =
     }
 
 -- one slot more in front
-pub passes_where_small : (block_size page : ℕ) (slots : List RawSlot) (cut : ℕ) → 2 * sum_by raw_slot_size (take (cut + 1) slots) ≤ sum_by raw_slot_size slots → Passes block_size page slots (cut + 1)
+pub passes_where_small : (block_size page : ℕ) (slots : List RawSlot) (cut : ℕ) → 2 * sum_by slot_size_raw (take (cut + 1) slots) ≤ sum_by slot_size_raw slots → Passes block_size page slots (cut + 1)
 passes_where_small block_size page slots cut small = λ k l is. small
 
-pub passes_where_back : (block_size page : ℕ) (slots : List RawSlot) (cut : ℕ) → cut ≤ length slots → AreSlotsFittingPair block_size page (take cut slots)
-    → (length slots - cut ≤ slots_per_pair_limit → sum_by raw_slot_size slots - sum_by raw_slot_size (take cut slots) ≤ pair_capacity block_size page → ⊥) → Passes block_size page slots (cut + 1)
+pub passes_where_back : (block_size page : ℕ) (slots : List RawSlot) (cut : ℕ) → cut ≤ length slots → SlotsFitPair block_size page (take cut slots)
+    → (length slots - cut ≤ slots_limit → sum_by slot_size_raw slots - sum_by slot_size_raw (take cut slots) ≤ pair_capacity block_size page → ⊥) → Passes block_size page slots (cut + 1)
 passes_where_back block_size page slots cut within fits back = λ k l is.
     let here = cut_after block_size page slots k cut is (omega arith) within fits in
-    absurd (back (omega (arith, length-drop cut slots, here.back.count)) (omega (arith, sum_by-take-drop raw_slot_size slots cut, here.back.size)))
+    absurd (back (omega (arith, length-drop cut slots, here.back.count)) (omega (arith, sum_by-take-drop slot_size_raw slots cut, here.back.size)))
 
 -- its bytes
 pub front_more : (f : RawSlot → ℕ) {X : Type 0} (g : X → RawSlot) (xs : List X) (i : ℕ) (x : X) → i < length xs → x ≡ get_or xs i x
@@ -107,25 +107,25 @@ front_more f g (y ∷ xs) (suc i) x l at =
 
 -- ---- the numbers of the code
 
-pub total_is : (block_size page : ℕ) (slots : List RawSlot) (total : ℕ) → block_size < 2 ^ 32 → CanSplitSlotsIntoTwoPairs block_size page slots → total ≡ min (sum_by raw_slot_size slots) (2 ^ 64 - 1)
-    → total ≡ sum_by raw_slot_size slots
+pub total_is : (block_size page : ℕ) (slots : List RawSlot) (total : ℕ) → block_size < 2 ^ 32 → CanSplit block_size page slots → total ≡ min (sum_by slot_size_raw slots) (2 ^ 64 - 1)
+    → total ≡ sum_by slot_size_raw slots
 total_is block_size page slots total device can is = omega (arith, total_small block_size page slots can)
 
 -- no sum is so large that it saturates
 pub record Sums (block_size page : ℕ) (slots : List RawSlot) (i size : ℕ) : Type 0 where
-  pub small : sum_by raw_slot_size slots < 2 ^ 34
-  pub longer : sum_by raw_slot_size (take i slots) + size ≡ sum_by raw_slot_size (take (i + 1) slots)
-  pub within : sum_by raw_slot_size (take i slots) + size ≤ sum_by raw_slot_size slots
+  pub small : sum_by slot_size_raw slots < 2 ^ 34
+  pub longer : sum_by slot_size_raw (take i slots) + size ≡ sum_by slot_size_raw (take (i + 1) slots)
+  pub within : sum_by slot_size_raw (take i slots) + size ≤ sum_by slot_size_raw slots
 
-pub sums_of : {X : Type 0} (g : X → RawSlot) (block_size page : ℕ) (xs : List X) (i : ℕ) (x : X) (size : ℕ) → block_size < 2 ^ 32 → CanSplitSlotsIntoTwoPairs block_size page (map g xs) → i < length xs → x ≡ get_or xs i x
-    → size ≡ min (raw_slot_size (g x)) (2 ^ 64 - 1) → Sums block_size page (map g xs) i size
+pub sums_of : {X : Type 0} (g : X → RawSlot) (block_size page : ℕ) (xs : List X) (i : ℕ) (x : X) (size : ℕ) → block_size < 2 ^ 32 → CanSplit block_size page (map g xs) → i < length xs → x ≡ get_or xs i x
+    → size ≡ min (slot_size_raw (g x)) (2 ^ 64 - 1) → Sums block_size page (map g xs) i size
 sums_of g block_size page xs i x size device can l at is =
     let small = total_small block_size page (map g xs) can in
-    let more = front_more raw_slot_size g xs i x l at in
-    let less = sum_by-take-le raw_slot_size (map g xs) (i + 1) in
-    let here : size ≡ raw_slot_size (g x) = omega arith in
+    let more = front_more slot_size_raw g xs i x l at in
+    let less = sum_by-take-le slot_size_raw (map g xs) (i + 1) in
+    let here : size ≡ slot_size_raw (g x) = omega arith in
     record { small = omega arith; longer = omega arith; within = omega arith }
 
-pub fits_more : {X : Type 0} (g : X → RawSlot) (block_size page : ℕ) (xs : List X) (i : ℕ) → i < length xs → i + 1 ≤ slots_per_pair_limit → sum_by raw_slot_size (take (i + 1) (map g xs)) ≤ pair_capacity block_size page
-    → AreSlotsFittingPair block_size page (take (i + 1) (map g xs))
+pub fits_more : {X : Type 0} (g : X → RawSlot) (block_size page : ℕ) (xs : List X) (i : ℕ) → i < length xs → i + 1 ≤ slots_limit → sum_by slot_size_raw (take (i + 1) (map g xs)) ≤ pair_capacity block_size page
+    → SlotsFitPair block_size page (take (i + 1) (map g xs))
 fits_more g block_size page xs i l count within = record { size = within; count = omega (arith, length-take-le (i + 1) (map g xs) (omega (arith, length-map xs g))) }

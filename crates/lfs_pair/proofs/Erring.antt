@@ -4,10 +4,10 @@ use Rattle.std.specs.Prelude.{IfErr}
 use Rattle.lfs_device.specs.declared.device.BlockDevice.{Ghosts}
 use Rattle.lfs_device.specs.declared.error.Error.{Error}
 use Rattle.lfs_device.specs.declared.error.Error.TheVariants.{Io, NoMemory}
-use Rattle.lfs_device.specs.Calls.{ReadsOnly, ReportsFaults}
-use Rattle.lfs_model.specs.History.{fault_count_of_history}
+use Rattle.lfs_device.specs.DeviceCalls.{ReadsOnly, ReportsFaults}
+use Rattle.lfs_model.specs.session.History.{fault_count}
 use Rattle.lfs_pair.specs.declared.pair.Pair.{Pair}
-use Rattle.lfs_pair.specs.Commit.{CommitFailsKeepingHeader}
+use Rattle.lfs_pair.specs.Commits.{CommitFailsKeepingHeader}
 use Rattle.lfs_pair.proofs.Behind.{fails_behind}
 use Rattle.lfs_pair.proofs.Following.{same_error}
 
@@ -15,10 +15,10 @@ err_same : {Y : Type 0} {e f : Error} → ◌≡◌ {A = Result Y Error} (Err e)
 err_same same = cc
 
 -- `Io`, behind a fault
-pub reports_io : {D X : Type 0} {g : Ghosts D} {old new : D} {r : Result X Error} {e f : Error} → r ≡ Err e → e ≡ f → f ≡ Io → fault_count_of_history (g.history old) < fault_count_of_history (g.history new) → ReportsFaults g old new r
+pub reports_io : {D X : Type 0} {g : Ghosts D} {old new : D} {r : Result X Error} {e f : Error} → r ≡ Err e → e ≡ f → f ≡ Io → fault_count (g.history old) < fault_count (g.history new) → ReportsFaults g old new r
 reports_io is from io rose = record { fault = λ gives. rose; no_fault = λ other. absurd (other (is ∙ ap Err (from ∙ io))) }
 
-pub reports_ok : {D X : Type 0} {g : Ghosts D} {old new : D} {x : X} → fault_count_of_history (g.history new) ≡ fault_count_of_history (g.history old) → ReportsFaults {X = X} g old new (Ok x)
+pub reports_ok : {D X : Type 0} {g : Ghosts D} {old new : D} {x : X} → fault_count (g.history new) ≡ fault_count (g.history old) → ReportsFaults {X = X} g old new (Ok x)
 reports_ok same = record { fault = λ gives. absurd (cc); no_fault = λ other. same }
 
 pub fails_io : {D X : Type 0} (g : Ghosts D) (old new : D) {was now : Pair} {r : Result X Error} {e f : Error} → r ≡ Err e → e ≡ f → f ≡ Io → now ≡ was → IfErr r (λ x. CommitFailsKeepingHeader g old new was now x)
@@ -35,7 +35,7 @@ fails_on {g = g} {old = old} {new = new} {was = was} {now = now} is from reads f
     subst (λ z. IfErr z (λ x. CommitFailsKeepingHeader g old new was now x)) (sym is) (subst (λ x. CommitFailsKeepingHeader g old new was now x) (sym from) (fails_behind reads fails))
 
 -- the same faults, behind calls without one
-pub reports_on : {D X Y : Type 0} {g : Ghosts D} {old mid new : D} {r : Result X Error} {e f : Error} → r ≡ Err e → e ≡ f → fault_count_of_history (g.history mid) ≡ fault_count_of_history (g.history old) → ReportsFaults {X = Y} g mid new (Err f) → ReportsFaults g old new r
+pub reports_on : {D X Y : Type 0} {g : Ghosts D} {old mid new : D} {r : Result X Error} {e f : Error} → r ≡ Err e → e ≡ f → fault_count (g.history mid) ≡ fault_count (g.history old) → ReportsFaults {X = Y} g mid new (Err f) → ReportsFaults g old new r
 reports_on {Y = Y} {f = f} is from same reports = record {
   fault = λ gives. let io : f ≡ Io = same_error is from gives in let rose = reports.fault (ap Err io) in omega (arith, same, rose);
   no_fault = λ other. reports.no_fault (λ gives. other (is ∙ ap Err (from ∙ err_same {Y = Y} gives))) ∙ same;

@@ -3,30 +3,30 @@ use Rattle.std.specs.Prelude.{All}
 use Rattle.std.proofs.Common.{ℕ, zero, suc, get_or, ◌≡◌, ◌≢◌, ◌+◌, ◌≤◌, ◌<◌, ◌==◌, ◌&&◌, ◌^◌, false, List, [], ◌∷◌, Some, length, take, drop, sum_by, refl, sym, ap, ◌∙◌, subst, arith, inl, inr}
 use Rattle.std.proofs.lemmas.Bool.{cases_lt, ne_eqb}
 use Rattle.std.proofs.lemmas.List.{take_all}
-use Rattle.lfs_device.specs.Shown.{disk_of_geometry_and_blocks}
+use Rattle.lfs_device.specs.DeviceDisk.{disk_of_blocks}
 use Rattle.lfs_device.specs.declared.geometry.Geometry.{Geometry}
-use Rattle.lfs_model.specs.Blocks.{Blocks, block_bytes_by_number}
-use Rattle.lfs_model.specs.Disk.{Disk, pair_capacity, slots_per_pair_limit}
-use Rattle.lfs_model.specs.History.{IsTrueOfEachCallSince, DeviceCallEvent, AreCallsSinceOnlyReads}
-use Rattle.lfs_model.specs.Slots.{null_block_address}
-use Rattle.lfs_model.specs.Content.{RawSlot, RawPairContent, current_block_of_pair_at, raw_content_of_pair_at}
-use Rattle.lfs_model.specs.Log.{LogEntry}
-use Rattle.lfs_model.specs.LoggedContent.{AreNamedSlots, AreWellFormedRawSlots, IsWellFormedRawPairContent}
-use Rattle.lfs_model.specs.WrittenContent.{IsRawContentFittingPair, raw_slot_size}
-use Rattle.lfs_model.specs.Changes.{PairContentChange}
-use Rattle.lfs_model.proofs.Histories.{IsTrueOfEachCallSince-until}
+use Rattle.lfs_model.specs.format.Blocks.{Blocks, block_bytes}
+use Rattle.lfs_model.specs.format.Disk.{Disk, pair_capacity, slots_limit}
+use Rattle.lfs_model.specs.session.History.{AllCallsSince, CallEvent, OnlyReadsSince}
+use Rattle.lfs_model.specs.format.Slots.{null_address}
+use Rattle.lfs_model.specs.format.Content.{RawSlot, RawContent, current_block, raw_content}
+use Rattle.lfs_model.specs.format.Log.{LogEntry}
+use Rattle.lfs_model.specs.layers.LoggedContent.{AreNamed, AreWellFormed, IsWellFormed}
+use Rattle.lfs_model.specs.layers.WrittenContent.{RawContentFits, slot_size_raw}
+use Rattle.lfs_model.specs.layers.Changes.{PairChange}
+use Rattle.lfs_model.proofs.Histories.{AllCallsSince-until}
 use Rattle.lfs_model.proofs.Logged.{nothing_logged}
-use Rattle.lfs_model.proofs.Overwrites.{AreBlocksEqualExceptThese-refl, AreBlocksEqualExceptThese-trans, AreBlocksEqualExceptThese-wider}
-use Rattle.lfs_model.proofs.Staying.{AreElsewhere, current_block_of_pair_at-stays, raw_content_of_pair_at-stays}
+use Rattle.lfs_model.proofs.Overwrites.{SameExceptThese-refl, SameExceptThese-trans, SameExceptThese-wider}
+use Rattle.lfs_model.proofs.Staying.{AreElsewhere, current_block-stays, raw_content-stays}
 use Rattle.lfs_pair.specs.declared.pair.Pair.{Pair}
-use Rattle.lfs_pair.specs.Pair.{pair_address_in_header}
-use Rattle.lfs_model.specs.View.{BeginsWithLogEntry}
-use Rattle.lfs_pair.specs.Commit.{HasPairNewContent, HasPairContentAsBefore, KeepsFirstEntryOfPairLog, PowerLossLeavesOldOrNewContent, KeepsBlocksOutsidePair, log_content_after_changes, pair_content_after_changes}
-use Rattle.lfs_pair.specs.Cut.{IsFittingSplitOfSlots}
-use Rattle.lfs_pair.specs.Fresh.{HasErasedOneMoreBlockThanProgrammed}
-use Rattle.lfs_pair.specs.Writing.{IsBlockWrittenAnew}
-use Rattle.lfs_pair.specs.Split.{HaveNoCommonBlock, IsContentCutIntoFrontAndBack, CanSplitPair, BothPartsHaveSlotsIfWholeIsTooLarge, PowerLossLeavesOldContentOrSplitPairs, KeepsBlocksOutsideBothPairs}
-use Rattle.lfs_pair.proofs.Stay.{IsPairOnDiskAsHeaderSays-reads}
+use Rattle.lfs_pair.specs.Pair.{header_address}
+use Rattle.lfs_model.specs.tree.View.{BeginsWith}
+use Rattle.lfs_pair.specs.Commits.{HasNewContent, HasOldContent, KeepsFirstEntry, LossLeavesNew, KeepsOutsidePair, changed_log, changed_pair}
+use Rattle.lfs_pair.specs.HalfCut.{IsFittingSplit}
+use Rattle.lfs_pair.specs.FreshPair.{ErasedOneMore}
+use Rattle.lfs_pair.specs.Writing.{IsWrittenAnew}
+use Rattle.lfs_pair.specs.Split.{AreApart, IsContentCut, CanSplitPair, BothHaveSlots, LossLeavesSplit, KeepsOutsideBoth}
+use Rattle.lfs_pair.proofs.Stay.{IsAsHeader-reads}
 use Rattle.lfs_pair.proofs.Changed.{made_here, made_is, some_same}
 
 -- ---- blocks of two pairs
@@ -39,13 +39,13 @@ both P a b p q = go
     go (suc zero) d l = q
     go (suc (suc k)) d l = absurd (omega arith)
 
-pub pair_elsewhere : {at fresh : ℕ × ℕ} → HaveNoCommonBlock at fresh → AreElsewhere at (fresh.0 ∷ fresh.1 ∷ [])
+pub pair_elsewhere : {at fresh : ℕ × ℕ} → AreApart at fresh → AreElsewhere at (fresh.0 ∷ fresh.1 ∷ [])
 pair_elsewhere {at} {fresh} apart = record {
   first = both (λ b. b ≢ at.0) fresh.0 fresh.1 (λ is. apart.first_first (sym is)) (λ is. apart.first_second (sym is));
   second = both (λ b. b ≢ at.1) fresh.0 fresh.1 (λ is. apart.second_first (sym is)) (λ is. apart.second_second (sym is));
 }
 
-pub fresh_elsewhere : {at fresh : ℕ × ℕ} → HaveNoCommonBlock at fresh → AreElsewhere fresh (at.0 ∷ at.1 ∷ [])
+pub fresh_elsewhere : {at fresh : ℕ × ℕ} → AreApart at fresh → AreElsewhere fresh (at.0 ∷ at.1 ∷ [])
 fresh_elsewhere {at} {fresh} apart = record {
   first = both (λ b. b ≢ fresh.0) at.0 at.1 apart.first_first apart.second_first;
   second = both (λ b. b ≢ fresh.1) at.0 at.1 apart.first_second apart.second_second;
@@ -57,55 +57,55 @@ among_first at fresh other apart = both (λ c. c ≢ other) at.0 at.1 (apart 0 0
 pub among_second : (at fresh : ℕ × ℕ) (other : ℕ) → All (λ c. c ≢ other) (at.0 ∷ at.1 ∷ fresh.0 ∷ fresh.1 ∷ []) → All (λ c. c ≢ other) (fresh.0 ∷ fresh.1 ∷ [])
 among_second at fresh other apart = both (λ c. c ≢ other) fresh.0 fresh.1 (apart 2 0 (omega arith)) (apart 3 0 (omega arith))
 
-pub keeps_by_fresh : (at fresh : ℕ × ℕ) {old new : Blocks} → KeepsBlocksOutsidePair fresh old new → KeepsBlocksOutsideBothPairs at fresh old new
-keeps_by_fresh at fresh same = AreBlocksEqualExceptThese-wider (at.0 ∷ at.1 ∷ fresh.0 ∷ fresh.1 ∷ []) (among_second at fresh) same
+pub keeps_by_fresh : (at fresh : ℕ × ℕ) {old new : Blocks} → KeepsOutsidePair fresh old new → KeepsOutsideBoth at fresh old new
+keeps_by_fresh at fresh same = SameExceptThese-wider (at.0 ∷ at.1 ∷ fresh.0 ∷ fresh.1 ∷ []) (among_second at fresh) same
 
-pub keeps_by_both : (at fresh : ℕ × ℕ) {old mid new : Blocks} → KeepsBlocksOutsidePair fresh old mid → KeepsBlocksOutsidePair at mid new → KeepsBlocksOutsideBothPairs at fresh old new
-keeps_by_both at fresh first second = AreBlocksEqualExceptThese-trans (keeps_by_fresh at fresh first) (AreBlocksEqualExceptThese-wider (at.0 ∷ at.1 ∷ fresh.0 ∷ fresh.1 ∷ []) (among_first at fresh) second)
+pub keeps_by_both : (at fresh : ℕ × ℕ) {old mid new : Blocks} → KeepsOutsidePair fresh old mid → KeepsOutsidePair at mid new → KeepsOutsideBoth at fresh old new
+keeps_by_both at fresh first second = SameExceptThese-trans (keeps_by_fresh at fresh first) (SameExceptThese-wider (at.0 ∷ at.1 ∷ fresh.0 ∷ fresh.1 ∷ []) (among_first at fresh) second)
 
 -- ---- both parts can be written
 
-HaveParts-take : (n : ℕ) (slots : List RawSlot) → AreWellFormedRawSlots slots → AreWellFormedRawSlots (take n slots)
+HaveParts-take : (n : ℕ) (slots : List RawSlot) → AreWellFormed slots → AreWellFormed (take n slots)
 HaveParts-take zero slots have = tt
 HaveParts-take (suc n) [] have = tt
 HaveParts-take (suc n) (s ∷ slots) have = (have.0, HaveParts-take n slots have.1)
 
-HaveParts-drop : (n : ℕ) (slots : List RawSlot) → AreWellFormedRawSlots slots → AreWellFormedRawSlots (drop n slots)
+HaveParts-drop : (n : ℕ) (slots : List RawSlot) → AreWellFormed slots → AreWellFormed (drop n slots)
 HaveParts-drop zero slots have = have
 HaveParts-drop (suc n) [] have = tt
 HaveParts-drop (suc n) (s ∷ slots) have = HaveParts-drop n slots have.1
 
-AreNamedSlots-take : (n : ℕ) (slots : List RawSlot) → AreNamedSlots slots → AreNamedSlots (take n slots)
-AreNamedSlots-take zero slots have = tt
-AreNamedSlots-take (suc n) [] have = tt
-AreNamedSlots-take (suc n) (s ∷ slots) have = (have.0, AreNamedSlots-take n slots have.1)
+AreNamed-take : (n : ℕ) (slots : List RawSlot) → AreNamed slots → AreNamed (take n slots)
+AreNamed-take zero slots have = tt
+AreNamed-take (suc n) [] have = tt
+AreNamed-take (suc n) (s ∷ slots) have = (have.0, AreNamed-take n slots have.1)
 
-AreNamedSlots-drop : (n : ℕ) (slots : List RawSlot) → AreNamedSlots slots → AreNamedSlots (drop n slots)
-AreNamedSlots-drop zero slots have = have
-AreNamedSlots-drop (suc n) [] have = tt
-AreNamedSlots-drop (suc n) (s ∷ slots) have = AreNamedSlots-drop n slots have.1
+AreNamed-drop : (n : ℕ) (slots : List RawSlot) → AreNamed slots → AreNamed (drop n slots)
+AreNamed-drop zero slots have = have
+AreNamed-drop (suc n) [] have = tt
+AreNamed-drop (suc n) (s ∷ slots) have = AreNamed-drop n slots have.1
 
 -- a content that can be written anew
-pub record IsReady (block_size page : ℕ) (c : RawPairContent) : Type 0 where
-  pub logged : IsWellFormedRawPairContent c
-  pub names : AreNamedSlots c.slots
-  pub fits : IsRawContentFittingPair block_size page c
+pub record IsReady (block_size page : ℕ) (c : RawContent) : Type 0 where
+  pub logged : IsWellFormed c
+  pub names : AreNamed c.slots
+  pub fits : RawContentFits block_size page c
 
-pub front_ready : {block_size page : ℕ} {whole front back : RawPairContent} {fresh : ℕ × ℕ} → IsContentCutIntoFrontAndBack block_size page whole fresh front back → IsWellFormedRawPairContent whole → AreNamedSlots whole.slots
+pub front_ready : {block_size page : ℕ} {whole front back : RawContent} {fresh : ℕ × ℕ} → IsContentCut block_size page whole fresh front back → IsWellFormed whole → AreNamed whole.slots
     → fresh.0 < 2 ^ 16 → fresh.1 < 2 ^ 16 → IsReady block_size page front
 front_ready {block_size} {page} {whole} {fresh = fresh} parts logged names first second =
-    let real : (fresh.0 == null_block_address) ≡ false = ne_eqb fresh.0 null_block_address (λ is. absurd (omega (arith, is, first))) in
+    let real : (fresh.0 == null_address) ≡ false = ne_eqb fresh.0 null_address (λ is. absurd (omega (arith, is, first))) in
     subst (IsReady block_size page) (sym parts.front_is) (record {
       logged = record {
         slots = HaveParts-take parts.cut whole.slots logged.slots;
-        tail = ((omega (arith, first), omega (arith, second)), ap (λ b. b && fresh.1 == null_block_address) real);
+        tail = ((omega (arith, first), omega (arith, second)), ap (λ b. b && fresh.1 == null_address) real);
         move = logged.move;
       };
-      names = AreNamedSlots-take parts.cut whole.slots names;
+      names = AreNamed-take parts.cut whole.slots names;
       fits = record { size = parts.is_cut.front.size; count = parts.is_cut.front.count };
     })
 
-pub back_ready : {block_size page : ℕ} {whole front back : RawPairContent} {fresh : ℕ × ℕ} → IsContentCutIntoFrontAndBack block_size page whole fresh front back → IsWellFormedRawPairContent whole → AreNamedSlots whole.slots → IsReady block_size page back
+pub back_ready : {block_size page : ℕ} {whole front back : RawContent} {fresh : ℕ × ℕ} → IsContentCut block_size page whole fresh front back → IsWellFormed whole → AreNamed whole.slots → IsReady block_size page back
 back_ready {block_size} {page} {whole} parts logged names =
     subst (IsReady block_size page) (sym parts.back_is) (record {
       logged = record {
@@ -113,15 +113,15 @@ back_ready {block_size} {page} {whole} parts logged names =
         tail = logged.tail;
         move = nothing_logged.move;
       };
-      names = AreNamedSlots-drop parts.cut whole.slots names;
+      names = AreNamed-drop parts.cut whole.slots names;
       fits = record { size = parts.is_cut.back.size; count = parts.is_cut.back.count };
     })
 
 -- where the whole doesn't fit, neither part is empty
-pub cut_inside : {block_size page cut : ℕ} {whole : RawPairContent} → IsFittingSplitOfSlots block_size page whole.slots cut → BothPartsHaveSlotsIfWholeIsTooLarge block_size page whole cut
+pub cut_inside : {block_size page cut : ℕ} {whole : RawContent} → IsFittingSplit block_size page whole.slots cut → BothHaveSlots block_size page whole cut
 cut_inside {block_size} {page} {cut} {whole} is full = (front cut is, back)
   where
-    front : (k : ℕ) → IsFittingSplitOfSlots block_size page whole.slots k → 0 < k
+    front : (k : ℕ) → IsFittingSplit block_size page whole.slots k → 0 < k
     front zero none = absurd (full (record { size = none.back.size; count = none.back.count }))
     front (suc k) some = omega arith
 
@@ -130,39 +130,39 @@ cut_inside {block_size} {page} {cut} {whole} is full = (front cut is, back)
       | inl lt ↦ lt
       | inr le ↦
           let all = take_all cut whole.slots le in
-          absurd (full (record { size = subst (λ s. sum_by raw_slot_size s ≤ pair_capacity block_size page) all is.front.size; count = subst (λ s. length s ≤ slots_per_pair_limit) all is.front.count }))
+          absurd (full (record { size = subst (λ s. sum_by slot_size_raw s ≤ pair_capacity block_size page) all is.front.size; count = subst (λ s. length s ≤ slots_limit) all is.front.count }))
     ]
 
 -- one more block written anew
-pub clears_more : {count revision : ℕ} {c : RawPairContent} {block : List ℕ} {before mid history : List DeviceCallEvent} {P Q : DeviceCallEvent → Type 0} → IsTrueOfEachCallSince P before mid → IsTrueOfEachCallSince Q mid history → HasErasedOneMoreBlockThanProgrammed count before mid → IsBlockWrittenAnew revision c block mid history
-    → HasErasedOneMoreBlockThanProgrammed (count + 1) before history
+pub clears_more : {count revision : ℕ} {c : RawContent} {block : List ℕ} {before mid history : List CallEvent} {P Q : CallEvent → Type 0} → AllCallsSince P before mid → AllCallsSince Q mid history → ErasedOneMore count before mid → IsWrittenAnew revision c block mid history
+    → ErasedOneMore (count + 1) before history
 clears_more {before = before} {mid = mid} {history = history} first second clears anew = record {
   erases = let some = clears.erases in let more = anew.erases in omega (arith, some, more);
   at_most = let most = clears.at_most in let more = anew.programs in omega (arith, most, more);
-  programs = λ logs. let one = clears.programs (IsTrueOfEachCallSince-until logs first second) in let more = anew.programs in omega (arith, one, more);
+  programs = λ logs. let one = clears.programs (AllCallsSince-until logs first second) in let more = anew.programs in omega (arith, one, more);
 }
 
 -- ---- a pair that is being split
 
-pub record IsSplitting (disk : Disk) (at fresh : ℕ × ℕ) (changes : List PairContentChange) (front back : RawPairContent) : Type 0 where
-  pub whole : RawPairContent
-  pub made : pair_content_after_changes disk at changes ≡ Some whole
-  pub logged : IsWellFormedRawPairContent whole
-  pub parts : IsContentCutIntoFrontAndBack disk.block_size disk.page whole fresh front back
-  pub apart : HaveNoCommonBlock at fresh
+pub record IsSplitting (disk : Disk) (at fresh : ℕ × ℕ) (changes : List PairChange) (front back : RawContent) : Type 0 where
+  pub whole : RawContent
+  pub made : changed_pair disk at changes ≡ Some whole
+  pub logged : IsWellFormed whole
+  pub parts : IsContentCut disk.block_size disk.page whole fresh front back
+  pub apart : AreApart at fresh
   pub front_ready : IsReady disk.block_size disk.page front
   pub back_ready : IsReady disk.block_size disk.page back
 
-pub is_splitting : (geometry here : Geometry) (blocks : Blocks) (history : List DeviceCallEvent) (pair : Pair) (fresh : ℕ × ℕ) (block : List ℕ) (changes : List PairContentChange) (whole front back : RawPairContent)
-    → here ≡ geometry → length blocks ≡ geometry.block_count → CanSplitPair (disk_of_geometry_and_blocks geometry blocks) history pair fresh changes → block ≡ block_bytes_by_number blocks pair.active
-    → log_content_after_changes block changes ≡ Some whole → IsWellFormedRawPairContent whole → IsContentCutIntoFrontAndBack here.block_size here.page whole fresh front back
-    → IsSplitting (disk_of_geometry_and_blocks geometry blocks) (pair_address_in_header pair) fresh changes front back
+pub is_splitting : (geometry here : Geometry) (blocks : Blocks) (history : List CallEvent) (pair : Pair) (fresh : ℕ × ℕ) (block : List ℕ) (changes : List PairChange) (whole front back : RawContent)
+    → here ≡ geometry → length blocks ≡ geometry.block_count → CanSplitPair (disk_of_blocks geometry blocks) history pair fresh changes → block ≡ block_bytes blocks pair.active
+    → changed_log block changes ≡ Some whole → IsWellFormed whole → IsContentCut here.block_size here.page whole fresh front back
+    → IsSplitting (disk_of_blocks geometry blocks) (header_address pair) fresh changes front back
 is_splitting geometry here blocks history pair fresh block changes whole front back same count can is made_is_whole logged cut =
     let commit = can.commit in
-    let made = made_here (disk_of_geometry_and_blocks geometry blocks) history pair commit.held block changes (Some whole) commit.is_pair is made_is_whole in
-    let whole_is : commit.new ≡ whole = some_same (sym (made_is (disk_of_geometry_and_blocks geometry blocks) history pair commit.held changes commit.is_pair ∙ commit.changed) ∙ made) in
-    let names = subst (λ (c : RawPairContent). AreNamedSlots c.slots) whole_is commit.names in
-    let parts = subst (λ (k : Geometry). IsContentCutIntoFrontAndBack k.block_size k.page whole fresh front back) same cut in
+    let made = made_here (disk_of_blocks geometry blocks) history pair commit.held block changes (Some whole) commit.is_pair is made_is_whole in
+    let whole_is : commit.new ≡ whole = some_same (sym (made_is (disk_of_blocks geometry blocks) history pair commit.held changes commit.is_pair ∙ commit.changed) ∙ made) in
+    let names = subst (λ (c : RawContent). AreNamed c.slots) whole_is commit.names in
+    let parts = subst (λ (k : Geometry). IsContentCut k.block_size k.page whole fresh front back) same cut in
     let few = geometry.valid.no_more in
     record {
       whole = whole;
@@ -174,12 +174,12 @@ is_splitting geometry here blocks history pair fresh block changes whole front b
       back_ready = back_ready parts logged names;
     }
 
-pub CanSplitPair-reads : {blocks : Blocks} {disk : Disk} {before after : List DeviceCallEvent} {pair : Pair} {fresh : ℕ × ℕ} {changes : List PairContentChange} → AreCallsSinceOnlyReads blocks before after
+pub CanSplitPair-reads : {blocks : Blocks} {disk : Disk} {before after : List CallEvent} {pair : Pair} {fresh : ℕ × ℕ} {changes : List PairChange} → OnlyReadsSince blocks before after
     → CanSplitPair disk before pair fresh changes → CanSplitPair disk after pair fresh changes
 CanSplitPair-reads reads can =
     let commit = can.commit in
     record {
-      commit = record { address = commit.address; held = commit.held; is_pair = IsPairOnDiskAsHeaderSays-reads reads commit.is_pair; new = commit.new; changed = commit.changed; names = commit.names };
+      commit = record { address = commit.address; held = commit.held; is_pair = IsAsHeader-reads reads commit.is_pair; new = commit.new; changed = commit.changed; names = commit.names };
       fresh_is = can.fresh_is;
       apart = can.apart;
       cut = can.cut;
@@ -188,35 +188,35 @@ CanSplitPair-reads reads can =
 -- ---- what a stop on the way there leaves
 
 -- before a call
-pub left_before : (old : Disk) (at fresh : ℕ × ℕ) (changes : List PairContentChange) → PowerLossLeavesOldContentOrSplitPairs old at fresh changes old.blocks
-left_before old at fresh changes = record { others = AreBlocksEqualExceptThese-refl (at.0 ∷ at.1 ∷ fresh.0 ∷ fresh.1 ∷ []) old.blocks; content = inl (record { content = refl; first = λ e h. h }) }
+pub left_before : (old : Disk) (at fresh : ℕ × ℕ) (changes : List PairChange) → LossLeavesSplit old at fresh changes old.blocks
+left_before old at fresh changes = record { others = SameExceptThese-refl (at.0 ∷ at.1 ∷ fresh.0 ∷ fresh.1 ∷ []) old.blocks; content = inl (record { content = refl; first = λ e h. h }) }
 
-still_elsewhere : (old : Disk) (at fresh : ℕ × ℕ) (left : Blocks) → HaveNoCommonBlock at fresh → KeepsBlocksOutsidePair fresh old.blocks left → HasPairContentAsBefore old at (record old { blocks = left })
+still_elsewhere : (old : Disk) (at fresh : ℕ × ℕ) (left : Blocks) → AreApart at fresh → KeepsOutsidePair fresh old.blocks left → HasOldContent old at (record old { blocks = left })
 still_elsewhere old at fresh left apart same = record {
-  content = raw_content_of_pair_at-stays old (pair_elsewhere apart) same;
-  first = λ e h. subst (λ o. BeginsWithLogEntry o e) (sym (current_block_of_pair_at-stays old (pair_elsewhere apart) same)) h;
+  content = raw_content-stays old (pair_elsewhere apart) same;
+  first = λ e h. subst (λ o. BeginsWith o e) (sym (current_block-stays old (pair_elsewhere apart) same)) h;
 }
 
-pub first_while_fresh : (old : Disk) (at fresh : ℕ × ℕ) (left : Blocks) → HaveNoCommonBlock at fresh → KeepsBlocksOutsidePair fresh old.blocks left → (e : LogEntry) → BeginsWithLogEntry (current_block_of_pair_at old at) e
-    → BeginsWithLogEntry (current_block_of_pair_at (record old { blocks = left }) at) e
+pub first_while_fresh : (old : Disk) (at fresh : ℕ × ℕ) (left : Blocks) → AreApart at fresh → KeepsOutsidePair fresh old.blocks left → (e : LogEntry) → BeginsWith (current_block old at) e
+    → BeginsWith (current_block (record old { blocks = left }) at) e
 first_while_fresh old at fresh left apart same = (still_elsewhere old at fresh left apart same).first
 
 -- the first entry stays where the fresh pair was written first
-pub first_behind : (old : Disk) (at fresh : ℕ × ℕ) (mid left : Blocks) (new : RawPairContent) → HaveNoCommonBlock at fresh → KeepsBlocksOutsidePair fresh old.blocks mid
-    → KeepsFirstEntryOfPairLog (record old { blocks = mid }) at (Some new) (record old { blocks = left }) → KeepsFirstEntryOfPairLog old at (Some new) (record old { blocks = left })
+pub first_behind : (old : Disk) (at fresh : ℕ × ℕ) (mid left : Blocks) (new : RawContent) → AreApart at fresh → KeepsOutsidePair fresh old.blocks mid
+    → KeepsFirstEntry (record old { blocks = mid }) at (Some new) (record old { blocks = left }) → KeepsFirstEntry old at (Some new) (record old { blocks = left })
 first_behind old at fresh mid left new apart same keeps e h anew = keeps e ((still_elsewhere old at fresh mid apart same).first e h) anew
 
-pub left_while_fresh : (old : Disk) (at fresh : ℕ × ℕ) (changes : List PairContentChange) (left : Blocks) → HaveNoCommonBlock at fresh → KeepsBlocksOutsidePair fresh old.blocks left → PowerLossLeavesOldContentOrSplitPairs old at fresh changes left
+pub left_while_fresh : (old : Disk) (at fresh : ℕ × ℕ) (changes : List PairChange) (left : Blocks) → AreApart at fresh → KeepsOutsidePair fresh old.blocks left → LossLeavesSplit old at fresh changes left
 left_while_fresh old at fresh changes left apart same = record { others = keeps_by_fresh at fresh same; content = inl (still_elsewhere old at fresh left apart same) }
 
-pub left_while_old : (old : Disk) (at fresh : ℕ × ℕ) (changes : List PairContentChange) (mid left : Blocks) {whole front back : RawPairContent} → HaveNoCommonBlock at fresh → KeepsBlocksOutsidePair fresh old.blocks mid
-    → pair_content_after_changes old at changes ≡ Some whole → IsWellFormedRawPairContent whole → IsContentCutIntoFrontAndBack old.block_size old.page whole fresh front back → raw_content_of_pair_at (record old { blocks = mid }) fresh ≡ Some back
-    → PowerLossLeavesOldOrNewContent (record old { blocks = mid }) at front left → PowerLossLeavesOldContentOrSplitPairs old at fresh changes left
+pub left_while_old : (old : Disk) (at fresh : ℕ × ℕ) (changes : List PairChange) (mid left : Blocks) {whole front back : RawContent} → AreApart at fresh → KeepsOutsidePair fresh old.blocks mid
+    → changed_pair old at changes ≡ Some whole → IsWellFormed whole → IsContentCut old.block_size old.page whole fresh front back → raw_content (record old { blocks = mid }) fresh ≡ Some back
+    → LossLeavesNew (record old { blocks = mid }) at front left → LossLeavesSplit old at fresh changes left
 left_while_old old at fresh changes mid left {whole} {front} apart same made logged parts held stopped = record {
   others = keeps_by_both at fresh same stopped.others;
   content = elim stopped.content [
     | inl was ↦ inl (record {
-      content = was.content ∙ raw_content_of_pair_at-stays old (pair_elsewhere apart) same;
+      content = was.content ∙ raw_content-stays old (pair_elsewhere apart) same;
       first = λ e h. was.first e ((still_elsewhere old at fresh mid apart same).first e h);
     })
     | inr is ↦ inr (record {
@@ -226,8 +226,8 @@ left_while_old old at fresh changes mid left {whole} {front} apart same made log
       cut = parts.cut;
       is_cut = parts.is_cut;
       inside = cut_inside parts.is_cut;
-      front = subst (λ c. HasPairNewContent old at c (record old { blocks = left })) parts.front_is (record { content = is.content; first = first_behind old at fresh mid left front apart same is.first });
-      back = raw_content_of_pair_at-stays (record old { blocks = mid }) (fresh_elsewhere apart) stopped.others ∙ held ∙ ap Some parts.back_is;
+      front = subst (λ c. HasNewContent old at c (record old { blocks = left })) parts.front_is (record { content = is.content; first = first_behind old at fresh mid left front apart same is.first });
+      back = raw_content-stays (record old { blocks = mid }) (fresh_elsewhere apart) stopped.others ∙ held ∙ ap Some parts.back_is;
     })
   ];
 }

@@ -1,7 +1,7 @@
 pub mod Pair
 pub mod ChangeView
 pub mod Writing
-pub mod Commit
-pub mod Cut
-pub mod Fresh
+pub mod Commits
+pub mod HalfCut
+pub mod FreshPair
 pub mod Split

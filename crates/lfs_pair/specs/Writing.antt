@@ -3,54 +3,54 @@ use Rattle.std.specs.Prelude.{ℕ, ◌≡◌, ◌≤◌, ◌⊎◌, ◌+◌, ◌
 use Rattle.lfs_device.specs.declared.device.BlockDevice.{Ghosts}
 use Rattle.lfs_device.specs.declared.error.Error.{Error}
 use Rattle.lfs_device.specs.declared.error.Error.TheVariants.{Io}
-use Rattle.lfs_device.specs.Calls.{ChangesOnlyThisBlock, ChangesOnlyTheseBlocks, ReportsFaults}
-use Rattle.lfs_model.specs.Blocks.{Blocks, block_bytes_by_number, AreBlocksEqualExceptOne}
-use Rattle.lfs_model.specs.Disk.{Disk, block_bytes_on_disk}
-use Rattle.lfs_model.specs.History.{AreBytesUnprogrammed, Blank, DeviceCallEvent, device_call_event_with_blocks, blank_count_of_history, erase_count_of_history, program_count_of_history, read_count_of_history}
-use Rattle.lfs_model.specs.Tag.{abstract_type_of_tag}
-use Rattle.lfs_model.specs.Log.{LogEntry, chain_of, revision_of_block, log_entries_of_block}
-use Rattle.lfs_model.specs.Content.{RawPairContent, has_commit, content_after_log_entries, empty_raw_pair_content}
-use Rattle.lfs_model.specs.WrittenContent.{log_entries_of_content}
-use Rattle.lfs_model.specs.Stops.{SameLog, HasNoLog}
-use Rattle.lfs_tag.specs.Builder.{CommitBeingBuilt, earlier_commits_of_block, padded_commit_end}
+use Rattle.lfs_device.specs.DeviceCalls.{ChangesOnlyThisBlock, ChangesOnlyTheseBlocks, ReportsFaults}
+use Rattle.lfs_model.specs.format.Blocks.{Blocks, block_bytes, SameExcept}
+use Rattle.lfs_model.specs.format.Disk.{Disk, disk_block}
+use Rattle.lfs_model.specs.session.History.{AreUnprogrammed, Blank, CallEvent, call_event, blank_count, erase_count, program_count, read_count}
+use Rattle.lfs_model.specs.format.Tag.{abstract_type}
+use Rattle.lfs_model.specs.format.Log.{LogEntry, chain_of, block_revision, block_entries}
+use Rattle.lfs_model.specs.format.Content.{RawContent, has_commit, content_after, empty_raw_content}
+use Rattle.lfs_model.specs.layers.WrittenContent.{content_entries}
+use Rattle.lfs_model.specs.crash.Stops.{SameLog, HasNoLog}
+use Rattle.lfs_tag.specs.Builder.{PartialCommit, earlier_commits, padded_end_of}
 
 -- a commit that is built, with more entries
-abbrev pub commit_with_more_entries : List LogEntry → CommitBeingBuilt → CommitBeingBuilt
-commit_with_more_entries es b = record b { entries = b.entries ++ es }
+abbrev pub commit_with_more : List LogEntry → PartialCommit → PartialCommit
+commit_with_more es b = record b { entries = b.entries ++ es }
 
 -- A block's log ends at this place, which is a page boundary, with this last tag. Nothing is programmed after it.
-pub record LogEndsOnPageBoundaryBeforeUnprogrammedBytes (disk : Disk) (history : List DeviceCallEvent) (block end last : ℕ) : Type 0 where
-  pub end_is : end ≡ (chain_of (block_bytes_on_disk disk block)).end
-  pub last_is : last ≡ (chain_of (block_bytes_on_disk disk block)).last
+pub record EndsBeforeUnprogrammed (disk : Disk) (history : List CallEvent) (block end last : ℕ) : Type 0 where
+  pub end_is : end ≡ (chain_of (disk_block disk block)).end
+  pub last_is : last ≡ (chain_of (disk_block disk block)).last
   pub whole_pages : end % disk.page ≡ 0
-  pub unprogrammed : AreBytesUnprogrammed history block end disk.block_size
+  pub unprogrammed : AreUnprogrammed history block end disk.block_size
 
 -- a block's new log has the commits from before, and then this one
-pub record LogGetsCommit (b : CommitBeingBuilt) (old new : List ℕ) : Type 0 where
+pub record LogGetsCommit (b : PartialCommit) (old new : List ℕ) : Type 0 where
   pub checksum : LogEntry
-  pub class : abstract_type_of_tag checksum.tag ≡ 5
-  pub commits : (chain_of new).commits ≡ earlier_commits_of_block b.revision old ++ (b.entries ++ checksum ∷ []) ∷ []
-  pub revision : revision_of_block new ≡ unwrap_or b.revision (revision_of_block old)
+  pub class : abstract_type checksum.tag ≡ 5
+  pub commits : (chain_of new).commits ≡ earlier_commits b.revision old ++ (b.entries ++ checksum ∷ []) ∷ []
+  pub revision : block_revision new ≡ unwrap_or b.revision (block_revision old)
 
 -- A block gets a commit at an offset, which ends at `end`. It keeps its bytes before the offset.
-pub record BlockGetsCommitAtOffset (b : CommitBeingBuilt) (at end : ℕ) (old new : List ℕ) : Type 0 where
+pub record BlockGetsCommit (b : PartialCommit) (at end : ℕ) (old new : List ℕ) : Type 0 where
   pub commit : LogGetsCommit b old new
-  pub end_is : end ≡ at + padded_commit_end b
+  pub end_is : end ≡ at + padded_end_of b
   pub kept : take at new ≡ take at old
 
 -- What a stop leaves of a commit that is programmed at an offset: the log from before, or the one with the commit. At the block's
 -- beginning it may also leave none.
-abbrev pub PowerLossLeavesOldLogOrCommit : CommitBeingBuilt → ℕ → List ℕ → List ℕ → Type 0
-PowerLossLeavesOldLogOrCommit b off old left = SameLog left old ⊎ (((off ≡ 0) × HasNoLog left) ⊎ LogGetsCommit b old left)
+abbrev pub LossLeavesCommit : PartialCommit → ℕ → List ℕ → List ℕ → Type 0
+LossLeavesCommit b off old left = SameLog left old ⊎ (((off ≡ 0) × HasNoLog left) ⊎ LogGetsCommit b old left)
 
 -- A block's log is one commit, of the entries that write the content anew, and comes to that content.
-pub record HasContentInOneCommit (revision : ℕ) (c : RawPairContent) (block : List ℕ) : Type 0 where
+pub record HasOneCommit (revision : ℕ) (c : RawContent) (block : List ℕ) : Type 0 where
   pub has_commit : has_commit block ≡ true
-  pub revision_is : revision_of_block block ≡ revision
-  pub content : content_after_log_entries empty_raw_pair_content (log_entries_of_block block) ≡ Some c
+  pub revision_is : block_revision block ≡ revision
+  pub content : content_after empty_raw_content (block_entries block) ≡ Some c
   pub checksum : LogEntry
-  pub class : abstract_type_of_tag checksum.tag ≡ 5
-  pub commits : (chain_of block).commits ≡ (log_entries_of_content c ++ checksum ∷ []) ∷ []
+  pub class : abstract_type checksum.tag ≡ 5
+  pub commits : (chain_of block).commits ≡ (content_entries c ++ checksum ∷ []) ∷ []
 
 -- one word of the device that bytes are blank, or a question that failed
 pub record SaysBytesAreBlank {D : Type 0} (g : Ghosts D) (old new : D) : Type 0 where
@@ -58,7 +58,7 @@ pub record SaysBytesAreBlank {D : Type 0} (g : Ghosts D) (old new : D) : Type 0 
   pub off : ℕ
   pub len : ℕ
   pub failed : Bool
-  pub word : g.history new ≡ device_call_event_with_blocks (Blank block off len) (g.blocks old) (g.blocks new) failed ∷ g.history old
+  pub word : g.history new ≡ call_event (Blank block off len) (g.blocks old) (g.blocks new) failed ∷ g.history old
 
 -- The device was asked at most whether bytes are blank.
 pub record AsksAboutBlankBytes {D : Type 0} (g : Ghosts D) (old new : D) : Type 0 where
@@ -67,36 +67,36 @@ pub record AsksAboutBlankBytes {D : Type 0} (g : Ghosts D) (old new : D) : Type 
   pub asked : (g.history new ≡ g.history old) ⊎ SaysBytesAreBlank g old new
 
 -- one program more, and neither an erase nor a word on blank bytes
-pub record ProgramsOnce (before after : List DeviceCallEvent) : Type 0 where
-  pub erases : erase_count_of_history after ≡ erase_count_of_history before
-  pub programs : program_count_of_history after ≡ program_count_of_history before + 1
-  pub blanks : blank_count_of_history after ≡ blank_count_of_history before
+pub record ProgramsOnce (before after : List CallEvent) : Type 0 where
+  pub erases : erase_count after ≡ erase_count before
+  pub programs : program_count after ≡ program_count before + 1
+  pub blanks : blank_count after ≡ blank_count before
 
 -- a block was erased once and programmed once, and has that content
-pub record IsBlockWrittenAnew (revision : ℕ) (c : RawPairContent) (block : List ℕ) (before after : List DeviceCallEvent) : Type 0 where
-  pub holds : HasContentInOneCommit revision c block
-  pub erases : erase_count_of_history after ≡ erase_count_of_history before + 1
-  pub programs : program_count_of_history after ≡ program_count_of_history before + 1
-  pub blanks : blank_count_of_history after ≡ blank_count_of_history before
+pub record IsWrittenAnew (revision : ℕ) (c : RawContent) (block : List ℕ) (before after : List CallEvent) : Type 0 where
+  pub holds : HasOneCommit revision c block
+  pub erases : erase_count after ≡ erase_count before + 1
+  pub programs : program_count after ≡ program_count before + 1
+  pub blanks : blank_count after ≡ blank_count before
 
 -- What a stop leaves where a block is erased and a content is written into it: the old log, none, or the content.
-abbrev pub PowerLossLeavesOldLogOrRewrittenContent : ℕ → RawPairContent → List ℕ → List ℕ → Type 0
-PowerLossLeavesOldLogOrRewrittenContent revision c old left = SameLog left old ⊎ (HasNoLog left ⊎ HasContentInOneCommit revision c left)
+abbrev pub LossLeavesRewritten : ℕ → RawContent → List ℕ → List ℕ → Type 0
+LossLeavesRewritten revision c old left = SameLog left old ⊎ (HasNoLog left ⊎ HasOneCommit revision c left)
 
 -- in these blocks only one has changed, and its bytes are as P allows
-abbrev pub DiffersOnlyInBlockAsPropertyAllows : ℕ → (List ℕ → List ℕ → Type 0) → Blocks → Blocks → Type 0
-DiffersOnlyInBlockAsPropertyAllows b P old left = AreBlocksEqualExceptOne b old left × P (block_bytes_by_number old b) (block_bytes_by_number left b)
+abbrev pub DiffersInBlock : ℕ → (List ℕ → List ℕ → Type 0) → Blocks → Blocks → Type 0
+DiffersInBlock b P old left = SameExcept b old left × P (block_bytes old b) (block_bytes left b)
 
 -- No block changes but these, and the device is read at most so often.
 pub record ChangesOnlyBlocksWithinReadLimit {D : Type 0} (g : Ghosts D) (most : ℕ) (bs : List ℕ) (old new : D) : Type 0 where
   pub only : ChangesOnlyTheseBlocks g bs old new
-  pub few : read_count_of_history (g.history new) ≤ read_count_of_history (g.history old) + most
+  pub few : read_count (g.history new) ≤ read_count (g.history old) + most
 
 -- No block is written but this one, and the device is read at most so often. The only error is `Io`, which comes with a fault of
 -- the device.
 pub record WritesOnlyThisBlock {D X : Type 0} (g : Ghosts D) (most b : ℕ) (old new : D) (result : Result X Error) : Type 0 where
   pub device : ChangesOnlyThisBlock g b old new
-  pub few : read_count_of_history (g.history new) ≤ read_count_of_history (g.history old) + most
+  pub few : read_count (g.history new) ≤ read_count (g.history old) + most
   pub errors : IfErr result (λ e. e ≡ Io)
   pub faults : ReportsFaults g old new result
 
@@ -104,6 +104,6 @@ pub record WritesOnlyThisBlock {D X : Type 0} (g : Ghosts D) (most b : ℕ) (old
 -- device.
 pub record WritesOnlyTheseBlocks {D X : Type 0} (g : Ghosts D) (most : ℕ) (bs : List ℕ) (old new : D) (result : Result X Error) : Type 0 where
   pub device : ChangesOnlyTheseBlocks g bs old new
-  pub few : read_count_of_history (g.history new) ≤ read_count_of_history (g.history old) + most
+  pub few : read_count (g.history new) ≤ read_count (g.history old) + most
   pub errors : IfErr result (λ e. e ≡ Io)
   pub faults : ReportsFaults g old new result

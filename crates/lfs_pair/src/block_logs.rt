@@ -1,8 +1,8 @@
 // What decides which block of a pair is active.
 
 ghost use Rattle.std.specs.Prelude.{◌≡◌};
-ghost use Rattle.lfs_model.specs.Log.{chain_of, revision_of_block};
-ghost use Rattle.lfs_model.specs.Content.{has_commit};
+ghost use Rattle.lfs_model.specs.format.Log.{chain_of, block_revision};
+ghost use Rattle.lfs_model.specs.format.Content.{has_commit};
 
 use lfs_tag::{Log, Tag};
 
@@ -20,7 +20,7 @@ impl ActiveBlockCandidate {
     // Reads the head of a block with these bytes.
     pub(crate) fn of(bytes: &[u8]) -> ActiveBlockCandidate
         ensures has_commit { result.has_commit ≡ has_commit bytes.now }
-        ensures revision { result.revision ≡ revision_of_block bytes.now }
+        ensures revision { result.revision ≡ block_revision bytes.now }
         ensures end { result.end ≡ (chain_of bytes.now).end }
         ensures last { result.last ≡ (chain_of bytes.now).last }
     {
@@ -29,7 +29,7 @@ impl ActiveBlockCandidate {
             has_commit: log.has_commit(),
             revision: log.revision(),
             end: log.end(),
-            last: log.last_tag_of_log(),
+            last: log.last_log_tag(),
         }
     }
 }

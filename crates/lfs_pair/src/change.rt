@@ -3,13 +3,13 @@
 ghost use Rattle.std.specs.Prelude.{◌≡◌, ◌<◌, ◌≤◌, ◌^◌, ◌++◌, true, [], ◌∷◌, length, Some};
 ghost use Rattle.std.specs.List.{list_all};
 ghost use Rattle.std.specs.Option.{option_map};
-ghost use Rattle.lfs_model.specs.Slots.{pair_address_of_array};
-ghost use Rattle.lfs_model.specs.Content.{content_after_log_entry, content_after_log_entries};
-ghost use Rattle.lfs_model.specs.EntryTypes.{tail_to_pair_if_any as tail_with_pair};
-ghost use Rattle.lfs_model.specs.WrittenContent.{log_entry_of_type_id_and_bytes, tail_pair_or_null};
-ghost use Rattle.lfs_model.specs.Changes.{log_entries_of_change, log_entries_of_changes, is_storable_pair_content_change, RemoveAttribute};
+ghost use Rattle.lfs_model.specs.format.Slots.{array_address};
+ghost use Rattle.lfs_model.specs.format.Content.{content_after_one, content_after};
+ghost use Rattle.lfs_model.specs.format.EntryTypes.{tail_to_pair as tail_with_pair};
+ghost use Rattle.lfs_model.specs.layers.WrittenContent.{log_entry_of, tail_or_null};
+ghost use Rattle.lfs_model.specs.layers.Changes.{change_entries, entries_of_changes, is_storable, RemoveAttribute};
 ghost use Rattle.lfs_tag.specs.ContentView.{content_view, tail_view};
-ghost use Rattle.lfs_tag.specs.ContentGives.{GivesValueUnlessNoMemory};
+ghost use Rattle.lfs_tag.specs.ContentGives.{GivesWithMemory};
 ghost use Rattle.lfs_pair.specs.ChangeView.{change_view, changes_view};
 
 use lfs_tag::kinds::{ATTRIBUTE, CREATE, DELETE};
@@ -37,7 +37,7 @@ pub enum Change<'a> {
 }
 
 // Adds an entry with these fields to the content.
-fn apply_entry_of_type_id_and_bytes<'a>(
+fn apply_entry_of<'a>(
     alloc: Global,
     content: &mut Content<'a>,
     kind: u16,
@@ -47,10 +47,10 @@ fn apply_entry_of_type_id_and_bytes<'a>(
     requires kind { kind < 2 ^ 11 }
     requires id { id < 2 ^ 10 }
     requires bytes { length bytes.now ≤ 1022 }
-    ensures { GivesValueUnlessNoMemory (λ _. content_view content.new) result (content_after_log_entry (content_view content.old) (log_entry_of_type_id_and_bytes kind id bytes.now)) }
+    ensures { GivesWithMemory (λ _. content_view content.new) result (content_after_one (content_view content.old) (log_entry_of kind id bytes.now)) }
 {
     let tag = Tag::new(kind, id, bytes.len() as u16);
-    content.apply_one_more_entry(alloc, &Entry { tag, bytes })?;
+    content.apply_next_entry(alloc, &Entry { tag, bytes })?;
     Ok(())
 }
 
@@ -62,16 +62,16 @@ fn apply_attribute_removal(
     attr: u8,
 ) -> Result<(), ContentError>
     requires { id < 2 ^ 10 }
-    ensures { GivesValueUnlessNoMemory (λ _. content_view content.new) result (content_after_log_entries (content_view content.old) (log_entries_of_change (RemoveAttribute id attr))) }
+    ensures { GivesWithMemory (λ _. content_view content.new) result (content_after (content_view content.old) (change_entries (RemoveAttribute id attr))) }
 {
     let tag = Tag::new(ATTRIBUTE + u16::from(attr), id, 0x3ff);
-    content.apply_one_more_entry(alloc, &Entry { tag, bytes: &[] })?;
+    content.apply_next_entry(alloc, &Entry { tag, bytes: &[] })?;
     Ok(())
 }
 
 // Returns the tail that a change sets. Two null addresses are no tail.
-fn tail_unless_pair_is_null(hard: bool, pair: Option<[u32; 2]>) -> Option<Tail>
-    ensures { option_map tail_view result ≡ tail_with_pair hard (tail_pair_or_null (option_map pair_address_of_array pair)) }
+fn tail_unless_null(hard: bool, pair: Option<[u32; 2]>) -> Option<Tail>
+    ensures { option_map tail_view result ≡ tail_with_pair hard (tail_or_null (option_map array_address pair)) }
 {
     match pair {
         None => None,
@@ -86,30 +86,30 @@ fn tail_unless_pair_is_null(hard: bool, pair: Option<[u32; 2]>) -> Option<Tail>
 }
 
 // Applies a change to the content.
-pub(crate) fn apply_change_to_content<'a>(
+pub(crate) fn apply_change<'a>(
     alloc: Global,
     content: &mut Content<'a>,
     change: &Change<'a>,
 ) -> Result<(), ContentError>
-    requires { is_storable_pair_content_change (change_view change.now) ≡ true }
-    ensures { GivesValueUnlessNoMemory (λ _. content_view content.new) result (content_after_log_entries (content_view content.old) (log_entries_of_change (change_view change.now))) }
+    requires { is_storable (change_view change.now) ≡ true }
+    ensures { GivesWithMemory (λ _. content_view content.new) result (content_after (content_view content.old) (change_entries (change_view change.now))) }
 {
     match *change {
         Change::Create { id, kind, name } => {
-            apply_entry_of_type_id_and_bytes(alloc, content, CREATE, id, &[])?;
-            apply_entry_of_type_id_and_bytes(alloc, content, kind, id, name)?;
+            apply_entry_of(alloc, content, CREATE, id, &[])?;
+            apply_entry_of(alloc, content, kind, id, name)?;
             Ok(())
         }
         Change::Delete { id } => {
-            apply_entry_of_type_id_and_bytes(alloc, content, DELETE, id, &[])?;
+            apply_entry_of(alloc, content, DELETE, id, &[])?;
             Ok(())
         }
         Change::Struct { id, kind, bytes } => {
-            apply_entry_of_type_id_and_bytes(alloc, content, kind, id, bytes)?;
+            apply_entry_of(alloc, content, kind, id, bytes)?;
             Ok(())
         }
         Change::Attr { id, attr, bytes } => {
-            apply_entry_of_type_id_and_bytes(
+            apply_entry_of(
                 alloc,
                 content,
                 ATTRIBUTE + u16::from(attr),
@@ -123,7 +123,7 @@ pub(crate) fn apply_change_to_content<'a>(
             Ok(())
         }
         Change::Tail { hard, pair } => {
-            content.tail = tail_unless_pair_is_null(hard, pair);
+            content.tail = tail_unless_null(hard, pair);
             Ok(())
         }
         Change::Move { state } => {
@@ -146,11 +146,11 @@ pub fn apply_all_changes<'a>(
     content: &mut Content<'a>,
     changes: &[Change<'a>],
 ) -> Result<(), ContentError>
-    requires { list_all is_storable_pair_content_change (changes_view changes.now) ≡ true }
-    ensures { GivesValueUnlessNoMemory (λ _. content_view content.new) result (content_after_log_entries (content_view content.old) (log_entries_of_changes (changes_view changes.now))) }
+    requires { list_all is_storable (changes_view changes.now) ≡ true }
+    ensures { GivesWithMemory (λ _. content_view content.new) result (content_after (content_view content.old) (entries_of_changes (changes_view changes.now))) }
 {
     for change in changes {
-        match apply_change_to_content(alloc, content, change) {
+        match apply_change(alloc, content, change) {
             Ok(()) => {}
             Err(error) => return Err(error),
         }

@@ -1,27 +1,27 @@
 // Commits of changes to a pair.
 
 ghost use Rattle.std.specs.Prelude.{◌≡◌, true, false, IfErr, OnErr, OnOk, Some, length};
-ghost use Rattle.lfs_device.specs.Shown.{disk_of_geometry_and_blocks};
-ghost use Rattle.lfs_model.specs.Blocks.{block_bytes_by_number};
-ghost use Rattle.lfs_device.specs.Calls.{ReportsFaults};
-ghost use Rattle.lfs_model.specs.History.{IsTrueOfEachCallSince, IsTrueAfterAnyPowerLossSince};
-ghost use Rattle.lfs_model.specs.Stops.{LeavesNoNewLogIfSuccessfulErase, AreBlocksLeftByPowerLossInCall};
-ghost use Rattle.lfs_model.specs.WrittenContent.{IsRawContentFittingPair};
-ghost use Rattle.lfs_model.specs.LoggedContent.{AreNamedSlots, IsWellFormedRawPairContent};
+ghost use Rattle.lfs_device.specs.DeviceDisk.{disk_of_blocks};
+ghost use Rattle.lfs_model.specs.format.Blocks.{block_bytes};
+ghost use Rattle.lfs_device.specs.DeviceCalls.{ReportsFaults};
+ghost use Rattle.lfs_model.specs.session.History.{AllCallsSince, HoldsAtLosses};
+ghost use Rattle.lfs_model.specs.crash.Stops.{ErasesCleanly, LeftByLoss};
+ghost use Rattle.lfs_model.specs.layers.WrittenContent.{RawContentFits};
+ghost use Rattle.lfs_model.specs.layers.LoggedContent.{AreNamed, IsWellFormed};
 ghost use Rattle.lfs_tag.specs.ContentView.{content_view};
-ghost use Rattle.lfs_model.specs.Content.{RawPairContent};
-ghost use Rattle.lfs_pair.specs.Pair.{IsPairOnDiskAsHeaderSays, pair_address_in_header};
+ghost use Rattle.lfs_model.specs.format.Content.{RawContent};
+ghost use Rattle.lfs_pair.specs.Pair.{IsAsHeader, header_address};
 ghost use Rattle.lfs_pair.specs.ChangeView.{changes_view};
-ghost use Rattle.lfs_pair.specs.Commit.{pair_content_after_changes, AppendsChanges, CanCommit, CommitsChangesToPair, CompactsToContent, CommitFailsKeepingHeader, CannotAppend, IsLogEndBlank, RefusesCommit, IsPairAddressOnDisk, HeaderSaysActiveBlock, PowerLossLeavesOldOrChangedContent, PowerLossLeavesOldOrNewContent};
+ghost use Rattle.lfs_pair.specs.Commits.{changed_pair, AppendsChanges, CanCommit, CommitsChanges, CompactsToContent, CommitFailsKeepingHeader, CannotAppend, IsEndBlank, RefusesCommit, AddressIsOnDisk, HeaderSaysActive, LossLeavesChanged, LossLeavesNew};
 ghost use Rattle.lfs_pair.specs.Writing.{AsksAboutBlankBytes, ChangesOnlyBlocksWithinReadLimit, WritesOnlyTheseBlocks};
-ghost use Rattle.lfs_model.specs.Thread.{blocks_of_pair_address};
+ghost use Rattle.lfs_model.specs.format.Thread.{address_blocks};
 
 use crate::change::Change;
-use crate::contents::read_content_and_apply_changes;
+use crate::contents::changed_content;
 use crate::entries::push_changes;
 use crate::pair::Pair;
 use crate::programs::{program_commit_at, write_block_anew};
-use crate::size::is_content_within_pair_limits;
+use crate::size::content_fits;
 use lfs_device::{BlockDevice, Error, read_block};
 use lfs_tag::{CommitBuilder, Content};
 use std::alloc::Global;
@@ -43,7 +43,7 @@ pub enum Outcome {
 /// After a [`fetch`](crate::fetch) the bytes after the log aren't known. So the first commit asks
 /// the device whether they are blank, and appends only then. The call takes at most two reads.
 ///
-/// Returns [`Outcome::Full`] exactly where what the changes make doesn't fit a pair ([`is_content_within_pair_limits`]).
+/// Returns [`Outcome::Full`] exactly where what the changes make doesn't fit a pair ([`content_fits`]).
 /// Then nothing is written, and the pair stays as it was.
 ///
 /// Errors: `NoMemory` where memory for two blocks and the slots isn't granted; nothing is written
@@ -62,19 +62,19 @@ pub fn commit<D: BlockDevice>(
     pair: &mut Pair,
     changes: &[Change<'_>],
 ) -> Result<Outcome, Error>
-    requires { CanCommit (disk_of_geometry_and_blocks (D.geometry dev.old) (D.blocks dev.old)) (D.history dev.old) pair.old (changes_view changes.now) }
+    requires { CanCommit (disk_of_blocks (D.geometry dev.old) (D.blocks dev.old)) (D.history dev.old) pair.old (changes_view changes.now) }
 
     ensures done { result ≡ Ok Outcome.Done
-        → CommitsChangesToPair (disk_of_geometry_and_blocks (D.geometry dev.old) (D.blocks dev.old)) (D.history dev.old) (changes_view changes.now) pair.old (disk_of_geometry_and_blocks (D.geometry dev.new) (D.blocks dev.new)) (D.history dev.new) pair.new }
+        → CommitsChanges (disk_of_blocks (D.geometry dev.old) (D.blocks dev.old)) (D.history dev.old) (changes_view changes.now) pair.old (disk_of_blocks (D.geometry dev.new) (D.blocks dev.new)) (D.history dev.new) pair.new }
     ensures full { result ≡ Ok Outcome.Full → RefusesCommit D.BlockDevice (changes_view changes.now) dev.old dev.new pair.old pair.new }
     ensures error { IfErr result (λ e. CommitFailsKeepingHeader D.BlockDevice dev.old dev.new pair.old pair.new e) }
-    ensures device { ChangesOnlyBlocksWithinReadLimit D.BlockDevice 2 (blocks_of_pair_address (pair_address_in_header pair.old)) dev.old dev.new }
+    ensures device { ChangesOnlyBlocksWithinReadLimit D.BlockDevice 2 (address_blocks (header_address pair.old)) dev.old dev.new }
     ensures faults { ReportsFaults D.BlockDevice dev.old dev.new result }
-    ensures stops { IsTrueOfEachCallSince LeavesNoNewLogIfSuccessfulErase (D.history dev.old) (D.history dev.new)
-        → IsTrueAfterAnyPowerLossSince AreBlocksLeftByPowerLossInCall (D.history dev.old) (D.history dev.new) (PowerLossLeavesOldOrChangedContent (disk_of_geometry_and_blocks (D.geometry dev.old) (D.blocks dev.old)) (pair_address_in_header pair.old) (changes_view changes.now)) }
+    ensures stops { AllCallsSince ErasesCleanly (D.history dev.old) (D.history dev.new)
+        → HoldsAtLosses LeftByLoss (D.history dev.old) (D.history dev.new) (LossLeavesChanged (disk_of_blocks (D.geometry dev.old) (D.blocks dev.old)) (header_address pair.old) (changes_view changes.now)) }
 {
     let block = read_block(alloc, dev, pair.active)?;
-    let outcome = commit_with_block_bytes(alloc, dev, pair, &block, changes)?;
+    let outcome = commit_bytes(alloc, dev, pair, &block, changes)?;
     Ok(outcome)
 }
 
@@ -83,32 +83,32 @@ pub fn commit<D: BlockDevice>(
 ///
 /// The caller's conditions are those of [`commit`], and that the active block has the bytes of
 /// `block`. Errors are those of [`commit`], but memory is wanted for one block and the slots.
-pub fn commit_with_block_bytes<'a, 'b: 'a, D: BlockDevice>(
+pub fn commit_bytes<'a, 'b: 'a, D: BlockDevice>(
     alloc: Global,
     dev: &mut D,
     pair: &mut Pair,
     block: &'a [u8],
     changes: &[Change<'b>],
 ) -> Result<Outcome, Error>
-    requires can { CanCommit (disk_of_geometry_and_blocks (D.geometry dev.old) (D.blocks dev.old)) (D.history dev.old) pair.old (changes_view changes.now) }
-    requires block { block.now ≡ block_bytes_by_number (D.blocks dev.old) pair.old.active }
+    requires can { CanCommit (disk_of_blocks (D.geometry dev.old) (D.blocks dev.old)) (D.history dev.old) pair.old (changes_view changes.now) }
+    requires block { block.now ≡ block_bytes (D.blocks dev.old) pair.old.active }
 
     ensures done { result ≡ Ok Outcome.Done
-        → CommitsChangesToPair (disk_of_geometry_and_blocks (D.geometry dev.old) (D.blocks dev.old)) (D.history dev.old) (changes_view changes.now) pair.old (disk_of_geometry_and_blocks (D.geometry dev.new) (D.blocks dev.new)) (D.history dev.new) pair.new }
+        → CommitsChanges (disk_of_blocks (D.geometry dev.old) (D.blocks dev.old)) (D.history dev.old) (changes_view changes.now) pair.old (disk_of_blocks (D.geometry dev.new) (D.blocks dev.new)) (D.history dev.new) pair.new }
     ensures full { result ≡ Ok Outcome.Full → RefusesCommit D.BlockDevice (changes_view changes.now) dev.old dev.new pair.old pair.new }
     ensures error { IfErr result (λ e. CommitFailsKeepingHeader D.BlockDevice dev.old dev.new pair.old pair.new e) }
-    ensures device { ChangesOnlyBlocksWithinReadLimit D.BlockDevice 1 (blocks_of_pair_address (pair_address_in_header pair.old)) dev.old dev.new }
+    ensures device { ChangesOnlyBlocksWithinReadLimit D.BlockDevice 1 (address_blocks (header_address pair.old)) dev.old dev.new }
     ensures faults { ReportsFaults D.BlockDevice dev.old dev.new result }
-    ensures stops { IsTrueOfEachCallSince LeavesNoNewLogIfSuccessfulErase (D.history dev.old) (D.history dev.new)
-        → IsTrueAfterAnyPowerLossSince AreBlocksLeftByPowerLossInCall (D.history dev.old) (D.history dev.new) (PowerLossLeavesOldOrChangedContent (disk_of_geometry_and_blocks (D.geometry dev.old) (D.blocks dev.old)) (pair_address_in_header pair.old) (changes_view changes.now)) }
+    ensures stops { AllCallsSince ErasesCleanly (D.history dev.old) (D.history dev.new)
+        → HoldsAtLosses LeftByLoss (D.history dev.old) (D.history dev.new) (LossLeavesChanged (disk_of_blocks (D.geometry dev.old) (D.blocks dev.old)) (header_address pair.old) (changes_view changes.now)) }
 {
     let geometry = dev.geometry();
-    let content = read_content_and_apply_changes(alloc, pair, block, changes)?;
-    if !is_content_within_pair_limits(&content, geometry) {
+    let content = changed_content(alloc, pair, block, changes)?;
+    if !content_fits(&content, geometry) {
         return Ok(Outcome::Full);
     }
     let mut buf = Vec::from_elem(alloc, 0u8, geometry.block_size as usize)?;
-    if append_changes_to_log(dev, pair, changes, &content, &mut buf)? {
+    if append_changes(dev, pair, changes, &content, &mut buf)? {
         return Ok(Outcome::Done);
     }
     compact(dev, pair, &content, &mut buf)?;
@@ -118,10 +118,10 @@ pub fn commit_with_block_bytes<'a, 'b: 'a, D: BlockDevice>(
 // Tells whether the bytes after a pair's log are unprogrammed. Where the pair was fetched and not
 // written to since then, the device is asked.
 fn is_end_blank<D: BlockDevice>(dev: &mut D, pair: &Pair) -> Result<bool, Error>
-    requires address { IsPairAddressOnDisk (disk_of_geometry_and_blocks (D.geometry dev.old) (D.blocks dev.old)) (pair_address_in_header pair.now) }
-    requires pair { (held : RawPairContent) × IsPairOnDiskAsHeaderSays (disk_of_geometry_and_blocks (D.geometry dev.old) (D.blocks dev.old)) (D.history dev.old) pair.now held }
+    requires address { AddressIsOnDisk (disk_of_blocks (D.geometry dev.old) (D.blocks dev.old)) (header_address pair.now) }
+    requires pair { (held : RawContent) × IsAsHeader (disk_of_blocks (D.geometry dev.old) (D.blocks dev.old)) (D.history dev.old) pair.now held }
 
-    ensures yes { result ≡ Ok true → IsLogEndBlank (D.geometry dev.old) (D.history dev.old) (D.history dev.new) pair.now }
+    ensures yes { result ≡ Ok true → IsEndBlank (D.geometry dev.old) (D.history dev.old) (D.history dev.new) pair.now }
     ensures no { result ≡ Ok false → (pair.now.is_fetched ≡ true) × (D.history dev.new ≡ D.history dev.old) }
     ensures asks { AsksAboutBlankBytes D.BlockDevice dev.old dev.new }
     ensures errors { IfErr result (λ e. e ≡ Error.Io) }
@@ -141,31 +141,31 @@ fn is_end_blank<D: BlockDevice>(dev: &mut D, pair: &Pair) -> Result<bool, Error>
 
 // Appends the changes, which make the content, to the log of the active block, if they fit there.
 // Returns whether they do, and whether nothing is programmed there.
-fn append_changes_to_log<D: BlockDevice>(
+fn append_changes<D: BlockDevice>(
     dev: &mut D,
     pair: &mut Pair,
     changes: &[Change<'_>],
     content: &Content<'_>,
     buf: &mut [u8],
 ) -> Result<bool, Error>
-    requires can { CanCommit (disk_of_geometry_and_blocks (D.geometry dev.old) (D.blocks dev.old)) (D.history dev.old) pair.old (changes_view changes.now) }
-    requires logged { IsWellFormedRawPairContent (content_view content.now) }
-    requires made { pair_content_after_changes (disk_of_geometry_and_blocks (D.geometry dev.old) (D.blocks dev.old)) (pair_address_in_header pair.old) (changes_view changes.now) ≡ Some (content_view content.now) }
+    requires can { CanCommit (disk_of_blocks (D.geometry dev.old) (D.blocks dev.old)) (D.history dev.old) pair.old (changes_view changes.now) }
+    requires logged { IsWellFormed (content_view content.now) }
+    requires made { changed_pair (disk_of_blocks (D.geometry dev.old) (D.blocks dev.old)) (header_address pair.old) (changes_view changes.now) ≡ Some (content_view content.now) }
     requires buf { length buf.old ≡ (D.geometry dev.old).block_size }
 
-    ensures done { result ≡ Ok true → AppendsChanges (disk_of_geometry_and_blocks (D.geometry dev.old) (D.blocks dev.old)) (D.history dev.old) pair.old (changes_view changes.now) (content_view content.now)
-        (disk_of_geometry_and_blocks (D.geometry dev.new) (D.blocks dev.new)) (D.history dev.new) pair.new }
+    ensures done { result ≡ Ok true → AppendsChanges (disk_of_blocks (D.geometry dev.old) (D.blocks dev.old)) (D.history dev.old) pair.old (changes_view changes.now) (content_view content.now)
+        (disk_of_blocks (D.geometry dev.new) (D.blocks dev.new)) (D.history dev.new) pair.new }
     ensures no_room { result ≡ Ok false → CannotAppend D.BlockDevice (changes_view changes.now) dev.old dev.new pair.old pair.new }
     ensures buf { length buf.new ≡ length buf.old }
     ensures err_pair { OnErr result (pair.new ≡ pair.old) }
-    ensures writes { WritesOnlyTheseBlocks D.BlockDevice 1 (blocks_of_pair_address (pair_address_in_header pair.old)) dev.old dev.new result }
-    ensures stops { IsTrueAfterAnyPowerLossSince AreBlocksLeftByPowerLossInCall (D.history dev.old) (D.history dev.new) (PowerLossLeavesOldOrNewContent (disk_of_geometry_and_blocks (D.geometry dev.old) (D.blocks dev.old)) (pair_address_in_header pair.old) (content_view content.now)) }
+    ensures writes { WritesOnlyTheseBlocks D.BlockDevice 1 (address_blocks (header_address pair.old)) dev.old dev.new result }
+    ensures stops { HoldsAtLosses LeftByLoss (D.history dev.old) (D.history dev.new) (LossLeavesNew (disk_of_blocks (D.geometry dev.old) (D.blocks dev.old)) (header_address pair.old) (content_view content.now)) }
 {
     let geometry = dev.geometry();
     let mut builder = CommitBuilder::new(geometry.page, buf, pair.last, None);
     push_changes(&mut builder, changes);
     let room = geometry.block_size - pair.end as u32;
-    if room < builder.end_of_padded_commit() {
+    if room < builder.end_on_page() {
         return Ok(false);
     }
     let is_blank = is_end_blank(dev, pair)?;
@@ -184,20 +184,20 @@ pub(crate) fn compact<D: BlockDevice>(
     content: &Content<'_>,
     buf: &mut [u8],
 ) -> Result<(), Error>
-    requires address { IsPairAddressOnDisk (disk_of_geometry_and_blocks (D.geometry dev.old) (D.blocks dev.old)) (pair_address_in_header pair.old) }
-    requires active { HeaderSaysActiveBlock (disk_of_geometry_and_blocks (D.geometry dev.old) (D.blocks dev.old)) pair.old }
+    requires address { AddressIsOnDisk (disk_of_blocks (D.geometry dev.old) (D.blocks dev.old)) (header_address pair.old) }
+    requires active { HeaderSaysActive (disk_of_blocks (D.geometry dev.old) (D.blocks dev.old)) pair.old }
     requires buf { length buf.old ≡ (D.geometry dev.old).block_size }
-    requires logged { IsWellFormedRawPairContent (content_view content.now) }
-    requires names { AreNamedSlots (content_view content.now).slots }
-    requires fits { IsRawContentFittingPair (D.geometry dev.old).block_size (D.geometry dev.old).page (content_view content.now) }
+    requires logged { IsWellFormed (content_view content.now) }
+    requires names { AreNamed (content_view content.now).slots }
+    requires fits { RawContentFits (D.geometry dev.old).block_size (D.geometry dev.old).page (content_view content.now) }
 
     ensures buf { length buf.new ≡ length buf.old }
-    ensures done { OnOk result (CompactsToContent (disk_of_geometry_and_blocks (D.geometry dev.old) (D.blocks dev.old)) (D.history dev.old) pair.old (content_view content.now)
-        (disk_of_geometry_and_blocks (D.geometry dev.new) (D.blocks dev.new)) (D.history dev.new) pair.new) }
+    ensures done { OnOk result (CompactsToContent (disk_of_blocks (D.geometry dev.old) (D.blocks dev.old)) (D.history dev.old) pair.old (content_view content.now)
+        (disk_of_blocks (D.geometry dev.new) (D.blocks dev.new)) (D.history dev.new) pair.new) }
     ensures err_pair { OnErr result (pair.new ≡ pair.old) }
-    ensures writes { WritesOnlyTheseBlocks D.BlockDevice 1 (blocks_of_pair_address (pair_address_in_header pair.old)) dev.old dev.new result }
-    ensures stops { IsTrueOfEachCallSince LeavesNoNewLogIfSuccessfulErase (D.history dev.old) (D.history dev.new)
-        → IsTrueAfterAnyPowerLossSince AreBlocksLeftByPowerLossInCall (D.history dev.old) (D.history dev.new) (PowerLossLeavesOldOrNewContent (disk_of_geometry_and_blocks (D.geometry dev.old) (D.blocks dev.old)) (pair_address_in_header pair.old) (content_view content.now)) }
+    ensures writes { WritesOnlyTheseBlocks D.BlockDevice 1 (address_blocks (header_address pair.old)) dev.old dev.new result }
+    ensures stops { AllCallsSince ErasesCleanly (D.history dev.old) (D.history dev.new)
+        → HoldsAtLosses LeftByLoss (D.history dev.old) (D.history dev.new) (LossLeavesNew (disk_of_blocks (D.geometry dev.old) (D.blocks dev.old)) (header_address pair.old) (content_view content.now)) }
 {
     let other = pair.inactive_block();
     let revision = pair.revision.wrapping_add(1);

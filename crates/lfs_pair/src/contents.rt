@@ -1,13 +1,13 @@
 // What changes make of a pair's content.
 
 ghost use Rattle.std.specs.Prelude.{◌≡◌, true, is_some, IfOk, IfErr, Some, None};
-ghost use Rattle.lfs_model.specs.Content.{empty_raw_pair_content};
-ghost use Rattle.lfs_model.specs.Log.{chain_of};
-ghost use Rattle.lfs_model.specs.LoggedContent.{IsWellFormedRawPairContent};
+ghost use Rattle.lfs_model.specs.format.Content.{empty_raw_content};
+ghost use Rattle.lfs_model.specs.format.Log.{chain_of};
+ghost use Rattle.lfs_model.specs.layers.LoggedContent.{IsWellFormed};
 ghost use Rattle.lfs_tag.specs.ContentView.{content_view};
 ghost use Rattle.lfs_pair.specs.ChangeView.{changes_view};
-ghost use Rattle.lfs_pair.specs.Commit.{content_made_by_changes, log_content_after_changes};
-ghost use Rattle.lfs_pair.specs.Pair.{HeaderHasLogEndAndLastTag};
+ghost use Rattle.lfs_pair.specs.Commits.{content_made, changed_log};
+ghost use Rattle.lfs_pair.specs.Pair.{HeaderHasEnd};
 
 use crate::change::{Change, apply_all_changes};
 use crate::pair::Pair;
@@ -17,7 +17,7 @@ use std::alloc::Global;
 
 // Makes the content of an empty log.
 fn empty_content<'a>(alloc: Global) -> Content<'a>
-    ensures { content_view result ≡ empty_raw_pair_content }
+    ensures { content_view result ≡ empty_raw_content }
 {
     Content {
         slots: Vec::new(alloc),
@@ -27,13 +27,13 @@ fn empty_content<'a>(alloc: Global) -> Content<'a>
 }
 
 // Makes the content that the changes make of an empty log.
-pub(crate) fn content_of_changes_to_empty_log<'a>(
+pub(crate) fn content_of_changes<'a>(
     alloc: Global,
     changes: &[Change<'a>],
 ) -> Result<Content<'a>, Error>
-    requires { is_some (content_made_by_changes (Some empty_raw_pair_content) (changes_view changes.now)) ≡ true }
-    ensures content { IfOk result (λ c. content_made_by_changes (Some empty_raw_pair_content) (changes_view changes.now) ≡ Some (content_view c)) }
-    ensures logged { IfOk result (λ c. IsWellFormedRawPairContent (content_view c)) }
+    requires { is_some (content_made (Some empty_raw_content) (changes_view changes.now)) ≡ true }
+    ensures content { IfOk result (λ c. content_made (Some empty_raw_content) (changes_view changes.now) ≡ Some (content_view c)) }
+    ensures logged { IfOk result (λ c. IsWellFormed (content_view c)) }
     ensures errors { IfErr result (λ e. e ≡ Error.NoMemory) }
 {
     let mut content = empty_content(alloc);
@@ -46,22 +46,22 @@ pub(crate) fn content_of_changes_to_empty_log<'a>(
 
 // Makes the content that the changes make of what the pair's active block holds. The block has
 // these bytes; its checksums aren't computed again.
-pub(crate) fn read_content_and_apply_changes<'a, 'b: 'a>(
+pub(crate) fn changed_content<'a, 'b: 'a>(
     alloc: Global,
     pair: &Pair,
     block: &'a [u8],
     changes: &[Change<'b>],
 ) -> Result<Content<'a>, Error>
-    requires made { is_some (log_content_after_changes block.now (changes_view changes.now)) ≡ true }
-    requires ends { HeaderHasLogEndAndLastTag (chain_of block.now).end (chain_of block.now).last pair.now }
-    ensures content { IfOk result (λ c. log_content_after_changes block.now (changes_view changes.now) ≡ Some (content_view c)) }
-    ensures logged { IfOk result (λ c. IsWellFormedRawPairContent (content_view c)) }
+    requires made { is_some (changed_log block.now (changes_view changes.now)) ≡ true }
+    requires ends { HeaderHasEnd (chain_of block.now).end (chain_of block.now).last pair.now }
+    ensures content { IfOk result (λ c. changed_log block.now (changes_view changes.now) ≡ Some (content_view c)) }
+    ensures logged { IfOk result (λ c. IsWellFormed (content_view c)) }
     ensures errors { IfErr result (λ e. e ≡ Error.NoMemory) }
 {
     let log = Log::with_known_end(block, pair.end, pair.last);
     // Most changes add one slot at most.
     let slot_count = pair.slot_count.saturating_add(1);
-    let mut content = match Content::read_with_room_for_slots(alloc, &log, slot_count) {
+    let mut content = match Content::read_with_room(alloc, &log, slot_count) {
         Ok(content) => content,
         Err(ContentError::NoMemory) => return Err(Error::NoMemory),
         Err(ContentError::Malformed) => unreachable!(),

@@ -2,30 +2,30 @@
 
 ghost use Rattle.std.specs.Prelude.{map};
 ghost use Rattle.lfs_tag.specs.ContentView.{slot_view};
-ghost use Rattle.lfs_pair.specs.Cut.{CanSplitSlotsIntoTwoPairs, IsCutIndexNearHalfOfSlotBytes};
+ghost use Rattle.lfs_pair.specs.HalfCut.{CanSplit, IsHalfCut};
 
-use crate::size::{are_slot_count_and_size_within_pair_limits, slot_size, slots_size};
+use crate::size::{fits_pair, slot_size, slots_size};
 use lfs_device::Geometry;
 use lfs_tag::Slot;
 
 // Returns how many slots come before the cut. The cut is the last one that has at most half of the
 // bytes before it. So what is written later finds room in both parts. Where no cut is such, it is
 // the first that is possible.
-pub(crate) fn middle_cut_of_slots(slots: &[Slot<'_>], geometry: Geometry) -> usize
-    requires { CanSplitSlotsIntoTwoPairs geometry.block_size geometry.page (map slot_view slots.now) }
-    ensures { IsCutIndexNearHalfOfSlotBytes geometry.block_size geometry.page (map slot_view slots.now) result }
+pub(crate) fn middle_cut(slots: &[Slot<'_>], geometry: Geometry) -> usize
+    requires { CanSplit geometry.block_size geometry.page (map slot_view slots.now) }
+    ensures { IsHalfCut geometry.block_size geometry.page (map slot_view slots.now) result }
 {
     let total = slots_size(slots);
     let mut cut = 0;
     let mut front = 0;
     for slot in slots {
         let longer = front + slot_size(slot);
-        let back_fits = are_slot_count_and_size_within_pair_limits(
+        let back_fits = fits_pair(
             slots.len() - cut,
             total - front,
             geometry,
         );
-        if !are_slot_count_and_size_within_pair_limits(cut + 1, longer, geometry)
+        if !fits_pair(cut + 1, longer, geometry)
             || (back_fits && 2 * longer > total)
         {
             return cut;

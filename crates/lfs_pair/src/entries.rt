@@ -3,14 +3,14 @@
 ghost use Rattle.std.specs.Prelude.{◌≡◌, ◌≢◌, ◌+◌, ◌/◌, ◌<◌, ◌≤◌, ◌^◌, true, [], ◌∷◌, length, map};
 ghost use Rattle.std.specs.List.{list_all};
 ghost use Rattle.std.specs.Option.{option_map};
-ghost use Rattle.lfs_model.specs.Slots.{pair_address_of_array};
-ghost use Rattle.lfs_model.specs.LoggedContent.{AreAttributesInTypeOrder, IsWellFormedRawSlot, AreWellFormedRawSlots, IsWellFormedRawPairContent, AreMoveStateFieldsWithinBitWidths, IsNameOrStructTheFormatAllowsIfSome};
-ghost use Rattle.lfs_model.specs.WrittenContent.{log_entries_of_name_or_struct, log_entries_of_attributes, log_entries_of_slot, log_entries_of_slots, log_entries_of_tail, tail_log_entry, move_state_log_entry, log_entries_of_move_state, log_entries_of_content, log_entry_of_type_id_and_bytes};
-ghost use Rattle.lfs_model.specs.Changes.{log_entries_of_change, log_entries_of_changes, is_storable_pair_content_change, RemoveAttribute};
-ghost use Rattle.lfs_tag.specs.ContentView.{name_or_struct_view, attribute_view, slot_view, tail_view, content_view};
+ghost use Rattle.lfs_model.specs.format.Slots.{array_address};
+ghost use Rattle.lfs_model.specs.layers.LoggedContent.{AttributesInOrder, IsSlotWellFormed, AreWellFormed, IsWellFormed, MoveStateFits, AllowsIfSome};
+ghost use Rattle.lfs_model.specs.layers.WrittenContent.{data_entries, attribute_entries, slot_entries, entries_of_slots, tail_entries, tail_entry, move_entry, move_state_entries, content_entries, log_entry_of};
+ghost use Rattle.lfs_model.specs.layers.Changes.{change_entries, entries_of_changes, is_storable, RemoveAttribute};
+ghost use Rattle.lfs_tag.specs.ContentView.{data_view, attribute_view, slot_view, tail_view, content_view};
 ghost use Rattle.lfs_tag.specs.FieldsView.{move_view};
 ghost use Rattle.lfs_pair.specs.ChangeView.{change_view, changes_view};
-ghost use Rattle.lfs_pair.specs.Writing.{commit_with_more_entries};
+ghost use Rattle.lfs_pair.specs.Writing.{commit_with_more};
 
 use crate::change::Change;
 use lfs_tag::kinds::{ATTRIBUTE, CREATE, DELETE, HARD_TAIL, MOVE_STATE, SOFT_TAIL};
@@ -25,7 +25,7 @@ fn push_log_entry(builder: &mut CommitBuilder<'_>, kind: u16, id: u16, bytes: &[
     requires other { kind / 2 ^ 8 ≢ 5 }
     requires id { id < 2 ^ 10 }
     requires bytes { length bytes.now ≤ 1022 }
-    ensures { builder.new ≡ commit_with_more_entries (log_entry_of_type_id_and_bytes kind id bytes.now ∷ []) builder.old }
+    ensures { builder.new ≡ commit_with_more (log_entry_of kind id bytes.now ∷ []) builder.old }
 {
     builder.push(Tag::new(kind, id, bytes.len() as u16), bytes);
 }
@@ -33,14 +33,14 @@ fn push_log_entry(builder: &mut CommitBuilder<'_>, kind: u16, id: u16, bytes: &[
 // Adds an entry that removes an attribute.
 fn push_attribute_removal(builder: &mut CommitBuilder<'_>, id: u16, attr: u8)
     requires { id < 2 ^ 10 }
-    ensures { builder.new ≡ commit_with_more_entries (log_entries_of_change (RemoveAttribute id attr)) builder.old }
+    ensures { builder.new ≡ commit_with_more (change_entries (RemoveAttribute id attr)) builder.old }
 {
     builder.push(Tag::new(ATTRIBUTE + u16::from(attr), id, Tag::REMOVED), &[]);
 }
 
 // Adds a tail; without a pair it is two null addresses.
 fn push_tail(builder: &mut CommitBuilder<'_>, hard: bool, pair: Option<[u32; 2]>)
-    ensures { builder.new ≡ commit_with_more_entries (tail_log_entry hard (option_map pair_address_of_array pair) ∷ []) builder.old }
+    ensures { builder.new ≡ commit_with_more (tail_entry hard (option_map array_address pair) ∷ []) builder.old }
 {
     let kind = if hard { HARD_TAIL } else { SOFT_TAIL };
     let pair = pair.unwrap_or([NULL_ADDRESS, NULL_ADDRESS]);
@@ -49,8 +49,8 @@ fn push_tail(builder: &mut CommitBuilder<'_>, hard: bool, pair: Option<[u32; 2]>
 
 // Adds a move state.
 fn push_move(builder: &mut CommitBuilder<'_>, state: &MoveState)
-    requires { AreMoveStateFieldsWithinBitWidths (move_view state.now) }
-    ensures { builder.new ≡ commit_with_more_entries (move_state_log_entry (move_view state.now) ∷ []) builder.old }
+    requires { MoveStateFits (move_view state.now) }
+    ensures { builder.new ≡ commit_with_more (move_entry (move_view state.now) ∷ []) builder.old }
 {
     push_log_entry(builder, MOVE_STATE, Tag::NO_ID, &move_state_bytes(state));
 }
@@ -59,8 +59,8 @@ fn push_move(builder: &mut CommitBuilder<'_>, state: &MoveState)
 
 // Adds the entries of a change.
 fn push_change(builder: &mut CommitBuilder<'_>, change: &Change<'_>)
-    requires { is_storable_pair_content_change (change_view change.now) ≡ true }
-    ensures { builder.new ≡ commit_with_more_entries (log_entries_of_change (change_view change.now)) builder.old }
+    requires { is_storable (change_view change.now) ≡ true }
+    ensures { builder.new ≡ commit_with_more (change_entries (change_view change.now)) builder.old }
 {
     match *change {
         Change::Create { id, kind, name } => {
@@ -80,8 +80,8 @@ fn push_change(builder: &mut CommitBuilder<'_>, change: &Change<'_>)
 
 // Adds the entries of all changes, in order.
 pub(crate) fn push_changes(builder: &mut CommitBuilder<'_>, changes: &[Change<'_>])
-    requires { list_all is_storable_pair_content_change (changes_view changes.now) ≡ true }
-    ensures { builder.new ≡ commit_with_more_entries (log_entries_of_changes (changes_view changes.now)) builder.old }
+    requires { list_all is_storable (changes_view changes.now) ≡ true }
+    ensures { builder.new ≡ commit_with_more (entries_of_changes (changes_view changes.now)) builder.old }
 {
     for change in changes {
         push_change(builder, change);
@@ -91,7 +91,7 @@ pub(crate) fn push_changes(builder: &mut CommitBuilder<'_>, changes: &[Change<'_
 // ---- contents
 
 // Adds a name or a struct, if there is one.
-fn push_name_or_struct(
+fn push_data(
     builder: &mut CommitBuilder<'_>,
     id: u16,
     part: &Option<NameOrStruct<'_>>,
@@ -99,8 +99,8 @@ fn push_name_or_struct(
 )
     requires id { id < 2 ^ 10 }
     requires class { class < 5 }
-    requires part { IsNameOrStructTheFormatAllowsIfSome class (option_map name_or_struct_view part.now) }
-    ensures { builder.new ≡ commit_with_more_entries (log_entries_of_name_or_struct id (option_map name_or_struct_view part.now)) builder.old }
+    requires part { AllowsIfSome class (option_map data_view part.now) }
+    ensures { builder.new ≡ commit_with_more (data_entries id (option_map data_view part.now)) builder.old }
 {
     if let Some(part) = part {
         push_log_entry(builder, part.kind, id, part.bytes);
@@ -110,8 +110,8 @@ fn push_name_or_struct(
 // Adds attributes.
 fn push_attributes(builder: &mut CommitBuilder<'_>, id: u16, attributes: &[Attribute<'_>])
     requires id { id < 2 ^ 10 }
-    requires attributes { AreAttributesInTypeOrder 0 (map attribute_view attributes.now) }
-    ensures { builder.new ≡ commit_with_more_entries (log_entries_of_attributes id (map attribute_view attributes.now)) builder.old }
+    requires attributes { AttributesInOrder 0 (map attribute_view attributes.now) }
+    ensures { builder.new ≡ commit_with_more (attribute_entries id (map attribute_view attributes.now)) builder.old }
 {
     for attribute in attributes {
         push_log_entry(
@@ -126,19 +126,19 @@ fn push_attributes(builder: &mut CommitBuilder<'_>, id: u16, attributes: &[Attri
 // Adds a slot.
 fn push_slot(builder: &mut CommitBuilder<'_>, id: u16, slot: &Slot<'_>)
     requires id { id < 2 ^ 10 }
-    requires parts { IsWellFormedRawSlot (slot_view slot.now) }
-    ensures { builder.new ≡ commit_with_more_entries (log_entries_of_slot id (slot_view slot.now)) builder.old }
+    requires parts { IsSlotWellFormed (slot_view slot.now) }
+    ensures { builder.new ≡ commit_with_more (slot_entries id (slot_view slot.now)) builder.old }
 {
-    push_name_or_struct(builder, id, &slot.name, 0);
-    push_name_or_struct(builder, id, &slot.structure, 2);
+    push_data(builder, id, &slot.name, 0);
+    push_data(builder, id, &slot.structure, 2);
     push_attributes(builder, id, &slot.attributes);
 }
 
 // Adds slots, from id 0 on.
 fn push_slots(builder: &mut CommitBuilder<'_>, slots: &[Slot<'_>])
     requires few { length slots.now < 0x3ff }
-    requires parts { AreWellFormedRawSlots (map slot_view slots.now) }
-    ensures { builder.new ≡ commit_with_more_entries (log_entries_of_slots 0 (map slot_view slots.now)) builder.old }
+    requires parts { AreWellFormed (map slot_view slots.now) }
+    ensures { builder.new ≡ commit_with_more (entries_of_slots 0 (map slot_view slots.now)) builder.old }
 {
     let mut id = 0;
     for slot in slots {
@@ -148,8 +148,8 @@ fn push_slots(builder: &mut CommitBuilder<'_>, slots: &[Slot<'_>])
 }
 
 // Adds a tail, if there is one.
-fn push_tail_if_some(builder: &mut CommitBuilder<'_>, tail: &Option<Tail>)
-    ensures { builder.new ≡ commit_with_more_entries (log_entries_of_tail (option_map tail_view tail.now)) builder.old }
+fn push_optional_tail(builder: &mut CommitBuilder<'_>, tail: &Option<Tail>)
+    ensures { builder.new ≡ commit_with_more (tail_entries (option_map tail_view tail.now)) builder.old }
 {
     if let Some(tail) = tail {
         push_tail(builder, tail.hard, Some(tail.pair));
@@ -157,9 +157,9 @@ fn push_tail_if_some(builder: &mut CommitBuilder<'_>, tail: &Option<Tail>)
 }
 
 // Adds a move state, unless it is zero.
-fn push_move_if_any(builder: &mut CommitBuilder<'_>, state: &MoveState)
-    requires { AreMoveStateFieldsWithinBitWidths (move_view state.now) }
-    ensures { builder.new ≡ commit_with_more_entries (log_entries_of_move_state (move_view state.now)) builder.old }
+fn push_optional_move(builder: &mut CommitBuilder<'_>, state: &MoveState)
+    requires { MoveStateFits (move_view state.now) }
+    ensures { builder.new ≡ commit_with_more (move_state_entries (move_view state.now)) builder.old }
 {
     if !state.is_none() {
         push_move(builder, state);
@@ -169,11 +169,11 @@ fn push_move_if_any(builder: &mut CommitBuilder<'_>, state: &MoveState)
 // Adds the entries that write a content into an empty log: each slot's name, struct and attributes
 // by ascending type, then the tail and the move state where there are such.
 pub(crate) fn push_content(builder: &mut CommitBuilder<'_>, content: &Content<'_>)
-    requires logged { IsWellFormedRawPairContent (content_view content.now) }
+    requires logged { IsWellFormed (content_view content.now) }
     requires few { length (content_view content.now).slots < 0x3ff }
-    ensures { builder.new ≡ commit_with_more_entries (log_entries_of_content (content_view content.now)) builder.old }
+    ensures { builder.new ≡ commit_with_more (content_entries (content_view content.now)) builder.old }
 {
     push_slots(builder, &content.slots);
-    push_tail_if_some(builder, &content.tail);
-    push_move_if_any(builder, &content.move_state);
+    push_optional_tail(builder, &content.tail);
+    push_optional_move(builder, &content.move_state);
 }

@@ -1,24 +1,24 @@
 // The header of a pair, read from the device.
 
 ghost use Rattle.std.specs.Prelude.{◌≡◌, ◌≢◌, ◌+◌, ◌≤◌, ◌<◌, ◌⊎◌, true, IfOk, IfErr, None, OnOk};
-ghost use Rattle.lfs_model.specs.Blocks.{block_bytes_by_number};
-ghost use Rattle.lfs_device.specs.Shown.{disk_of_geometry_and_blocks};
-ghost use Rattle.lfs_device.specs.Calls.{ReadsOnly, ReportsFaults};
-ghost use Rattle.lfs_model.specs.History.{read_count_of_history};
-ghost use Rattle.lfs_model.specs.Slots.{pair_address_of_array};
-ghost use Rattle.lfs_model.specs.Log.{chain_of, log_entries_of_block, revision_of_block};
-ghost use Rattle.lfs_model.specs.Content.{raw_content_of_pair_at, content_after_log_entries, empty_raw_pair_content, RawPairContent};
-ghost use Rattle.lfs_pair.specs.Pair.{HeaderDescribesLog, FetchFindsPair, read_count_of_pair_fetch, pair_blocks_later_revision_first};
+ghost use Rattle.lfs_model.specs.format.Blocks.{block_bytes};
+ghost use Rattle.lfs_device.specs.DeviceDisk.{disk_of_blocks};
+ghost use Rattle.lfs_device.specs.DeviceCalls.{ReadsOnly, ReportsFaults};
+ghost use Rattle.lfs_model.specs.session.History.{read_count};
+ghost use Rattle.lfs_model.specs.format.Slots.{array_address};
+ghost use Rattle.lfs_model.specs.format.Log.{chain_of, block_entries, block_revision};
+ghost use Rattle.lfs_model.specs.format.Content.{raw_content, content_after, empty_raw_content, RawContent};
+ghost use Rattle.lfs_pair.specs.Pair.{HeaderDescribesLog, FetchFindsPair, fetch_reads, later_block_first};
 
 use crate::block_logs::ActiveBlockCandidate;
 use crate::pair::Pair;
 use byteorder::{ByteOrder, LittleEndian};
 use lfs_device::{BlockDevice, Error, read_block};
-use lfs_tag::{Log, Summary, is_revision_later_than};
+use lfs_tag::{Log, Summary, is_later_than};
 use std::alloc::Global;
 
 // Makes the header of a pair whose active block has these bytes and that head.
-fn header_of_fetched_pair(
+fn fetched_header(
     alloc: Global,
     blocks: [u32; 2],
     active: u32,
@@ -27,12 +27,12 @@ fn header_of_fetched_pair(
 ) -> Result<Pair, Error>
     requires end { head.end ≡ (chain_of bytes.now).end }
     requires last { head.last ≡ (chain_of bytes.now).last }
-    requires revision { head.revision ≡ revision_of_block bytes.now }
-    ensures describes { IfOk result (λ pair. (held : RawPairContent) × HeaderDescribesLog bytes.now pair held) }
+    requires revision { head.revision ≡ block_revision bytes.now }
+    ensures describes { IfOk result (λ pair. (held : RawContent) × HeaderDescribesLog bytes.now pair held) }
     ensures blocks { IfOk result (λ pair. pair.blocks ≡ blocks) }
     ensures active { IfOk result (λ pair. pair.active ≡ active) }
     ensures fetched { IfOk result (λ pair. pair.is_fetched ≡ true) }
-    ensures corrupt { result ≡ Err Error.Corrupt → content_after_log_entries empty_raw_pair_content (log_entries_of_block bytes.now) ≡ None }
+    ensures corrupt { result ≡ Err Error.Corrupt → content_after empty_raw_content (block_entries bytes.now) ≡ None }
     ensures errors { IfErr result (λ e. (e ≡ Error.Corrupt) ⊎ (e ≡ Error.NoMemory)) }
 {
     let log = Log::with_known_end(bytes, head.end, head.last);
@@ -54,11 +54,11 @@ fn header_of_fetched_pair(
 // Reads the revision of a block.
 fn read_revision<D: BlockDevice>(dev: &mut D, block: u32) -> Result<u32, Error>
     requires { block < (D.geometry dev.old).block_count }
-    ensures revision { IfOk result (λ revision. revision ≡ revision_of_block (block_bytes_by_number (D.blocks dev.old) block)) }
+    ensures revision { IfOk result (λ revision. revision ≡ block_revision (block_bytes (D.blocks dev.old) block)) }
     ensures errors { IfErr result (λ e. e ≡ Error.Io) }
     ensures faults { ReportsFaults D.BlockDevice dev.old dev.new result }
     ensures device { ReadsOnly D.BlockDevice dev.old dev.new }
-    ensures once { read_count_of_history (D.history dev.new) ≡ read_count_of_history (D.history dev.old) + 1 }
+    ensures once { read_count (D.history dev.new) ≡ read_count (D.history dev.old) + 1 }
 {
     let mut bytes = [0; 4];
     dev.read(block, 0, &mut bytes)?;
@@ -67,23 +67,23 @@ fn read_revision<D: BlockDevice>(dev: &mut D, block: u32) -> Result<u32, Error>
 
 // Returns a pair's two blocks, the one with the later revision first. Where neither is later they
 // come as they are named.
-fn blocks_with_later_revision_first<D: BlockDevice>(
+fn later_first<D: BlockDevice>(
     dev: &mut D,
     blocks: [u32; 2],
 ) -> Result<[u32; 2], Error>
-    requires first { (pair_address_of_array blocks).0 < (D.geometry dev.old).block_count }
-    requires second { (pair_address_of_array blocks).1 < (D.geometry dev.old).block_count }
-    ensures later { IfOk result (λ later. pair_address_of_array later ≡ pair_blocks_later_revision_first (disk_of_geometry_and_blocks (D.geometry dev.old) (D.blocks dev.old)) (pair_address_of_array blocks)) }
+    requires first { (array_address blocks).0 < (D.geometry dev.old).block_count }
+    requires second { (array_address blocks).1 < (D.geometry dev.old).block_count }
+    ensures later { IfOk result (λ later. array_address later ≡ later_block_first (disk_of_blocks (D.geometry dev.old) (D.blocks dev.old)) (array_address blocks)) }
     ensures errors { IfErr result (λ e. e ≡ Error.Io) }
     ensures faults { ReportsFaults D.BlockDevice dev.old dev.new result }
     ensures device { ReadsOnly D.BlockDevice dev.old dev.new }
-    ensures reads { read_count_of_history (D.history dev.new) ≤ read_count_of_history (D.history dev.old) + 2 }
-    ensures both { OnOk result (read_count_of_history (D.history dev.new) ≡ read_count_of_history (D.history dev.old) + 2) }
+    ensures reads { read_count (D.history dev.new) ≤ read_count (D.history dev.old) + 2 }
+    ensures both { OnOk result (read_count (D.history dev.new) ≡ read_count (D.history dev.old) + 2) }
 {
     let [first, second] = blocks;
     let first_revision = read_revision(dev, first)?;
     let second_revision = read_revision(dev, second)?;
-    if is_revision_later_than(first_revision, second_revision) {
+    if is_later_than(first_revision, second_revision) {
         Ok([second, first])
     } else {
         Ok([first, second])
@@ -101,27 +101,27 @@ fn blocks_with_later_revision_first<D: BlockDevice>(
 /// malformed. `Io` where a read failed. `NoMemory` where memory for the blocks and the slots isn't
 /// granted.
 pub fn fetch<D: BlockDevice>(alloc: Global, dev: &mut D, blocks: [u32; 2]) -> Result<Pair, Error>
-    requires apart { (pair_address_of_array blocks).0 ≢ (pair_address_of_array blocks).1 }
-    requires first { (pair_address_of_array blocks).0 < (D.geometry dev.old).block_count }
-    requires second { (pair_address_of_array blocks).1 < (D.geometry dev.old).block_count }
-    ensures ok { IfOk result (λ pair. FetchFindsPair (disk_of_geometry_and_blocks (D.geometry dev.old) (D.blocks dev.old)) (D.history dev.new) (pair_address_of_array blocks) pair) }
-    ensures corrupt { result ≡ Err Error.Corrupt → raw_content_of_pair_at (disk_of_geometry_and_blocks (D.geometry dev.old) (D.blocks dev.old)) (pair_address_of_array blocks) ≡ None }
+    requires apart { (array_address blocks).0 ≢ (array_address blocks).1 }
+    requires first { (array_address blocks).0 < (D.geometry dev.old).block_count }
+    requires second { (array_address blocks).1 < (D.geometry dev.old).block_count }
+    ensures ok { IfOk result (λ pair. FetchFindsPair (disk_of_blocks (D.geometry dev.old) (D.blocks dev.old)) (D.history dev.new) (array_address blocks) pair) }
+    ensures corrupt { result ≡ Err Error.Corrupt → raw_content (disk_of_blocks (D.geometry dev.old) (D.blocks dev.old)) (array_address blocks) ≡ None }
     ensures errors { IfErr result (λ e. (e ≡ Error.Corrupt) ⊎ (e ≡ Error.NoMemory) ⊎ (e ≡ Error.Io)) }
     ensures faults { ReportsFaults D.BlockDevice dev.old dev.new result }
     ensures device { ReadsOnly D.BlockDevice dev.old dev.new }
-    ensures reads { OnOk result (read_count_of_history (D.history dev.new) ≡ read_count_of_history (D.history dev.old) + read_count_of_pair_fetch (disk_of_geometry_and_blocks (D.geometry dev.old) (D.blocks dev.old)) (pair_address_of_array blocks)) }
-    ensures few { read_count_of_history (D.history dev.new) ≤ read_count_of_history (D.history dev.old) + 4 }
+    ensures reads { OnOk result (read_count (D.history dev.new) ≡ read_count (D.history dev.old) + fetch_reads (disk_of_blocks (D.geometry dev.old) (D.blocks dev.old)) (array_address blocks)) }
+    ensures few { read_count (D.history dev.new) ≤ read_count (D.history dev.old) + 4 }
 {
-    let [later, other] = blocks_with_later_revision_first(dev, blocks)?;
+    let [later, other] = later_first(dev, blocks)?;
     let bytes = read_block(alloc, dev, later)?;
     let head = ActiveBlockCandidate::of(&bytes);
     if head.has_commit {
-        return header_of_fetched_pair(alloc, blocks, later, head, &bytes);
+        return fetched_header(alloc, blocks, later, head, &bytes);
     }
     let other_bytes = read_block(alloc, dev, other)?;
     let other_head = ActiveBlockCandidate::of(&other_bytes);
     if !other_head.has_commit {
         return Err(Error::Corrupt);
     }
-    header_of_fetched_pair(alloc, blocks, other, other_head, &other_bytes)
+    fetched_header(alloc, blocks, other, other_head, &other_bytes)
 }

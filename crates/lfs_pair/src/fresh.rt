@@ -1,22 +1,22 @@
 // Pairs that are made of two blocks.
 
 ghost use Rattle.std.specs.Prelude.{◌≡◌, ◌<◌, false, length, IfErr, IfOk, OnOk};
-ghost use Rattle.lfs_device.specs.Shown.{disk_of_geometry_and_blocks};
-ghost use Rattle.lfs_device.specs.Calls.{ReportsFaults};
-ghost use Rattle.lfs_model.specs.Blocks.{block_bytes_by_number};
-ghost use Rattle.lfs_model.specs.Content.{has_commit};
-ghost use Rattle.lfs_model.specs.LoggedContent.{AreNamedSlots, IsWellFormedRawPairContent};
-ghost use Rattle.lfs_model.specs.Slots.{pair_address_of_array};
-ghost use Rattle.lfs_model.specs.WrittenContent.{IsRawContentFittingPair};
+ghost use Rattle.lfs_device.specs.DeviceDisk.{disk_of_blocks};
+ghost use Rattle.lfs_device.specs.DeviceCalls.{ReportsFaults};
+ghost use Rattle.lfs_model.specs.format.Blocks.{block_bytes};
+ghost use Rattle.lfs_model.specs.format.Content.{has_commit};
+ghost use Rattle.lfs_model.specs.layers.LoggedContent.{AreNamed, IsWellFormed};
+ghost use Rattle.lfs_model.specs.format.Slots.{array_address};
+ghost use Rattle.lfs_model.specs.layers.WrittenContent.{RawContentFits};
 ghost use Rattle.lfs_tag.specs.ContentView.{content_view};
 ghost use Rattle.lfs_pair.specs.ChangeView.{changes_view};
-ghost use Rattle.lfs_pair.specs.Commit.{IsPairAddressOnDisk, PairHasContent};
+ghost use Rattle.lfs_pair.specs.Commits.{AddressIsOnDisk, PairHas};
 ghost use Rattle.lfs_pair.specs.Writing.{ChangesOnlyBlocksWithinReadLimit, WritesOnlyThisBlock, WritesOnlyTheseBlocks};
-ghost use Rattle.lfs_pair.specs.Fresh.{CanWriteFreshPair, HasErasedOneMoreBlockThanProgrammed, LeavesDeviceUntouchedAtNoMemory, HasContentWithRevisionOne, IsFreshPair};
-ghost use Rattle.lfs_model.specs.Thread.{blocks_of_pair_address};
+ghost use Rattle.lfs_pair.specs.FreshPair.{CanWriteFresh, ErasedOneMore, LeavesDeviceUntouchedAtNoMemory, HasFreshContent, IsFreshPair};
+ghost use Rattle.lfs_model.specs.format.Thread.{address_blocks};
 
 use crate::change::Change;
-use crate::contents::content_of_changes_to_empty_log;
+use crate::contents::content_of_changes;
 use crate::pair::Pair;
 use crate::programs::write_block_anew;
 use lfs_device::{BlockDevice, Error};
@@ -31,16 +31,16 @@ const ZEROS: [u8; 512] = [0; 512];
 
 // Erases a block, and leaves no log in it. An erase may leave any bytes, so an old log may still be
 // there after it. The first page is then programmed with zeros. The buffer is as long as a block.
-fn erase_block_leaving_no_log<D: BlockDevice>(
+fn erase_cleanly<D: BlockDevice>(
     dev: &mut D,
     block: u32,
     buf: &mut [u8],
 ) -> Result<(), Error>
     requires in_device { block < (D.geometry dev.old).block_count }
     requires buf { length buf.old ≡ (D.geometry dev.old).block_size }
-    ensures cleared { OnOk result (has_commit (block_bytes_by_number (D.blocks dev.new) block) ≡ false) }
+    ensures cleared { OnOk result (has_commit (block_bytes (D.blocks dev.new) block) ≡ false) }
     ensures buf { length buf.new ≡ length buf.old }
-    ensures clears { OnOk result (HasErasedOneMoreBlockThanProgrammed 0 (D.history dev.old) (D.history dev.new)) }
+    ensures clears { OnOk result (ErasedOneMore 0 (D.history dev.old) (D.history dev.new)) }
     ensures writes { WritesOnlyThisBlock D.BlockDevice 1 block dev.old dev.new result }
 {
     let page = dev.geometry().page as usize;
@@ -59,20 +59,20 @@ pub(crate) fn write_fresh_pair<D: BlockDevice>(
     content: &Content<'_>,
     buf: &mut [u8],
 ) -> Result<Pair, Error>
-    requires address { IsPairAddressOnDisk (disk_of_geometry_and_blocks (D.geometry dev.old) (D.blocks dev.old)) (pair_address_of_array blocks) }
+    requires address { AddressIsOnDisk (disk_of_blocks (D.geometry dev.old) (D.blocks dev.old)) (array_address blocks) }
     requires buf { length buf.old ≡ (D.geometry dev.old).block_size }
-    requires logged { IsWellFormedRawPairContent (content_view content.now) }
-    requires names { AreNamedSlots (content_view content.now).slots }
-    requires fits { IsRawContentFittingPair (D.geometry dev.old).block_size (D.geometry dev.old).page (content_view content.now) }
+    requires logged { IsWellFormed (content_view content.now) }
+    requires names { AreNamed (content_view content.now).slots }
+    requires fits { RawContentFits (D.geometry dev.old).block_size (D.geometry dev.old).page (content_view content.now) }
 
-    ensures holds { IfOk result (λ pair. PairHasContent (disk_of_geometry_and_blocks (D.geometry dev.new) (D.blocks dev.new)) (D.history dev.new) (pair_address_of_array blocks) pair (content_view content.now)) }
-    ensures fresh { IfOk result (λ pair. HasContentWithRevisionOne (content_view content.now) (disk_of_geometry_and_blocks (D.geometry dev.new) (D.blocks dev.new)) (pair_address_of_array blocks) pair) }
+    ensures holds { IfOk result (λ pair. PairHas (disk_of_blocks (D.geometry dev.new) (D.blocks dev.new)) (D.history dev.new) (array_address blocks) pair (content_view content.now)) }
+    ensures fresh { IfOk result (λ pair. HasFreshContent (content_view content.now) (disk_of_blocks (D.geometry dev.new) (D.blocks dev.new)) (array_address blocks) pair) }
     ensures buf { length buf.new ≡ length buf.old }
-    ensures clears { OnOk result (HasErasedOneMoreBlockThanProgrammed 1 (D.history dev.old) (D.history dev.new)) }
-    ensures writes { WritesOnlyTheseBlocks D.BlockDevice 2 (blocks_of_pair_address (pair_address_of_array blocks)) dev.old dev.new result }
+    ensures clears { OnOk result (ErasedOneMore 1 (D.history dev.old) (D.history dev.new)) }
+    ensures writes { WritesOnlyTheseBlocks D.BlockDevice 2 (address_blocks (array_address blocks)) dev.old dev.new result }
 {
     let [first, second] = blocks;
-    erase_block_leaving_no_log(dev, second, buf)?;
+    erase_cleanly(dev, second, buf)?;
     let written = write_block_anew(dev, first, FIRST_REVISION, content, buf)?;
     Ok(Pair::written(blocks, first, FIRST_REVISION, written, content))
 }
@@ -98,14 +98,14 @@ impl Pair {
         blocks: [u32; 2],
         changes: &[Change<'_>],
     ) -> Result<Pair, Error>
-        requires { CanWriteFreshPair (disk_of_geometry_and_blocks (D.geometry dev.old) (D.blocks dev.old)) (pair_address_of_array blocks) (changes_view changes.now) }
+        requires { CanWriteFresh (disk_of_blocks (D.geometry dev.old) (D.blocks dev.old)) (array_address blocks) (changes_view changes.now) }
 
-        ensures fresh { IfOk result (λ pair. IsFreshPair (D.history dev.old) (changes_view changes.now) (disk_of_geometry_and_blocks (D.geometry dev.new) (D.blocks dev.new)) (D.history dev.new) (pair_address_of_array blocks) pair) }
+        ensures fresh { IfOk result (λ pair. IsFreshPair (D.history dev.old) (changes_view changes.now) (disk_of_blocks (D.geometry dev.new) (D.blocks dev.new)) (D.history dev.new) (array_address blocks) pair) }
         ensures error { IfErr result (λ e. LeavesDeviceUntouchedAtNoMemory dev.old dev.new e) }
-        ensures device { ChangesOnlyBlocksWithinReadLimit D.BlockDevice 2 (blocks_of_pair_address (pair_address_of_array blocks)) dev.old dev.new }
+        ensures device { ChangesOnlyBlocksWithinReadLimit D.BlockDevice 2 (address_blocks (array_address blocks)) dev.old dev.new }
         ensures faults { ReportsFaults D.BlockDevice dev.old dev.new result }
     {
-        let content = content_of_changes_to_empty_log(alloc, changes)?;
+        let content = content_of_changes(alloc, changes)?;
         let block_size = dev.geometry().block_size as usize;
         let mut buf = Vec::from_elem(alloc, 0u8, block_size)?;
         let pair = write_fresh_pair(dev, blocks, &content, &mut buf)?;

@@ -16,8 +16,8 @@ mod size;
 mod splits;
 
 pub use change::{Change, apply_all_changes};
-pub use commits::{Outcome, commit, commit_with_block_bytes};
+pub use commits::{Outcome, commit, commit_bytes};
 pub use fetches::fetch;
 pub use pair::{Pair, is_same_pair};
-pub use size::{attributes_size, is_content_within_pair_limits};
-pub use splits::{split, split_with_block_bytes};
+pub use size::{attributes_size, content_fits};
+pub use splits::{split, split_bytes};

@@ -1,17 +1,17 @@
 // The header that is kept of a metadata pair.
 
 ghost use Rattle.std.specs.Prelude.{◌≡◌, false, is_some, map};
-ghost use Rattle.lfs_model.specs.Content.{slots_if_names_and_structs_present};
-ghost use Rattle.lfs_model.specs.Slots.{pair_address_of_array, same_pair};
+ghost use Rattle.lfs_model.specs.format.Content.{complete_slots};
+ghost use Rattle.lfs_model.specs.format.Slots.{array_address, same_pair};
 ghost use Rattle.lfs_tag.specs.ContentView.{content_view, slot_view};
-ghost use Rattle.lfs_pair.specs.Pair.{HeaderHasLogEndAndLastTag, IsHeaderOfContent, inactive_block_in_header};
+ghost use Rattle.lfs_pair.specs.Pair.{HeaderHasEnd, IsContentHeader, header_inactive_block};
 
 use crate::programs::WrittenCommit;
 use lfs_tag::{Content, MoveState, Slot, Tag, Tail};
 
 // Returns whether each slot has a name and a struct.
 pub(crate) fn are_slots_complete(slots: &[Slot<'_>]) -> bool
-    ensures { result ≡ is_some (slots_if_names_and_structs_present (map slot_view slots.now)) }
+    ensures { result ≡ is_some (complete_slots (map slot_view slots.now)) }
 {
     for slot in slots {
         if slot.name.is_none() || slot.structure.is_none() {
@@ -24,7 +24,7 @@ pub(crate) fn are_slots_complete(slots: &[Slot<'_>]) -> bool
 /// Returns whether two addresses name the same pair. The two blocks of an address may come in
 /// either order.
 pub fn is_same_pair(a: [u32; 2], b: [u32; 2]) -> bool
-    ensures { result ≡ same_pair (pair_address_of_array a) (pair_address_of_array b) }
+    ensures { result ≡ same_pair (array_address a) (array_address b) }
 {
     a[0] == b[0] && a[1] == b[1] || a[0] == b[1] && a[1] == b[0]
 }
@@ -60,7 +60,7 @@ pub struct Pair {
 impl Pair {
     // Returns the block that isn't active.
     pub(crate) fn inactive_block(&self) -> u32
-        ensures { result ≡ inactive_block_in_header self.now }
+        ensures { result ≡ header_inactive_block self.now }
     {
         if self.active == self.blocks[0] {
             self.blocks[1]
@@ -80,8 +80,8 @@ impl Pair {
         ensures blocks { result.blocks ≡ blocks }
         ensures active { result.active ≡ active }
         ensures revision { result.revision ≡ revision }
-        ensures ends { HeaderHasLogEndAndLastTag written.end written.last result }
-        ensures sums { IsHeaderOfContent (content_view content.now) result }
+        ensures ends { HeaderHasEnd written.end written.last result }
+        ensures sums { IsContentHeader (content_view content.now) result }
         ensures fetched { result.is_fetched ≡ false }
     {
         Pair {

@@ -1,17 +1,17 @@
 // Commits that are written to a block of the device.
 
 ghost use Rattle.std.specs.Prelude.{◌≡◌, ◌<◌, ◌≤◌, ◌+◌, ◌%◌, length, IfOk, IfErr, OnOk};
-ghost use Rattle.lfs_device.specs.Shown.{disk_of_geometry_and_blocks};
-ghost use Rattle.lfs_device.specs.Calls.{ReadsOnly, ReportsFaults};
-ghost use Rattle.lfs_model.specs.Blocks.{block_bytes_by_number};
-ghost use Rattle.lfs_model.specs.History.{AreBytesUnprogrammed, IsTrueOfEachCallSince, IsTrueAfterAnyPowerLossSince, read_count_of_history};
-ghost use Rattle.lfs_model.specs.LoggedContent.{AreNamedSlots, IsWellFormedRawPairContent};
-ghost use Rattle.lfs_model.specs.Commit.{encoded_size_of_log_entries, four_bytes_from_offset, page_aligned_commit_end};
-ghost use Rattle.lfs_model.specs.Stops.{LeavesNoNewLogIfSuccessfulErase, AreBlocksLeftByPowerLossInCall};
-ghost use Rattle.lfs_model.specs.WrittenContent.{IsRawContentFittingPair, log_entries_of_content};
-ghost use Rattle.lfs_tag.specs.Builder.{IsOffsetForCommitInBlock, padded_commit_end};
+ghost use Rattle.lfs_device.specs.DeviceDisk.{disk_of_blocks};
+ghost use Rattle.lfs_device.specs.DeviceCalls.{ReadsOnly, ReportsFaults};
+ghost use Rattle.lfs_model.specs.format.Blocks.{block_bytes};
+ghost use Rattle.lfs_model.specs.session.History.{AreUnprogrammed, AllCallsSince, HoldsAtLosses, read_count};
+ghost use Rattle.lfs_model.specs.layers.LoggedContent.{AreNamed, IsWellFormed};
+ghost use Rattle.lfs_model.specs.layers.Commit.{encoded_size, four_bytes, commit_end_aligned};
+ghost use Rattle.lfs_model.specs.crash.Stops.{ErasesCleanly, LeftByLoss};
+ghost use Rattle.lfs_model.specs.layers.WrittenContent.{RawContentFits, content_entries};
+ghost use Rattle.lfs_tag.specs.Builder.{IsCommitOffset, padded_end_of};
 ghost use Rattle.lfs_tag.specs.ContentView.{content_view};
-ghost use Rattle.lfs_pair.specs.Writing.{BlockGetsCommitAtOffset, IsBlockWrittenAnew, LogEndsOnPageBoundaryBeforeUnprogrammedBytes, PowerLossLeavesOldLogOrCommit, PowerLossLeavesOldLogOrRewrittenContent, DiffersOnlyInBlockAsPropertyAllows, ProgramsOnce, WritesOnlyThisBlock};
+ghost use Rattle.lfs_pair.specs.Writing.{BlockGetsCommit, IsWrittenAnew, EndsBeforeUnprogrammed, LossLeavesCommit, LossLeavesRewritten, DiffersInBlock, ProgramsOnce, WritesOnlyThisBlock};
 
 use crate::entries::push_content;
 use lfs_device::{BlockDevice, Error};
@@ -27,18 +27,18 @@ pub(crate) struct WrittenCommit {
 }
 
 // Reads the four bytes of a block at an offset. Returns None where the block has fewer.
-fn read_four_block_bytes_at_offset<D: BlockDevice>(
+fn read_four_bytes<D: BlockDevice>(
     dev: &mut D,
     block: u32,
     at: u32,
 ) -> Result<Option<[u8; 4]>, Error>
     requires in_device { block < (D.geometry dev.old).block_count }
     requires in_block { at ≤ (D.geometry dev.old).block_size }
-    ensures bytes { IfOk result (λ next. next ≡ four_bytes_from_offset (block_bytes_by_number (D.blocks dev.old) block) at) }
+    ensures bytes { IfOk result (λ next. next ≡ four_bytes (block_bytes (D.blocks dev.old) block) at) }
     ensures device { ReadsOnly D.BlockDevice dev.old dev.new }
     ensures errors { IfErr result (λ e. e ≡ Error.Io) }
     ensures faults { ReportsFaults D.BlockDevice dev.old dev.new result }
-    ensures few { read_count_of_history (D.history dev.new) ≤ read_count_of_history (D.history dev.old) + 1 }
+    ensures few { read_count (D.history dev.new) ≤ read_count (D.history dev.old) + 1 }
 {
     if dev.geometry().block_size - at < 4 {
         return Ok(None);
@@ -58,20 +58,20 @@ pub(crate) fn program_commit_at<D: BlockDevice>(
     requires in_device { block < (D.geometry dev.old).block_count }
     requires begins { at % (D.geometry dev.old).page ≡ 0 }
     requires page { builder.page ≡ (D.geometry dev.old).page }
-    requires room { padded_commit_end builder ≤ builder.room }
-    requires ends { at + padded_commit_end builder ≤ (D.geometry dev.old).block_size }
-    requires goes { IsOffsetForCommitInBlock builder.revision builder.previous (block_bytes_by_number (D.blocks dev.old) block) at }
-    requires unprogrammed { AreBytesUnprogrammed (D.history dev.old) block at (D.geometry dev.old).block_size }
+    requires room { padded_end_of builder ≤ builder.room }
+    requires ends { at + padded_end_of builder ≤ (D.geometry dev.old).block_size }
+    requires goes { IsCommitOffset builder.revision builder.previous (block_bytes (D.blocks dev.old) block) at }
+    requires unprogrammed { AreUnprogrammed (D.history dev.old) block at (D.geometry dev.old).block_size }
 
-    ensures adds { IfOk result (λ written. BlockGetsCommitAtOffset builder.entry at written.end (block_bytes_by_number (D.blocks dev.old) block) (block_bytes_by_number (D.blocks dev.new) block)) }
-    ensures written { IfOk result (λ written. LogEndsOnPageBoundaryBeforeUnprogrammedBytes (disk_of_geometry_and_blocks (D.geometry dev.new) (D.blocks dev.new)) (D.history dev.new) block written.end written.last) }
+    ensures adds { IfOk result (λ written. BlockGetsCommit builder.entry at written.end (block_bytes (D.blocks dev.old) block) (block_bytes (D.blocks dev.new) block)) }
+    ensures written { IfOk result (λ written. EndsBeforeUnprogrammed (disk_of_blocks (D.geometry dev.new) (D.blocks dev.new)) (D.history dev.new) block written.end written.last) }
     ensures writes { WritesOnlyThisBlock D.BlockDevice 1 block dev.old dev.new result }
     ensures programs { OnOk result (ProgramsOnce (D.history dev.old) (D.history dev.new)) }
-    ensures stops { IsTrueAfterAnyPowerLossSince AreBlocksLeftByPowerLossInCall (D.history dev.old) (D.history dev.new) (DiffersOnlyInBlockAsPropertyAllows block (PowerLossLeavesOldLogOrCommit builder.entry at) (D.blocks dev.old)) }
+    ensures stops { HoldsAtLosses LeftByLoss (D.history dev.old) (D.history dev.new) (DiffersInBlock block (LossLeavesCommit builder.entry at) (D.blocks dev.old)) }
 {
-    let end = at + builder.end_of_padded_commit();
-    let next = read_four_block_bytes_at_offset(dev, block, end)?;
-    let last = builder.checksum_tag_as_previous_of_next_commit(next);
+    let end = at + builder.end_on_page();
+    let next = read_four_bytes(dev, block, end)?;
+    let last = builder.next_previous_tag(next);
     let pages = builder.finish(next)?;
     dev.prog(block, at, pages)?;
     Ok(WrittenCommit {
@@ -91,16 +91,16 @@ pub(crate) fn write_block_anew<D: BlockDevice>(
 ) -> Result<WrittenCommit, Error>
     requires in_device { block < (D.geometry dev.old).block_count }
     requires buf { length buf.old ≡ (D.geometry dev.old).block_size }
-    requires logged { IsWellFormedRawPairContent (content_view content.now) }
-    requires names { AreNamedSlots (content_view content.now).slots }
-    requires fits { IsRawContentFittingPair (D.geometry dev.old).block_size (D.geometry dev.old).page (content_view content.now) }
+    requires logged { IsWellFormed (content_view content.now) }
+    requires names { AreNamed (content_view content.now).slots }
+    requires fits { RawContentFits (D.geometry dev.old).block_size (D.geometry dev.old).page (content_view content.now) }
 
-    ensures size { IfOk result (λ written. written.end ≡ page_aligned_commit_end (D.geometry dev.old).page (4 + encoded_size_of_log_entries (log_entries_of_content (content_view content.now)))) }
-    ensures written { IfOk result (λ written. LogEndsOnPageBoundaryBeforeUnprogrammedBytes (disk_of_geometry_and_blocks (D.geometry dev.new) (D.blocks dev.new)) (D.history dev.new) block written.end written.last) }
-    ensures anew { OnOk result (IsBlockWrittenAnew revision (content_view content.now) (block_bytes_by_number (D.blocks dev.new) block) (D.history dev.old) (D.history dev.new)) }
+    ensures size { IfOk result (λ written. written.end ≡ commit_end_aligned (D.geometry dev.old).page (4 + encoded_size (content_entries (content_view content.now)))) }
+    ensures written { IfOk result (λ written. EndsBeforeUnprogrammed (disk_of_blocks (D.geometry dev.new) (D.blocks dev.new)) (D.history dev.new) block written.end written.last) }
+    ensures anew { OnOk result (IsWrittenAnew revision (content_view content.now) (block_bytes (D.blocks dev.new) block) (D.history dev.old) (D.history dev.new)) }
     ensures writes { WritesOnlyThisBlock D.BlockDevice 1 block dev.old dev.new result }
-    ensures stops { IsTrueOfEachCallSince LeavesNoNewLogIfSuccessfulErase (D.history dev.old) (D.history dev.new)
-        → IsTrueAfterAnyPowerLossSince AreBlocksLeftByPowerLossInCall (D.history dev.old) (D.history dev.new) (DiffersOnlyInBlockAsPropertyAllows block (PowerLossLeavesOldLogOrRewrittenContent revision (content_view content.now)) (D.blocks dev.old)) }
+    ensures stops { AllCallsSince ErasesCleanly (D.history dev.old) (D.history dev.new)
+        → HoldsAtLosses LeftByLoss (D.history dev.old) (D.history dev.new) (DiffersInBlock block (LossLeavesRewritten revision (content_view content.now)) (D.blocks dev.old)) }
 {
     let page = dev.geometry().page;
     let before = Tag::from_bits(0xffff_ffff);

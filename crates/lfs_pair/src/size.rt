@@ -2,18 +2,18 @@
 
 ghost use Rattle.std.specs.Prelude.{◌≡◌, ℕ, ◌+◌, ◌-◌, ◌^◌, ◌<◌, ◌≤◌, ◌↔◌, IsTrue, min, map, sum_by};
 ghost use Rattle.std.specs.Option.{option_map};
-ghost use Rattle.lfs_model.specs.Disk.{pair_capacity, slots_per_pair_limit};
-ghost use Rattle.lfs_model.specs.Slots.{attributes_size};
-ghost use Rattle.lfs_model.specs.WrittenContent.{name_or_struct_size, raw_slot_size, IsRawContentFittingPair};
-ghost use Rattle.lfs_tag.specs.ContentView.{name_or_struct_view, attribute_view, slot_view, content_view};
+ghost use Rattle.lfs_model.specs.format.Disk.{pair_capacity, slots_limit};
+ghost use Rattle.lfs_model.specs.format.Slots.{attributes_size};
+ghost use Rattle.lfs_model.specs.layers.WrittenContent.{data_size, slot_size_raw, RawContentFits};
+ghost use Rattle.lfs_tag.specs.ContentView.{data_view, attribute_view, slot_view, content_view};
 
 use lfs_device::Geometry;
 use lfs_tag::{Attribute, Content, NameOrStruct, Slot};
 
 // Returns how many bytes a name or a struct takes with its tag, or the greatest number where there
 // are more. None takes no bytes.
-fn size_of_name_or_struct(part: &Option<NameOrStruct<'_>>) -> u64
-    ensures { result ≡ min (name_or_struct_size (option_map name_or_struct_view part.now)) (2 ^ 64 - 1) }
+fn data_size_of(part: &Option<NameOrStruct<'_>>) -> u64
+    ensures { result ≡ min (data_size (option_map data_view part.now)) (2 ^ 64 - 1) }
 {
     match part {
         None => 0,
@@ -36,17 +36,17 @@ pub fn attributes_size(attributes: &[Attribute<'_>]) -> u64
 
 // Returns how many bytes a slot takes with its tags, or the greatest number where there are more.
 pub(crate) fn slot_size(slot: &Slot<'_>) -> u64
-    ensures { result ≡ min (raw_slot_size (slot_view slot.now)) (2 ^ 64 - 1) }
+    ensures { result ≡ min (slot_size_raw (slot_view slot.now)) (2 ^ 64 - 1) }
 {
-    size_of_name_or_struct(&slot.name)
-        .saturating_add(size_of_name_or_struct(&slot.structure))
+    data_size_of(&slot.name)
+        .saturating_add(data_size_of(&slot.structure))
         .saturating_add(attributes_size(&slot.attributes))
 }
 
 // Returns how many bytes all slots take with their tags, or the greatest number where there are
 // more.
 pub(crate) fn slots_size(slots: &[Slot<'_>]) -> u64
-    ensures { result ≡ min (sum_by raw_slot_size (map slot_view slots.now)) (2 ^ 64 - 1) }
+    ensures { result ≡ min (sum_by slot_size_raw (map slot_view slots.now)) (2 ^ 64 - 1) }
 {
     let mut total: u64 = 0;
     for slot in slots {
@@ -56,22 +56,22 @@ pub(crate) fn slots_size(slots: &[Slot<'_>]) -> u64
 }
 
 // Returns whether a pair may hold `count` slots of `size` bytes.
-pub(crate) fn are_slot_count_and_size_within_pair_limits(
+pub(crate) fn fits_pair(
     count: usize,
     size: u64,
     geometry: Geometry,
 ) -> bool
-    ensures { IsTrue result ↔ ((count ≤ slots_per_pair_limit) × (size ≤ pair_capacity geometry.block_size geometry.page)) }
+    ensures { IsTrue result ↔ ((count ≤ slots_limit) × (size ≤ pair_capacity geometry.block_size geometry.page)) }
 {
     count <= geometry.slot_limit() && size <= u64::from(geometry.pair_capacity())
 }
 
-/// Returns whether a pair may hold the content: at most [`Geometry::slots_per_pair_limit`] slots, whose bytes
+/// Returns whether a pair may hold the content: at most [`Geometry::slots_limit`] slots, whose bytes
 /// are at most [`Geometry::pair_capacity`].
-pub fn is_content_within_pair_limits(content: &Content<'_>, geometry: Geometry) -> bool
-    ensures { IsTrue result ↔ IsRawContentFittingPair geometry.block_size geometry.page (content_view content.now) }
+pub fn content_fits(content: &Content<'_>, geometry: Geometry) -> bool
+    ensures { IsTrue result ↔ RawContentFits geometry.block_size geometry.page (content_view content.now) }
 {
-    are_slot_count_and_size_within_pair_limits(
+    fits_pair(
         content.slots.len(),
         slots_size(&content.slots),
         geometry,

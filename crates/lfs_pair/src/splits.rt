@@ -1,25 +1,25 @@
 // Splits of a pair into itself and a fresh pair.
 
 ghost use Rattle.std.specs.Prelude.{◌≡◌, IfErr, IfOk};
-ghost use Rattle.lfs_device.specs.Shown.{disk_of_geometry_and_blocks};
-ghost use Rattle.lfs_model.specs.Blocks.{block_bytes_by_number};
-ghost use Rattle.lfs_device.specs.Calls.{ReportsFaults};
-ghost use Rattle.lfs_model.specs.History.{IsTrueOfEachCallSince, IsTrueAfterAnyPowerLossSince};
-ghost use Rattle.lfs_model.specs.Slots.{pair_address_of_array};
-ghost use Rattle.lfs_model.specs.Stops.{LeavesNoNewLogIfSuccessfulErase, AreBlocksLeftByPowerLossInCall};
+ghost use Rattle.lfs_device.specs.DeviceDisk.{disk_of_blocks};
+ghost use Rattle.lfs_model.specs.format.Blocks.{block_bytes};
+ghost use Rattle.lfs_device.specs.DeviceCalls.{ReportsFaults};
+ghost use Rattle.lfs_model.specs.session.History.{AllCallsSince, HoldsAtLosses};
+ghost use Rattle.lfs_model.specs.format.Slots.{array_address};
+ghost use Rattle.lfs_model.specs.crash.Stops.{ErasesCleanly, LeftByLoss};
 ghost use Rattle.lfs_tag.specs.ContentView.{content_view};
-ghost use Rattle.lfs_pair.specs.Pair.{pair_address_in_header};
-ghost use Rattle.lfs_pair.specs.Commit.{CommitFailsKeepingHeader};
+ghost use Rattle.lfs_pair.specs.Pair.{header_address};
+ghost use Rattle.lfs_pair.specs.Commits.{CommitFailsKeepingHeader};
 ghost use Rattle.lfs_pair.specs.ChangeView.{changes_view};
-ghost use Rattle.lfs_pair.specs.Cut.{CanSplitSlotsIntoTwoPairs};
+ghost use Rattle.lfs_pair.specs.HalfCut.{CanSplit};
 ghost use Rattle.lfs_pair.specs.Writing.{ChangesOnlyBlocksWithinReadLimit};
-ghost use Rattle.lfs_pair.specs.Split.{CanSplitPair, SplitsPairWithChanges, PowerLossLeavesOldContentOrSplitPairs, IsContentCutIntoFrontAndBack};
-ghost use Rattle.lfs_model.specs.Thread.{blocks_of_two_pair_addresses};
+ghost use Rattle.lfs_pair.specs.Split.{CanSplitPair, SplitsPair, LossLeavesSplit, IsContentCut};
+ghost use Rattle.lfs_model.specs.format.Thread.{addresses_blocks};
 
 use crate::change::Change;
 use crate::commits::compact;
-use crate::contents::read_content_and_apply_changes;
-use crate::cut::middle_cut_of_slots;
+use crate::contents::changed_content;
+use crate::cut::middle_cut;
 use crate::fresh::write_fresh_pair;
 use crate::pair::Pair;
 use lfs_device::{BlockDevice, Error, Geometry, read_block};
@@ -50,18 +50,18 @@ pub fn split<D: BlockDevice>(
     fresh: [u32; 2],
     changes: &[Change<'_>],
 ) -> Result<Pair, Error>
-    requires { CanSplitPair (disk_of_geometry_and_blocks (D.geometry dev.old) (D.blocks dev.old)) (D.history dev.old) pair.old (pair_address_of_array fresh) (changes_view changes.now) }
+    requires { CanSplitPair (disk_of_blocks (D.geometry dev.old) (D.blocks dev.old)) (D.history dev.old) pair.old (array_address fresh) (changes_view changes.now) }
 
-    ensures splits { IfOk result (λ fresh_pair. SplitsPairWithChanges (disk_of_geometry_and_blocks (D.geometry dev.old) (D.blocks dev.old)) (D.history dev.old) (changes_view changes.now) pair.old (pair_address_of_array fresh)
-        (disk_of_geometry_and_blocks (D.geometry dev.new) (D.blocks dev.new)) (D.history dev.new) pair.new fresh_pair) }
+    ensures splits { IfOk result (λ fresh_pair. SplitsPair (disk_of_blocks (D.geometry dev.old) (D.blocks dev.old)) (D.history dev.old) (changes_view changes.now) pair.old (array_address fresh)
+        (disk_of_blocks (D.geometry dev.new) (D.blocks dev.new)) (D.history dev.new) pair.new fresh_pair) }
     ensures error { IfErr result (λ e. CommitFailsKeepingHeader D.BlockDevice dev.old dev.new pair.old pair.new e) }
-    ensures device { ChangesOnlyBlocksWithinReadLimit D.BlockDevice 4 (blocks_of_two_pair_addresses (pair_address_in_header pair.old) (pair_address_of_array fresh)) dev.old dev.new }
+    ensures device { ChangesOnlyBlocksWithinReadLimit D.BlockDevice 4 (addresses_blocks (header_address pair.old) (array_address fresh)) dev.old dev.new }
     ensures faults { ReportsFaults D.BlockDevice dev.old dev.new result }
-    ensures stops { IsTrueOfEachCallSince LeavesNoNewLogIfSuccessfulErase (D.history dev.old) (D.history dev.new)
-        → IsTrueAfterAnyPowerLossSince AreBlocksLeftByPowerLossInCall (D.history dev.old) (D.history dev.new) (PowerLossLeavesOldContentOrSplitPairs (disk_of_geometry_and_blocks (D.geometry dev.old) (D.blocks dev.old)) (pair_address_in_header pair.old) (pair_address_of_array fresh) (changes_view changes.now)) }
+    ensures stops { AllCallsSince ErasesCleanly (D.history dev.old) (D.history dev.new)
+        → HoldsAtLosses LeftByLoss (D.history dev.old) (D.history dev.new) (LossLeavesSplit (disk_of_blocks (D.geometry dev.old) (D.blocks dev.old)) (header_address pair.old) (array_address fresh) (changes_view changes.now)) }
 {
     let block = read_block(alloc, dev, pair.active)?;
-    let fresh_pair = split_with_block_bytes(alloc, dev, pair, fresh, &block, changes)?;
+    let fresh_pair = split_bytes(alloc, dev, pair, fresh, &block, changes)?;
     Ok(fresh_pair)
 }
 
@@ -70,7 +70,7 @@ pub fn split<D: BlockDevice>(
 ///
 /// The caller's conditions are those of [`split`], and that the active block has the bytes of
 /// `block`. Errors are those of [`split`], but memory is wanted for one block and the slots.
-pub fn split_with_block_bytes<'a, 'b: 'a, D: BlockDevice>(
+pub fn split_bytes<'a, 'b: 'a, D: BlockDevice>(
     alloc: Global,
     dev: &mut D,
     pair: &mut Pair,
@@ -78,20 +78,20 @@ pub fn split_with_block_bytes<'a, 'b: 'a, D: BlockDevice>(
     block: &'a [u8],
     changes: &[Change<'b>],
 ) -> Result<Pair, Error>
-    requires can { CanSplitPair (disk_of_geometry_and_blocks (D.geometry dev.old) (D.blocks dev.old)) (D.history dev.old) pair.old (pair_address_of_array fresh) (changes_view changes.now) }
-    requires block { block.now ≡ block_bytes_by_number (D.blocks dev.old) pair.old.active }
+    requires can { CanSplitPair (disk_of_blocks (D.geometry dev.old) (D.blocks dev.old)) (D.history dev.old) pair.old (array_address fresh) (changes_view changes.now) }
+    requires block { block.now ≡ block_bytes (D.blocks dev.old) pair.old.active }
 
-    ensures splits { IfOk result (λ fresh_pair. SplitsPairWithChanges (disk_of_geometry_and_blocks (D.geometry dev.old) (D.blocks dev.old)) (D.history dev.old) (changes_view changes.now) pair.old (pair_address_of_array fresh)
-        (disk_of_geometry_and_blocks (D.geometry dev.new) (D.blocks dev.new)) (D.history dev.new) pair.new fresh_pair) }
+    ensures splits { IfOk result (λ fresh_pair. SplitsPair (disk_of_blocks (D.geometry dev.old) (D.blocks dev.old)) (D.history dev.old) (changes_view changes.now) pair.old (array_address fresh)
+        (disk_of_blocks (D.geometry dev.new) (D.blocks dev.new)) (D.history dev.new) pair.new fresh_pair) }
     ensures error { IfErr result (λ e. CommitFailsKeepingHeader D.BlockDevice dev.old dev.new pair.old pair.new e) }
-    ensures device { ChangesOnlyBlocksWithinReadLimit D.BlockDevice 3 (blocks_of_two_pair_addresses (pair_address_in_header pair.old) (pair_address_of_array fresh)) dev.old dev.new }
+    ensures device { ChangesOnlyBlocksWithinReadLimit D.BlockDevice 3 (addresses_blocks (header_address pair.old) (array_address fresh)) dev.old dev.new }
     ensures faults { ReportsFaults D.BlockDevice dev.old dev.new result }
-    ensures stops { IsTrueOfEachCallSince LeavesNoNewLogIfSuccessfulErase (D.history dev.old) (D.history dev.new)
-        → IsTrueAfterAnyPowerLossSince AreBlocksLeftByPowerLossInCall (D.history dev.old) (D.history dev.new) (PowerLossLeavesOldContentOrSplitPairs (disk_of_geometry_and_blocks (D.geometry dev.old) (D.blocks dev.old)) (pair_address_in_header pair.old) (pair_address_of_array fresh) (changes_view changes.now)) }
+    ensures stops { AllCallsSince ErasesCleanly (D.history dev.old) (D.history dev.new)
+        → HoldsAtLosses LeftByLoss (D.history dev.old) (D.history dev.new) (LossLeavesSplit (disk_of_blocks (D.geometry dev.old) (D.blocks dev.old)) (header_address pair.old) (array_address fresh) (changes_view changes.now)) }
 {
     let geometry = dev.geometry();
-    let mut front = read_content_and_apply_changes(alloc, pair, block, changes)?;
-    let back = split_off_back_content(&mut front, fresh, geometry)?;
+    let mut front = changed_content(alloc, pair, block, changes)?;
+    let back = split_off_back(&mut front, fresh, geometry)?;
     let mut buf = Vec::from_elem(alloc, 0u8, geometry.block_size as usize)?;
     let fresh_pair = write_fresh_pair(dev, fresh, &back, &mut buf)?;
     compact(dev, pair, &front, &mut buf)?;
@@ -100,16 +100,16 @@ pub fn split_with_block_bytes<'a, 'b: 'a, D: BlockDevice>(
 
 // Takes the slots from the cut on out of the content, and returns them with its tail. The content's
 // tail then is a hard one to the fresh pair.
-fn split_off_back_content<'a>(
+fn split_off_back<'a>(
     content: &mut Content<'a>,
     fresh: [u32; 2],
     geometry: Geometry,
 ) -> Result<Content<'a>, Error>
-    requires { CanSplitSlotsIntoTwoPairs geometry.block_size geometry.page (content_view content.old).slots }
-    ensures parts { IfOk result (λ back. IsContentCutIntoFrontAndBack geometry.block_size geometry.page (content_view content.old) (pair_address_of_array fresh) (content_view content.new) (content_view back)) }
+    requires { CanSplit geometry.block_size geometry.page (content_view content.old).slots }
+    ensures parts { IfOk result (λ back. IsContentCut geometry.block_size geometry.page (content_view content.old) (array_address fresh) (content_view content.new) (content_view back)) }
     ensures errors { IfErr result (λ e. e ≡ Error.NoMemory) }
 {
-    let cut = middle_cut_of_slots(&content.slots, geometry);
+    let cut = middle_cut(&content.slots, geometry);
     let slots = content.slots.split_off(cut)?;
     let back = Content {
         slots,

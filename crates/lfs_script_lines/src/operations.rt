@@ -7,7 +7,7 @@ use crate::names::CommandName;
 use std::alloc::Global;
 
 // Returns the operation of a line on an open file, or one of the whole session.
-fn file_or_session_operation(
+fn any_operation(
     alloc: Global,
     name: CommandName,
     words: &[&[u8]],
@@ -77,6 +77,6 @@ pub(crate) fn operation_of_words(
         | CommandName::Remove
         | CommandName::List
         | CommandName::Stat => path_operation(alloc, name, words),
-        _ => file_or_session_operation(alloc, name, words),
+        _ => any_operation(alloc, name, words),
     }
 }

@@ -74,7 +74,7 @@ fn extent_at(words: &[&[u8]], place: usize) -> Result<FaultExtent, LineError> {
 }
 
 // Returns the kind of calls that a word names, if it names one.
-fn call_kind_of_word(word: &[u8]) -> Option<CountedCalls> {
+fn kind_of_word(word: &[u8]) -> Option<CountedCalls> {
     if is_keyword(word, b"any") {
         Some(CountedCalls::Any)
     } else if is_keyword(word, b"read") {
@@ -90,7 +90,7 @@ fn call_kind_of_word(word: &[u8]) -> Option<CountedCalls> {
 
 // Returns at which call a device fails, by at least two words behind the command's name.
 fn given_fault(words: &[&[u8]]) -> Result<PlannedFault, LineError> {
-    let Some(which) = call_kind_of_word(word_at(words, 1)) else {
+    let Some(which) = kind_of_word(word_at(words, 1)) else {
         return Err(no_options(1));
     };
     let nth = number_at(words, 2)?;

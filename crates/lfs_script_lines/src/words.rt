@@ -76,7 +76,7 @@ fn read_escaped_text(alloc: Global, word: &[u8]) -> Result<Option<Vec<u8>>, Allo
 }
 
 // Returns how many times the remaining text of a word is taken, and that text. The count saturates.
-fn repetition_count_and_repeated_text(word: &[u8]) -> Option<(u64, &[u8])> {
+fn repetition(word: &[u8]) -> Option<(u64, &[u8])> {
     let mut count = 1u64;
     let mut rest = word;
     for _ in 0..word.len() {
@@ -95,7 +95,7 @@ fn repetition_count_and_repeated_text(word: &[u8]) -> Option<(u64, &[u8])> {
 /// In a word `\xNN` is any byte, and the bytes from 0x21 to 0x7e other than `\` are themselves.
 /// `\e` is no byte at all, and `*COUNT:WORD` is the word's bytes so many times.
 pub(crate) fn read_word(alloc: Global, word: &[u8]) -> Result<Option<Vec<u8>>, AllocError> {
-    let Some((count, rest)) = repetition_count_and_repeated_text(word) else {
+    let Some((count, rest)) = repetition(word) else {
         return Ok(None);
     };
     if rest == b"\\e".as_slice() {

@@ -5,25 +5,25 @@ use Rattle.std.proofs.lemmas.Bool.Decides.{nat_tests}
 use Rattle.std.proofs.lemmas.Nat.{xor_shr}
 use Rattle.byteorder.specs.Endian.{big_number}
 use Rattle.byteorder.specs.Numbers.{big_from-take}
-use Rattle.lfs_model.specs.Tag.{IsValidTag, type_of_tag, length_of_tag, abstract_type_of_tag, chunk_of_tag, tag_data_size, tag_for_decoding_next_tag, tag_of_type_id_and_length}
-use Rattle.lfs_model.specs.Log.{LogEntry, tag_at, entry_at}
-use Rattle.lfs_model.specs.Geometry.{is_valid_page_size}
-use Rattle.lfs_model.specs.EntryTypes.{no_id}
-use Rattle.lfs_model.specs.Commit.{four_bytes_from_offset, checksum_tag_type_for_following_bytes}
-use Rattle.lfs_tag.specs.Builder.{CommitBeingBuilt, checksum_start, padded_commit_end}
+use Rattle.lfs_model.specs.format.Tag.{IsValidTag, tag_type, tag_length, abstract_type, tag_chunk, tag_data_size, tag_before_next, make_tag}
+use Rattle.lfs_model.specs.format.Log.{LogEntry, tag_at, entry_at}
+use Rattle.lfs_model.specs.format.Geometry.{is_page}
+use Rattle.lfs_model.specs.format.EntryTypes.{no_id}
+use Rattle.lfs_model.specs.layers.Commit.{four_bytes, checksum_type}
+use Rattle.lfs_tag.specs.Builder.{PartialCommit, checksum_start, padded_end_of}
 use Rattle.lfs_tag.proofs.BuilderCommits.{IsChecksumKind, class_of_kind, not_forward}
 
 -- ---- the checksum's tag
 
-page_bounds : (n : ℕ) → is_valid_page_size n ≡ true → (8 ≤ n) × (n ≤ 512)
+page_bounds : (n : ℕ) → is_page n ≡ true → (8 ≤ n) × (n ≤ 512)
 page_bounds n h = (grind (arith, nat_tests, h), grind (arith, nat_tests, h))
 
 -- its length, and the padding
-pub record Padded (b : CommitBeingBuilt) : Type 0 where
-  pub low : checksum_start b + 8 ≤ padded_commit_end b
-  pub high : padded_commit_end b < checksum_start b + 8 + 512
+pub record Padded (b : PartialCommit) : Type 0 where
+  pub low : checksum_start b + 8 ≤ padded_end_of b
+  pub high : padded_end_of b < checksum_start b + 8 + 512
 
-pub padded : (b : CommitBeingBuilt) → is_valid_page_size b.page ≡ true → Padded b
+pub padded : (b : PartialCommit) → is_page b.page ≡ true → Padded b
 padded b h =
     let bounds = page_bounds b.page h in
     record { low = omega arith; high = omega (arith, bounds.0, bounds.1) }
@@ -31,7 +31,7 @@ padded b h =
 abbrev pub IsKind : ℕ → Type 0
 IsKind kind = (kind ≡ 0x500) ⊎ (kind ≡ 0x501)
 
-pub kind_cases : (next : Option (List ℕ)) → IsKind (checksum_tag_type_for_following_bytes next)
+pub kind_cases : (next : Option (List ℕ)) → IsKind (checksum_type next)
 kind_cases None = inl refl
 kind_cases (Some bytes) = by_bit (ltb (get_or bytes 0 0) 128)
   where
@@ -39,19 +39,19 @@ kind_cases (Some bytes) = by_bit (ltb (get_or bytes 0 0) 128)
     by_bit true = inr refl
     by_bit false = inl refl
 
-pub kind_is : (kind size : ℕ) → IsKind kind → size < 2 ^ 10 → type_of_tag (tag_of_type_id_and_length kind no_id size) ≡ kind
+pub kind_is : (kind size : ℕ) → IsKind kind → size < 2 ^ 10 → tag_type (make_tag kind no_id size) ≡ kind
 kind_is kind size (inl h) small = omega arith
 kind_is kind size (inr h) small = omega arith
 
-pub kind_of_cases : (kind tag : ℕ) → IsKind kind → type_of_tag tag ≡ kind → IsChecksumKind tag
+pub kind_of_cases : (kind tag : ℕ) → IsKind kind → tag_type tag ≡ kind → IsChecksumKind tag
 kind_of_cases kind tag (inl h) is = inl (is ∙ h)
 kind_of_cases kind tag (inr h) is = inr (is ∙ h)
 
-pub valid_is : (kind size : ℕ) → IsKind kind → size < 2 ^ 10 → IsValidTag (tag_of_type_id_and_length kind no_id size)
+pub valid_is : (kind size : ℕ) → IsKind kind → size < 2 ^ 10 → IsValidTag (make_tag kind no_id size)
 valid_is kind size (inl h) small = omega arith
 valid_is kind size (inr h) small = omega arith
 
-pub len_is : (kind size : ℕ) → size < 2 ^ 10 → length_of_tag (tag_of_type_id_and_length kind no_id size) ≡ size
+pub len_is : (kind size : ℕ) → size < 2 ^ 10 → tag_length (make_tag kind no_id size) ≡ size
 len_is kind size small = omega arith
 
 -- ---- nothing follows
@@ -77,20 +77,20 @@ top_byte : (bytes : List ℕ) → AreBytes bytes → big_number 4 bytes / 2 ^ 31
 top_byte bytes h = omega (arith, h 0, h 1, h 2, h 3)
 
 -- and the checksum's kind turns it to 1
-turns : (bytes : List ℕ) → AreBytes bytes → big_number 4 bytes / 2 ^ 31 + checksum_tag_type_for_following_bytes (Some bytes) % 2 ≡ 1
+turns : (bytes : List ℕ) → AreBytes bytes → big_number 4 bytes / 2 ^ 31 + checksum_type (Some bytes) % 2 ≡ 1
 turns bytes h = grind (arith, nat_tests, top_byte bytes h, h 0)
 
 -- what a checksum's tag carries: the lowest bit of its kind is in the top bit
-carried_is : (kind size : ℕ) → IsKind kind → size < 2 ^ 10 → tag_for_decoding_next_tag (tag_of_type_id_and_length kind no_id size) ≡ bit_xor (tag_of_type_id_and_length kind no_id size) (kind % 2 * 2 ^ 31)
+carried_is : (kind size : ℕ) → IsKind kind → size < 2 ^ 10 → tag_before_next (make_tag kind no_id size) ≡ bit_xor (make_tag kind no_id size) (kind % 2 * 2 ^ 31)
 carried_is kind size k small =
     let is = kind_is kind size k small in
-    let class : abstract_type_of_tag (tag_of_type_id_and_length kind no_id size) ≡ 5 = class_of_kind (tag_of_type_id_and_length kind no_id size) (kind_of_cases kind (tag_of_type_id_and_length kind no_id size) k is) in
-    let bit : chunk_of_tag (tag_of_type_id_and_length kind no_id size) % 2 ≡ kind % 2 = ap (λ (n : ℕ). n % 2 ^ 8 % 2) is ∙ omega arith in
-    let plain = not_forward (tag_of_type_id_and_length kind no_id size) (kind_of_cases kind (tag_of_type_id_and_length kind no_id size) k is) in
+    let class : abstract_type (make_tag kind no_id size) ≡ 5 = class_of_kind (make_tag kind no_id size) (kind_of_cases kind (make_tag kind no_id size) k is) in
+    let bit : tag_chunk (make_tag kind no_id size) % 2 ≡ kind % 2 = ap (λ (n : ℕ). n % 2 ^ 8 % 2) is ∙ omega arith in
+    let plain = not_forward (make_tag kind no_id size) (kind_of_cases kind (make_tag kind no_id size) k is) in
     rw (class, plain, bit) refl
 
-pub nothing_follows : (block : List ℕ) (end size : ℕ) (next : Option (List ℕ)) → IfSome next AreBytes → size < 2 ^ 10 → four_bytes_from_offset block end ≡ next
-    → entry_at block end (tag_for_decoding_next_tag (tag_of_type_id_and_length (checksum_tag_type_for_following_bytes next) no_id size)) ≡ None
+pub nothing_follows : (block : List ℕ) (end size : ℕ) (next : Option (List ℕ)) → IfSome next AreBytes → size < 2 ^ 10 → four_bytes block end ≡ next
+    → entry_at block end (tag_before_next (make_tag (checksum_type next) no_id size)) ≡ None
 unfolding entry_at
 nothing_follows block end size None are small is =
     let short : ltb (length block) (end + 4) ≡ true = reported (ltb (length block) (end + 4)) is in
@@ -100,14 +100,14 @@ nothing_follows block end size None are small is =
     reported true h = refl
     reported false h = absurd (cc)
 nothing_follows block end size (Some bytes) are small is =
-    let tag = tag_of_type_id_and_length (checksum_tag_type_for_following_bytes (Some bytes)) no_id size in
+    let tag = make_tag (checksum_type (Some bytes)) no_id size in
     let held : take 4 (drop end block) ≡ bytes = reported (ltb (length block) (end + 4)) is in
     let number : big_number 4 (drop end block) ≡ big_number 4 bytes = sym (big_from-take 0 4 4 (drop end block) (omega arith)) ∙ ap (big_number 4) held in
-    let high : tag_at block end (tag_for_decoding_next_tag tag) / 2 ^ 31 ≡ 1 =
-    rw (number, carried_is (checksum_tag_type_for_following_bytes (Some bytes)) size (kind_cases (Some bytes)) small)
-    (top_of tag (big_number 4 bytes) (checksum_tag_type_for_following_bytes (Some bytes) % 2) (valid_is (checksum_tag_type_for_following_bytes (Some bytes)) size (kind_cases (Some bytes)) small) (turns bytes are)) in
-    let invalid : leb (2 ^ 31) (tag_at block end (tag_for_decoding_next_tag tag)) ≡ true = grind (arith, nat_tests, high) in
-    rw invalid (either (ltb (length block) (end + 4)) (ltb (length block) (end + 4 + tag_data_size (tag_at block end (tag_for_decoding_next_tag tag)))) _)
+    let high : tag_at block end (tag_before_next tag) / 2 ^ 31 ≡ 1 =
+    rw (number, carried_is (checksum_type (Some bytes)) size (kind_cases (Some bytes)) small)
+    (top_of tag (big_number 4 bytes) (checksum_type (Some bytes) % 2) (valid_is (checksum_type (Some bytes)) size (kind_cases (Some bytes)) small) (turns bytes are)) in
+    let invalid : leb (2 ^ 31) (tag_at block end (tag_before_next tag)) ≡ true = grind (arith, nat_tests, high) in
+    rw invalid (either (ltb (length block) (end + 4)) (ltb (length block) (end + 4 + tag_data_size (tag_at block end (tag_before_next tag)))) _)
   where
     reported : (t : Bool) → cond t None (Some (take 4 (drop end block))) ≡ Some bytes → take 4 (drop end block) ≡ bytes
     reported true h = absurd (cc)

@@ -7,11 +7,11 @@ use Rattle.std.proofs.lemmas.List.Sums.{sum_by-cons}
 use Rattle.std.proofs.Math.Seq.{take-append_seam, drop-append_seam}
 use Rattle.byteorder.specs.Endian.{big_number, big_bytes, little_number, little_bytes}
 use Rattle.byteorder.specs.Numbers.{big_number-reads_back, little_number-reads_back}
-use Rattle.lfs_model.specs.Crc.{crc_of}
-use Rattle.lfs_model.specs.Tag.{IsValidTag, type_of_tag, length_of_tag, abstract_type_of_tag, tag_data_size, is_forward_checksum, tag_for_decoding_next_tag}
-use Rattle.lfs_model.specs.Log.{LogEntry, entry_at, end_offset_of_log_entry, is_checksum_entry, closes, IsCommit}
-use Rattle.lfs_model.specs.Commit.{encoded_bytes_of_log_entries, encoded_size_of_log_entries}
-use Rattle.lfs_tag.specs.BuilderKeeps.{last_tag_after_entries, AreStorableEntries}
+use Rattle.lfs_model.specs.format.Crc.{crc_of}
+use Rattle.lfs_model.specs.format.Tag.{IsValidTag, tag_type, tag_length, abstract_type, tag_data_size, is_forward, tag_before_next}
+use Rattle.lfs_model.specs.format.Log.{LogEntry, entry_at, entry_end, is_checksum_entry, closes, IsCommit}
+use Rattle.lfs_model.specs.layers.Commit.{encoded_entries, encoded_size}
+use Rattle.lfs_tag.specs.BuilderKeeps.{last_after, AreStorableEntries}
 use Rattle.lfs_tag.proofs.Local.{from_lies}
 use Rattle.lfs_tag.proofs.BuilderEntries.{carried_other}
 
@@ -35,50 +35,50 @@ entry_read block rest at before e valid size fits here =
 
 -- one entry before a commit
 commit_cons : (block : List ℕ) (start at before : ℕ) (e : LogEntry) (es : List LogEntry) (end last : ℕ) → entry_at block at before ≡ Some e → is_checksum_entry e ≡ false
-    → IsCommit block start (end_offset_of_log_entry at e) e.tag es end last → IsCommit block start at before (e ∷ es) end last
+    → IsCommit block start (entry_end at e) e.tag es end last → IsCommit block start at before (e ∷ es) end last
 commit_cons block start at before e [] end last is other rest = absurd rest
 commit_cons block start at before e (f ∷ es) end last is other rest = (is, other, rest)
 
 -- entries as they are stored, before a checksum's
-pub entries_read : (block rest : List ℕ) (start at before : ℕ) (es : List LogEntry) (ck : LogEntry) (end last : ℕ) → AreStorableEntries before es → drop at block ≡ encoded_bytes_of_log_entries before es ++ rest
-    → IsCommit block start (at + encoded_size_of_log_entries es) (last_tag_after_entries before es) (ck ∷ []) end last → IsCommit block start at before (es ++ ck ∷ []) end last
+pub entries_read : (block rest : List ℕ) (start at before : ℕ) (es : List LogEntry) (ck : LogEntry) (end last : ℕ) → AreStorableEntries before es → drop at block ≡ encoded_entries before es ++ rest
+    → IsCommit block start (at + encoded_size es) (last_after before es) (ck ∷ []) end last → IsCommit block start at before (es ++ ck ∷ []) end last
 entries_read block rest start at before [] ck end last all here base = rw add-zero at base
 entries_read block rest start at before (e ∷ es) ck end last all here base =
     let tag = big_bytes 4 (bit_xor e.tag before) in
-    let later = encoded_bytes_of_log_entries (tag_for_decoding_next_tag e.tag) es in
+    let later = encoded_entries (tag_before_next e.tag) es in
     let more = later ++ rest in
     let here' : drop at block ≡ tag ++ (e.bytes ++ more) = here ∙ append_assoc (tag ++ e.bytes) later rest ∙ append_assoc tag e.bytes more in
     let read = entry_read block more at before e all.0.valid all.0.size all.0.fits here' in
-    let behind : drop (end_offset_of_log_entry at e) block ≡ more =
+    let behind : drop (entry_end at e) block ≡ more =
     sym (drop-drop (length e.bytes) (at + 4) block) ∙ ap (drop (length e.bytes)) (sym (drop-drop 4 at block) ∙ ap (drop 4) here') ∙ drop-append_seam e.bytes more in
-    let place : at + encoded_size_of_log_entries (e ∷ es) ≡ end_offset_of_log_entry at e + encoded_size_of_log_entries es = omega (arith, sum_by-cons (λ (e : LogEntry). 4 + length e.bytes) e es) in
-    let ends = entries_read block rest start (end_offset_of_log_entry at e) (tag_for_decoding_next_tag e.tag) es ck end last all.1 behind (rw place at base) in
+    let place : at + encoded_size (e ∷ es) ≡ entry_end at e + encoded_size es = omega (arith, sum_by-cons (λ (e : LogEntry). 4 + length e.bytes) e es) in
+    let ends = entries_read block rest start (entry_end at e) (tag_before_next e.tag) es ck end last all.1 behind (rw place at base) in
     commit_cons block start at before e (es ++ ck ∷ []) end last read all.0.other
-    (subst (λ (n : ℕ). IsCommit block start (end_offset_of_log_entry at e) n (es ++ ck ∷ []) end last) (carried_other e all.0.other) ends)
+    (subst (λ (n : ℕ). IsCommit block start (entry_end at e) n (es ++ ck ∷ []) end last) (carried_other e all.0.other) ends)
 
 -- ---- the checksum's entry
 
 abbrev pub IsChecksumKind : ℕ → Type 0
-IsChecksumKind tag = (type_of_tag tag ≡ 0x500) ⊎ (type_of_tag tag ≡ 0x501)
+IsChecksumKind tag = (tag_type tag ≡ 0x500) ⊎ (tag_type tag ≡ 0x501)
 
-pub class_of_kind : (tag : ℕ) → IsChecksumKind tag → abstract_type_of_tag tag ≡ 5
+pub class_of_kind : (tag : ℕ) → IsChecksumKind tag → abstract_type tag ≡ 5
 class_of_kind tag (inl h) = ap (λ (k : ℕ). k / 2 ^ 8) h
 class_of_kind tag (inr h) = ap (λ (k : ℕ). k / 2 ^ 8) h
 
 -- a checksum is no forward checksum
-pub not_forward : (tag : ℕ) → IsChecksumKind tag → is_forward_checksum tag ≡ false
+pub not_forward : (tag : ℕ) → IsChecksumKind tag → is_forward tag ≡ false
 not_forward tag (inl h) = rw h refl
 not_forward tag (inr h) = rw h refl
 
-kind_passes : (tag : ℕ) → IsChecksumKind tag → (eqb (type_of_tag tag) 0x500 || eqb (type_of_tag tag) 0x501) ≡ true
+kind_passes : (tag : ℕ) → IsChecksumKind tag → (eqb (tag_type tag) 0x500 || eqb (tag_type tag) 0x501) ≡ true
 kind_passes tag (inl h) = rw h refl
 kind_passes tag (inr h) = rw h refl
 
 -- It closes the commit: all bytes from the start to the end of its tag have its checksum.
 pub closing : (block front rest pad : List ℕ) (start at tag before sum : ℕ) → IsChecksumKind tag → IsValidTag tag → bit_xor tag before < 2 ^ 32 → sum < 2 ^ 32
-    → 4 + length pad ≡ length_of_tag tag → length_of_tag tag ≤ 1022 → at ≡ start + length front → sum ≡ crc_of 0xffffffff (front ++ big_bytes 4 (bit_xor tag before))
+    → 4 + length pad ≡ tag_length tag → tag_length tag ≤ 1022 → at ≡ start + length front → sum ≡ crc_of 0xffffffff (front ++ big_bytes 4 (bit_xor tag before))
     → drop start block ≡ front ++ (big_bytes 4 (bit_xor tag before) ++ ((little_bytes 4 sum ++ pad) ++ rest))
-    → IsCommit block start at before (record { tag = tag; bytes = little_bytes 4 sum ++ pad } ∷ []) (at + 4 + length_of_tag tag) (tag_for_decoding_next_tag tag)
+    → IsCommit block start at before (record { tag = tag; bytes = little_bytes 4 sum ++ pad } ∷ []) (at + 4 + tag_length tag) (tag_before_next tag)
 unfolding closes
 closing block front rest pad start at tag before sum kind valid fits small size most place covers here =
     let e : LogEntry = record { tag = tag; bytes = little_bytes 4 sum ++ pad } in
@@ -87,8 +87,8 @@ closing block front rest pad start at tag before sum kind valid fits small size 
     let bytes_size : length e.bytes ≡ tag_data_size tag = grind (arith, nat_tests, size, most) in
     let read : entry_at block at before ≡ Some e = entry_read block rest at before e valid bytes_size fits behind in
     let sum_class : is_checksum_entry e ≡ true = rw (class_of_kind tag kind, not_forward tag kind) refl in
-    let low : leb 4 (length_of_tag tag) ≡ true = grind (arith, nat_tests, size) in
-    let high : leb (length_of_tag tag) 1022 ≡ true = grind (arith, nat_tests, most) in
+    let low : leb 4 (tag_length tag) ≡ true = grind (arith, nat_tests, size) in
+    let high : leb (tag_length tag) 1022 ≡ true = grind (arith, nat_tests, most) in
     let range : slice_range block start (at + 4) ≡ front ++ stored_tag =
     ap (take (at + 4 - start)) (here ∙ sym (append_assoc front stored_tag (e.bytes ++ rest)))
     ∙ ap (λ (n : ℕ). take n ((front ++ stored_tag) ++ (e.bytes ++ rest))) (let n : at + 4 - start ≡ length (front ++ stored_tag) = omega (arith, place, length-append front stored_tag) in n)

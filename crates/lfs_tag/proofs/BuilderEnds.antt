@@ -2,43 +2,43 @@
 use Rattle.std.proofs.Common.{◌≡◌, ℕ, ◌+◌, ◌-◌, ◌≤◌, ◌<◌, ◌^◌, List, ◌++◌, length, take, bit_xor, Option, IfSome, refl, ap, ◌∙◌, arith, replicate}
 use Rattle.std.proofs.lemmas.List.{length-replicate}
 use Rattle.byteorder.specs.Endian.{big_bytes, little_bytes}
-use Rattle.lfs_model.specs.Crc.{crc_of}
-use Rattle.lfs_model.specs.Blocks.{bytes_after_overwrite_at}
-use Rattle.lfs_tag.specs.Builder.{CommitBeingBuilt, checksum_start, padded_commit_end, checksum_tag}
-use Rattle.lfs_tag.specs.BuilderKeeps.{bytes_before_checksum, IsBuilderOfCommit}
+use Rattle.lfs_model.specs.format.Crc.{crc_of}
+use Rattle.lfs_model.specs.format.Blocks.{overwritten_at}
+use Rattle.lfs_tag.specs.Builder.{PartialCommit, checksum_start, padded_end_of, checksum_tag}
+use Rattle.lfs_tag.specs.BuilderKeeps.{bytes_to_checksum, BuildsCommit}
 use Rattle.lfs_tag.proofs.BuilderWrites.{take-overwritten}
 use Rattle.lfs_tag.proofs.BuilderChecksums.{AreBytes, padded}
 use Rattle.lfs_tag.proofs.BuilderPages.{ArePages}
 
 -- what is known when the checksum is written
-pub record Sealed (page len last stored end tag : ℕ) (buf now : List ℕ) (b : CommitBeingBuilt) : Type 0 where
-  pub kept : IsBuilderOfCommit page len last buf b
-  pub end_is : end ≡ padded_commit_end b
+pub record Sealed (page len last stored end tag : ℕ) (buf now : List ℕ) (b : PartialCommit) : Type 0 where
+  pub kept : BuildsCommit page len last buf b
+  pub end_is : end ≡ padded_end_of b
   pub within : end ≤ length buf
   pub room : length buf < 2 ^ 64 - 1
   pub stored_is : stored ≡ bit_xor tag last
   pub fits : stored < 2 ^ 32
   pub small : crc_of 0xffffffff (take len buf ++ big_bytes 4 stored) < 2 ^ 32
-  pub bytes : now ≡ bytes_after_overwrite_at buf len (big_bytes 4 stored ++ (little_bytes 4 (crc_of 0xffffffff (take len buf ++ big_bytes 4 stored)) ++ replicate (end - (len + 8)) 255))
+  pub bytes : now ≡ overwritten_at buf len (big_bytes 4 stored ++ (little_bytes 4 (crc_of 0xffffffff (take len buf ++ big_bytes 4 stored)) ++ replicate (end - (len + 8)) 255))
 
-module _ (page len last stored end tag : ℕ) (buf now : List ℕ) (b : CommitBeingBuilt) (s : Sealed page len last stored end tag buf now b) where
+module _ (page len last stored end tag : ℕ) (buf now : List ℕ) (b : PartialCommit) (s : Sealed page len last stored end tag buf now b) where
   abbrev sum : ℕ
   sum = crc_of 0xffffffff (take len buf ++ big_bytes 4 stored)
 
   abbrev pad : List ℕ
-  pad = replicate (padded_commit_end b - (checksum_start b + 8)) 255
+  pad = replicate (padded_end_of b - (checksum_start b + 8)) 255
 
   exact : len ≡ checksum_start b
   exact = let p = padded b s.kept.power in omega (arith, s.kept.len_is, s.end_is, s.within, s.room, p.low)
 
-  pages_are : take end now ≡ bytes_before_checksum b ++ (big_bytes 4 (bit_xor tag last) ++ (little_bytes 4 sum ++ pad))
+  pages_are : take end now ≡ bytes_to_checksum b ++ (big_bytes 4 (bit_xor tag last) ++ (little_bytes 4 sum ++ pad))
   pages_are =
       let p = padded b s.kept.power in
       let filled = big_bytes 4 stored ++ (little_bytes 4 sum ++ replicate (end - (len + 8)) 255) in
       let filler : ℕ = 255 in
       let eight : length filled ≡ 8 + length (replicate (end - (len + 8)) filler) = omega arith in
       let stop : end ≡ len + length filled = omega (arith, eight, length-replicate (end - (len + 8)) filler, exact, s.end_is, p.low) in
-      let same : end - (len + 8) ≡ padded_commit_end b - (checksum_start b + 8) = omega (arith, exact, s.end_is) in
+      let same : end - (len + 8) ≡ padded_end_of b - (checksum_start b + 8) = omega (arith, exact, s.end_is) in
       ap (take end) s.bytes ∙ take-overwritten len end buf filled (omega (arith, s.within, stop)) stop ∙ ap (λ (l : List ℕ). l ++ filled) (s.kept.bytes (omega (arith, s.within, stop)))
       ∙ rw (same, ← s.stored_is) refl
 

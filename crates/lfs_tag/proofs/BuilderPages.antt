@@ -5,50 +5,50 @@ use Rattle.std.proofs.lemmas.List.{drop-drop, length-take-le, take-append-drop, 
 use Rattle.std.proofs.Math.Seq.{drop-append_seam}
 use Rattle.byteorder.specs.Endian.{big_bytes, little_number, little_bytes}
 use Rattle.byteorder.specs.Numbers.{little_from-take, little_from-append, little_number-reads_back}
-use Rattle.lfs_model.specs.Crc.{crc_of}
-use Rattle.lfs_model.specs.Tag.{tag_for_decoding_next_tag, length_of_tag}
-use Rattle.lfs_model.specs.Log.{LogEntry, commit_sequence_with_commit_first, IsCommit, commit_at, chain_of, revision_of_block, log_entries_of_block}
-use Rattle.lfs_model.specs.Geometry.{is_valid_page_size}
-use Rattle.lfs_model.specs.Blocks.{bytes_after_overwrite_at}
-use Rattle.lfs_model.specs.Commit.{encoded_bytes_of_log_entries, encoded_size_of_log_entries, four_bytes_from_offset, checksum_tag_type_for_following_bytes}
-use Rattle.lfs_tag.specs.Builder.{CommitBeingBuilt, entries_start_in_commit_after_optional_revision, checksum_start, padded_commit_end, checksum_tag, checksum_entry, IsOffsetForCommitInBlock, earlier_commits_of_block, ArePagesOfCommit}
-use Rattle.lfs_tag.specs.BuilderKeeps.{last_tag_after_entries, revision_bytes, bytes_before_checksum, AreStorableEntries}
+use Rattle.lfs_model.specs.format.Crc.{crc_of}
+use Rattle.lfs_model.specs.format.Tag.{tag_before_next, tag_length}
+use Rattle.lfs_model.specs.format.Log.{LogEntry, with_commit, IsCommit, commit_at, chain_of, block_revision, block_entries}
+use Rattle.lfs_model.specs.format.Geometry.{is_page}
+use Rattle.lfs_model.specs.format.Blocks.{overwritten_at}
+use Rattle.lfs_model.specs.layers.Commit.{encoded_entries, encoded_size, four_bytes, checksum_type}
+use Rattle.lfs_tag.specs.Builder.{PartialCommit, entries_start, checksum_start, padded_end_of, checksum_tag, checksum_entry, IsCommitOffset, earlier_commits, AreCommitPages}
+use Rattle.lfs_tag.specs.BuilderKeeps.{last_after, revision_bytes, bytes_to_checksum, AreStorableEntries}
 use Rattle.lfs_model.proofs.Chains.{commit_none, commit_complete, chain_on, chain_none}
 use Rattle.lfs_tag.proofs.Local.{appended, next_start}
 use Rattle.lfs_tag.proofs.Runs.{all_run, run_space}
 use Rattle.lfs_tag.proofs.BuilderWrites.{drop-overwritten, length-overwritten}
-use Rattle.lfs_tag.proofs.BuilderEntries.{length-bytes_before_checksum}
+use Rattle.lfs_tag.proofs.BuilderEntries.{length-bytes_to_checksum}
 use Rattle.lfs_tag.proofs.BuilderCommits.{class_of_kind, closing, entries_read}
 use Rattle.lfs_tag.proofs.BuilderChecksums.{AreBytes, padded, kind_cases, kind_is, kind_of_cases, valid_is, len_is, nothing_follows}
 
 -- what the pages of a commit are
-pub record ArePages (b : CommitBeingBuilt) (next : Option (List ℕ)) (pages : List ℕ) (last sum : ℕ) : Type 0 where
-  pub power : is_valid_page_size b.page ≡ true
-  pub last_is : last ≡ last_tag_after_entries b.previous b.entries
+pub record ArePages (b : PartialCommit) (next : Option (List ℕ)) (pages : List ℕ) (last sum : ℕ) : Type 0 where
+  pub power : is_page b.page ≡ true
+  pub last_is : last ≡ last_after b.previous b.entries
   pub revision : IfSome b.revision (λ r. r < 2 ^ 32)
   pub entries : AreStorableEntries b.previous b.entries
   pub bytes : IfSome next AreBytes
   pub fits : bit_xor (checksum_tag b next) last < 2 ^ 32
   pub small : sum < 2 ^ 32
-  pub sum_is : sum ≡ crc_of 0xffffffff (bytes_before_checksum b ++ big_bytes 4 (bit_xor (checksum_tag b next) last))
-  pub pages_are : pages ≡ bytes_before_checksum b ++ (big_bytes 4 (bit_xor (checksum_tag b next) last) ++ (little_bytes 4 sum ++ replicate (padded_commit_end b - (checksum_start b + 8)) 255))
+  pub sum_is : sum ≡ crc_of 0xffffffff (bytes_to_checksum b ++ big_bytes 4 (bit_xor (checksum_tag b next) last))
+  pub pages_are : pages ≡ bytes_to_checksum b ++ (big_bytes 4 (bit_xor (checksum_tag b next) last) ++ (little_bytes 4 sum ++ replicate (padded_end_of b - (checksum_start b + 8)) 255))
 
-length-revision : (r : Option ℕ) → length (revision_bytes r) ≡ entries_start_in_commit_after_optional_revision r
+length-revision : (r : Option ℕ) → length (revision_bytes r) ≡ entries_start r
 length-revision None = refl
 length-revision (Some r) = refl
 
-module _ (b : CommitBeingBuilt) (next : Option (List ℕ)) (pages : List ℕ) (last sum : ℕ) (h : ArePages b next pages last sum) where
+module _ (b : PartialCommit) (next : Option (List ℕ)) (pages : List ℕ) (last sum : ℕ) (h : ArePages b next pages last sum) where
   abbrev tag : ℕ
   tag = checksum_tag b next
 
   abbrev size : ℕ
-  size = padded_commit_end b - checksum_start b - 4
+  size = padded_end_of b - checksum_start b - 4
 
   abbrev tag_bytes : List ℕ
   tag_bytes = big_bytes 4 (bit_xor (checksum_tag b next) last)
 
   abbrev pad : List ℕ
-  pad = replicate (padded_commit_end b - (checksum_start b + 8)) 255
+  pad = replicate (padded_end_of b - (checksum_start b + 8)) 255
 
   abbrev ck : LogEntry
   ck = record { tag = checksum_tag b next; bytes = little_bytes 4 sum ++ pad }
@@ -56,59 +56,59 @@ module _ (b : CommitBeingBuilt) (next : Option (List ℕ)) (pages : List ℕ) (l
   size_small : size < 2 ^ 10
   size_small = let p = padded b h.power in omega (arith, p.low, p.high)
 
-  tag_len : length_of_tag tag ≡ size
-  tag_len = len_is (checksum_tag_type_for_following_bytes next) size size_small
+  tag_len : tag_length tag ≡ size
+  tag_len = len_is (checksum_type next) size size_small
 
-  pad_len : length pad ≡ padded_commit_end b - (checksum_start b + 8)
-  pad_len = let filler : ℕ = 255 in length-replicate (padded_commit_end b - (checksum_start b + 8)) filler
+  pad_len : length pad ≡ padded_end_of b - (checksum_start b + 8)
+  pad_len = let filler : ℕ = 255 in length-replicate (padded_end_of b - (checksum_start b + 8)) filler
 
-  length-pages : length pages ≡ padded_commit_end b
+  length-pages : length pages ≡ padded_end_of b
   length-pages =
       let p = padded b h.power in
       let eight : length (tag_bytes ++ (little_bytes 4 sum ++ pad)) ≡ 8 + length pad = omega arith in
-      let all : length pages ≡ length (bytes_before_checksum b) + length (tag_bytes ++ (little_bytes 4 sum ++ pad)) = ap length h.pages_are ∙ length-append (bytes_before_checksum b) (tag_bytes ++ (little_bytes 4 sum ++ pad)) in
-      omega (arith, p.low, length-bytes_before_checksum b, all, eight, pad_len)
+      let all : length pages ≡ length (bytes_to_checksum b) + length (tag_bytes ++ (little_bytes 4 sum ++ pad)) = ap length h.pages_are ∙ length-append (bytes_to_checksum b) (tag_bytes ++ (little_bytes 4 sum ++ pad)) in
+      omega (arith, p.low, length-bytes_to_checksum b, all, eight, pad_len)
 
   -- the entry that the words name
   named : ck ≡ checksum_entry b next pages
   named =
-      let from : checksum_start b + 4 ≡ length (bytes_before_checksum b ++ tag_bytes) = omega (arith, length-bytes_before_checksum b, length-append (bytes_before_checksum b) tag_bytes) in
+      let from : checksum_start b + 4 ≡ length (bytes_to_checksum b ++ tag_bytes) = omega (arith, length-bytes_to_checksum b, length-append (bytes_to_checksum b) tag_bytes) in
       let rest : drop (checksum_start b + 4) pages ≡ little_bytes 4 sum ++ pad =
-      ap (drop (checksum_start b + 4)) (h.pages_are ∙ sym (append_assoc (bytes_before_checksum b) tag_bytes (little_bytes 4 sum ++ pad)))
-      ∙ ap (λ (n : ℕ). drop n ((bytes_before_checksum b ++ tag_bytes) ++ (little_bytes 4 sum ++ pad))) from ∙ drop-append_seam (bytes_before_checksum b ++ tag_bytes) (little_bytes 4 sum ++ pad) in
+      ap (drop (checksum_start b + 4)) (h.pages_are ∙ sym (append_assoc (bytes_to_checksum b) tag_bytes (little_bytes 4 sum ++ pad)))
+      ∙ ap (λ (n : ℕ). drop n ((bytes_to_checksum b ++ tag_bytes) ++ (little_bytes 4 sum ++ pad))) from ∙ drop-append_seam (bytes_to_checksum b ++ tag_bytes) (little_bytes 4 sum ++ pad) in
       rw rest refl
 
   -- what is after the checksum
   padding_is : drop (checksum_start b + 8) pages ≡ pad
   padding_is =
-      let front = bytes_before_checksum b ++ (tag_bytes ++ little_bytes 4 sum) in
-      let joined : pages ≡ front ++ pad = h.pages_are ∙ sym (append_assoc (bytes_before_checksum b) (tag_bytes ++ little_bytes 4 sum) pad) in
-      let at : checksum_start b + 8 ≡ length front = omega (arith, length-bytes_before_checksum b, length-append (bytes_before_checksum b) (tag_bytes ++ little_bytes 4 sum)) in
+      let front = bytes_to_checksum b ++ (tag_bytes ++ little_bytes 4 sum) in
+      let joined : pages ≡ front ++ pad = h.pages_are ∙ sym (append_assoc (bytes_to_checksum b) (tag_bytes ++ little_bytes 4 sum) pad) in
+      let at : checksum_start b + 8 ≡ length front = omega (arith, length-bytes_to_checksum b, length-append (bytes_to_checksum b) (tag_bytes ++ little_bytes 4 sum)) in
       ap (drop (checksum_start b + 8)) joined ∙ ap (λ (n : ℕ). drop n (front ++ pad)) at ∙ drop-append_seam front pad
 
-  commit_here : (new rest : List ℕ) (start : ℕ) → drop start new ≡ pages ++ rest → IsCommit new start (start + entries_start_in_commit_after_optional_revision b.revision) b.previous (b.entries ++ ck ∷ []) (start + length pages) (tag_for_decoding_next_tag tag)
+  commit_here : (new rest : List ℕ) (start : ℕ) → drop start new ≡ pages ++ rest → IsCommit new start (start + entries_start b.revision) b.previous (b.entries ++ ck ∷ []) (start + length pages) (tag_before_next tag)
   commit_here new rest start here =
       let head = revision_bytes b.revision in
-      let es = encoded_bytes_of_log_entries b.previous b.entries in
+      let es = encoded_entries b.previous b.entries in
       let filled = little_bytes 4 sum ++ pad in
       let p = padded b h.power in
-      let first = start + entries_start_in_commit_after_optional_revision b.revision in
-      let at = first + encoded_size_of_log_entries b.entries in
-      let whole : drop start new ≡ bytes_before_checksum b ++ (tag_bytes ++ (filled ++ rest)) =
-      here ∙ ap (λ (l : List ℕ). l ++ rest) h.pages_are ∙ append_assoc (bytes_before_checksum b) (tag_bytes ++ filled) rest ∙ ap (λ (l : List ℕ). bytes_before_checksum b ++ l) (append_assoc tag_bytes filled rest) in
+      let first = start + entries_start b.revision in
+      let at = first + encoded_size b.entries in
+      let whole : drop start new ≡ bytes_to_checksum b ++ (tag_bytes ++ (filled ++ rest)) =
+      here ∙ ap (λ (l : List ℕ). l ++ rest) h.pages_are ∙ append_assoc (bytes_to_checksum b) (tag_bytes ++ filled) rest ∙ ap (λ (l : List ℕ). bytes_to_checksum b ++ l) (append_assoc tag_bytes filled rest) in
       let behind : drop first new ≡ es ++ (tag_bytes ++ (filled ++ rest)) =
       ap (λ (n : ℕ). drop (start + n) new) (sym (length-revision b.revision)) ∙ sym (drop-drop (length head) start new)
       ∙ ap (drop (length head)) (whole ∙ append_assoc head es (tag_bytes ++ (filled ++ rest))) ∙ drop-append_seam head (es ++ (tag_bytes ++ (filled ++ rest))) in
-      let kind = kind_of_cases (checksum_tag_type_for_following_bytes next) tag (kind_cases next) (kind_is (checksum_tag_type_for_following_bytes next) size (kind_cases next) size_small) in
-      let closed = closing new (bytes_before_checksum b) rest pad start at tag last sum kind (valid_is (checksum_tag_type_for_following_bytes next) size (kind_cases next) size_small) h.fits h.small
-      (omega (arith, tag_len, pad_len, p.low)) (omega (arith, tag_len, p.low, p.high)) (omega (arith, length-bytes_before_checksum b)) h.sum_is whole in
-      let end : at + 4 + length_of_tag tag ≡ start + length pages = omega (arith, tag_len, p.low, length-pages) in
-      let base : IsCommit new start at (last_tag_after_entries b.previous b.entries) (ck ∷ []) (start + length pages) (tag_for_decoding_next_tag tag) =
-      subst (λ (n : ℕ). IsCommit new start at n (ck ∷ []) (start + length pages) (tag_for_decoding_next_tag tag)) h.last_is (subst (λ (n : ℕ). IsCommit new start at last (ck ∷ []) n (tag_for_decoding_next_tag tag)) end closed) in
-      entries_read new (tag_bytes ++ (filled ++ rest)) start first b.previous b.entries ck (start + length pages) (tag_for_decoding_next_tag tag) h.entries behind base
+      let kind = kind_of_cases (checksum_type next) tag (kind_cases next) (kind_is (checksum_type next) size (kind_cases next) size_small) in
+      let closed = closing new (bytes_to_checksum b) rest pad start at tag last sum kind (valid_is (checksum_type next) size (kind_cases next) size_small) h.fits h.small
+      (omega (arith, tag_len, pad_len, p.low)) (omega (arith, tag_len, p.low, p.high)) (omega (arith, length-bytes_to_checksum b)) h.sum_is whole in
+      let end : at + 4 + tag_length tag ≡ start + length pages = omega (arith, tag_len, p.low, length-pages) in
+      let base : IsCommit new start at (last_after b.previous b.entries) (ck ∷ []) (start + length pages) (tag_before_next tag) =
+      subst (λ (n : ℕ). IsCommit new start at n (ck ∷ []) (start + length pages) (tag_before_next tag)) h.last_is (subst (λ (n : ℕ). IsCommit new start at last (ck ∷ []) n (tag_before_next tag)) end closed) in
+      entries_read new (tag_bytes ++ (filled ++ rest)) start first b.previous b.entries ck (start + length pages) (tag_before_next tag) h.entries behind base
 
-  none_here : (new : List ℕ) (end : ℕ) → four_bytes_from_offset new end ≡ next → commit_at new end end (tag_for_decoding_next_tag tag) ≡ None
-  none_here new end is = commit_none new end end (tag_for_decoding_next_tag tag) (nothing_follows new end size next h.bytes size_small is)
+  none_here : (new : List ℕ) (end : ℕ) → four_bytes new end ≡ next → commit_at new end end (tag_before_next tag) ≡ None
+  none_here new end is = commit_none new end end (tag_before_next tag) (nothing_follows new end size next h.bytes size_small is)
 
 -- ---- in a block
 
@@ -135,11 +135,11 @@ at_beginning : (block : List ℕ) (es : List LogEntry) (end last : ℕ) → IsCo
 unfolding chain_of
 at_beginning block es end last commit none =
     chain_on block 0 4 0xffffffff (record { entries = es; end = end; last = last }) (commit_complete block 0 4 0xffffffff es end last commit)
-    ∙ ap (commit_sequence_with_commit_first es) (chain_none block end end last none)
+    ∙ ap (with_commit es) (chain_none block end end last none)
 
-module _ (b : CommitBeingBuilt) (next : Option (List ℕ)) (pages : List ℕ) (last sum : ℕ) (h : ArePages b next pages last sum) (block : List ℕ) (at : ℕ) (within : at + length pages ≤ length block) where
+module _ (b : PartialCommit) (next : Option (List ℕ)) (pages : List ℕ) (last sum : ℕ) (h : ArePages b next pages last sum) (block : List ℕ) (at : ℕ) (within : at + length pages ≤ length block) where
   abbrev new : List ℕ
-  new = bytes_after_overwrite_at block at pages
+  new = overwritten_at block at pages
 
   abbrev rest : List ℕ
   rest = drop (at + length pages) block
@@ -157,34 +157,34 @@ module _ (b : CommitBeingBuilt) (next : Option (List ℕ)) (pages : List ℕ) (l
   here =
       ap (drop at) joined ∙ ap (λ (n : ℕ). drop n (take at block ++ (pages ++ rest))) (sym long) ∙ drop-append_seam (take at block) (pages ++ rest)
 
-  same_next : four_bytes_from_offset new (at + length pages) ≡ four_bytes_from_offset block (at + length pages)
+  same_next : four_bytes new (at + length pages) ≡ four_bytes block (at + length pages)
   same_next =
       let behind : drop (at + length pages) new ≡ rest = drop-overwritten at (at + length pages) 0 block pages (omega arith) (omega arith) in
       rw (same_len, behind) refl
 
-  log_of : (r : Option ℕ) → entries_start_in_commit_after_optional_revision b.revision ≡ entries_start_in_commit_after_optional_revision r → IsOffsetForCommitInBlock r b.previous block at → four_bytes_from_offset block (at + length pages) ≡ next
-      → chain_of new ≡ record { commits = earlier_commits_of_block r block ++ (b.entries ++ ck b next pages last sum h ∷ []) ∷ []; end = at + length pages; last = tag_for_decoding_next_tag (checksum_tag b next) }
+  log_of : (r : Option ℕ) → entries_start b.revision ≡ entries_start r → IsCommitOffset r b.previous block at → four_bytes block (at + length pages) ≡ next
+      → chain_of new ≡ record { commits = earlier_commits r block ++ (b.entries ++ ck b next pages last sum h ∷ []) ∷ []; end = at + length pages; last = tag_before_next (checksum_tag b next) }
   log_of None starts goes nexts =
       let es = b.entries ++ ck b next pages last sum h ∷ [] in
-      let commit : IsCommit new at at b.previous es (at + length pages) (tag_for_decoding_next_tag (checksum_tag b next)) =
-      subst (λ (n : ℕ). IsCommit new at n b.previous es (at + length pages) (tag_for_decoding_next_tag (checksum_tag b next)))
-      (let place : at + entries_start_in_commit_after_optional_revision b.revision ≡ at = omega (arith, starts) in place) (commit_here b next pages last sum h new rest at here) in
+      let commit : IsCommit new at at b.previous es (at + length pages) (tag_before_next (checksum_tag b next)) =
+      subst (λ (n : ℕ). IsCommit new at n b.previous es (at + length pages) (tag_before_next (checksum_tag b next)))
+      (let place : at + entries_start b.revision ≡ at = omega (arith, starts) in place) (commit_here b next pages last sum h new rest at here) in
       let none = none_here b next pages last sum h new (at + length pages) (same_next ∙ nexts) in
-      let r = behind_chain block pages rest at b.previous es (at + length pages) (tag_for_decoding_next_tag (checksum_tag b next)) (omega arith) goes.0 goes.1 goes.2 (rw joined at commit) (rw joined at none) in
+      let r = behind_chain block pages rest at b.previous es (at + length pages) (tag_before_next (checksum_tag b next)) (omega arith) goes.0 goes.1 goes.2 (rw joined at commit) (rw joined at none) in
       ap chain_of joined ∙ r
   log_of (Some revision) starts goes nexts =
       let es = b.entries ++ ck b next pages last sum h ∷ [] in
-      let commit : IsCommit new 0 4 0xffffffff es (at + length pages) (tag_for_decoding_next_tag (checksum_tag b next)) =
-      subst (λ (n : ℕ). IsCommit new n 4 0xffffffff es (at + length pages) (tag_for_decoding_next_tag (checksum_tag b next))) goes.0
-      (subst (λ (n : ℕ). IsCommit new at 4 n es (at + length pages) (tag_for_decoding_next_tag (checksum_tag b next))) goes.1
-      (subst (λ (n : ℕ). IsCommit new at n b.previous es (at + length pages) (tag_for_decoding_next_tag (checksum_tag b next)))
-      (let place : at + entries_start_in_commit_after_optional_revision b.revision ≡ 4 = omega (arith, starts, goes.0) in place) (commit_here b next pages last sum h new rest at here))) in
+      let commit : IsCommit new 0 4 0xffffffff es (at + length pages) (tag_before_next (checksum_tag b next)) =
+      subst (λ (n : ℕ). IsCommit new n 4 0xffffffff es (at + length pages) (tag_before_next (checksum_tag b next))) goes.0
+      (subst (λ (n : ℕ). IsCommit new at 4 n es (at + length pages) (tag_before_next (checksum_tag b next))) goes.1
+      (subst (λ (n : ℕ). IsCommit new at n b.previous es (at + length pages) (tag_before_next (checksum_tag b next)))
+      (let place : at + entries_start b.revision ≡ 4 = omega (arith, starts, goes.0) in place) (commit_here b next pages last sum h new rest at here))) in
       let none = none_here b next pages last sum h new (at + length pages) (same_next ∙ nexts) in
-      at_beginning new es (at + length pages) (tag_for_decoding_next_tag (checksum_tag b next)) commit none
+      at_beginning new es (at + length pages) (tag_before_next (checksum_tag b next)) commit none
 
-  revision_is : (r : Option ℕ) → b.revision ≡ r → IsOffsetForCommitInBlock r b.previous block at → revision_of_block new ≡ unwrap_or r (revision_of_block block)
+  revision_is : (r : Option ℕ) → b.revision ≡ r → IsCommitOffset r b.previous block at → block_revision new ≡ unwrap_or r (block_revision block)
   revision_is None is goes =
-      let low : 4 ≤ at = omega (arith, goes.1, run_space block 4 0xffffffff (log_entries_of_block block) (chain_of block).end (chain_of block).last (all_run block)) in
+      let low : 4 ≤ at = omega (arith, goes.1, run_space block 4 0xffffffff (block_entries block) (chain_of block).end (chain_of block).last (all_run block)) in
       let front : little_number 4 (take at block) ≡ little_number 4 block = little_from-take 0 4 at block (omega arith) in
       let number : little_number 4 new ≡ little_number 4 block = ap (little_number 4) joined ∙ little_from-append 4 (take at block) (pages ++ rest) (omega (arith, long)) ∙ front in
       rw (same_len, number) refl
@@ -192,9 +192,9 @@ module _ (b : CommitBeingBuilt) (next : Option (List ℕ)) (pages : List ℕ) (l
       let small : r < 2 ^ 32 = subst (λ (o : Option ℕ). IfSome o (λ r. r < 2 ^ 32)) is h.revision in
       let first : take at block ≡ [] = ap (λ (n : ℕ). take n block) goes.0 in
       let head : revision_bytes b.revision ≡ little_bytes 4 r = ap revision_bytes is in
-      let tail = encoded_bytes_of_log_entries b.previous b.entries ++ (tag_bytes b next pages last sum h ++ (little_bytes 4 sum ++ pad b next pages last sum h)) in
+      let tail = encoded_entries b.previous b.entries ++ (tag_bytes b next pages last sum h ++ (little_bytes 4 sum ++ pad b next pages last sum h)) in
       let pages_split : pages ≡ little_bytes 4 r ++ tail =
-      h.pages_are ∙ append_assoc (revision_bytes b.revision) (encoded_bytes_of_log_entries b.previous b.entries) (tag_bytes b next pages last sum h ++ (little_bytes 4 sum ++ pad b next pages last sum h))
+      h.pages_are ∙ append_assoc (revision_bytes b.revision) (encoded_entries b.previous b.entries) (tag_bytes b next pages last sum h ++ (little_bytes 4 sum ++ pad b next pages last sum h))
       ∙ ap (λ (l : List ℕ). l ++ tail) head in
       let split : new ≡ little_bytes 4 r ++ (tail ++ rest) =
       joined ∙ ap (λ (l : List ℕ). l ++ (pages ++ rest)) first ∙ ap (λ (l : List ℕ). l ++ rest) pages_split ∙ append_assoc (little_bytes 4 r) tail rest in
@@ -202,13 +202,13 @@ module _ (b : CommitBeingBuilt) (next : Option (List ℕ)) (pages : List ℕ) (l
       let some : ltb (length new) 4 ≡ false = le-ltb _ _ (omega (arith, same_len, within, length-pages b next pages last sum h, p.low)) in
       rw some (ap (little_number 4) split ∙ little_number-reads_back 4 r (tail ++ rest) small)
 
-pub committed : (b : CommitBeingBuilt) (next : Option (List ℕ)) (pages : List ℕ) (last sum : ℕ) → ArePages b next pages last sum → ArePagesOfCommit b next pages
+pub committed : (b : PartialCommit) (next : Option (List ℕ)) (pages : List ℕ) (last sum : ℕ) → ArePages b next pages last sum → AreCommitPages b next pages
 committed b next pages last sum h =
-    let size = padded_commit_end b - checksum_start b - 4 in
-    let kind = checksum_tag_type_for_following_bytes next in
+    let size = padded_end_of b - checksum_start b - 4 in
+    let kind = checksum_type next in
     record {
       log = λ block at goes within nexts.
-          subst (λ (e : LogEntry). chain_of (bytes_after_overwrite_at block at pages) ≡ record { commits = earlier_commits_of_block b.revision block ++ (b.entries ++ e ∷ []) ∷ []; end = at + length pages; last = tag_for_decoding_next_tag (checksum_tag b next) })
+          subst (λ (e : LogEntry). chain_of (overwritten_at block at pages) ≡ record { commits = earlier_commits b.revision block ++ (b.entries ++ e ∷ []) ∷ []; end = at + length pages; last = tag_before_next (checksum_tag b next) })
           (named b next pages last sum h) (log_of b next pages last sum h block at within b.revision refl goes nexts);
       revision = λ block at goes within. revision_is b next pages last sum h block at within b.revision refl goes;
       class = class_of_kind (checksum_tag b next) (kind_of_cases kind (checksum_tag b next) (kind_cases next) (kind_is kind size (kind_cases next) (size_small b next pages last sum h)));

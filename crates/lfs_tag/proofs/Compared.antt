@@ -4,7 +4,7 @@ use Rattle.std.specs.Ordering.{ordering_then, MatchOrdering}
 use Rattle.std.specs.Cmp.{nat_cmp_is}
 use Rattle.std.specs.Cmp.Lexicographic.{slice_cmp}
 use Rattle.std.proofs.lemmas.Cmp.{ranked}
-use Rattle.lfs_model.specs.Names.{Name, name_cmp_longer_first}
+use Rattle.lfs_model.specs.format.Names.{Name, cmp_longer_first}
 
 both_more : (p q : ℕ) → nat_cmp p q ≡ nat_cmp (suc p) (suc q)
 both_more p q = nat_cmp_is (suc p) (suc q) (nat_cmp p q) (go (nat_cmp p q) (ranked p q (nat_cmp p q) refl))
@@ -21,7 +21,7 @@ then_both Greater p q = refl
 
 -- n bytes are all of one of the names
 pub by_shared : (a b : Name) (n : ℕ) → n ≤ length a → n ≤ length b → (n ≡ length a) ⊎ (n ≡ length b)
-    → name_cmp_longer_first a b ≡ ordering_then (slice_cmp nat_cmp (take n a) (take n b)) (nat_cmp (length b) (length a))
+    → cmp_longer_first a b ≡ ordering_then (slice_cmp nat_cmp (take n a) (take n b)) (nat_cmp (length b) (length a))
 by_shared [] [] zero in_a in_b ends = nat_cmp_is 0 0 Equal refl
 by_shared [] (y ∷ ys) zero in_a in_b ends = nat_cmp_is (length (y ∷ ys)) 0 Greater (omega arith)
 by_shared (x ∷ xs) [] zero in_a in_b ends = nat_cmp_is 0 (length (x ∷ xs)) Less (omega arith)

@@ -4,50 +4,50 @@ use Rattle.std.proofs.lemmas.Bool.Decides.{nat_tests}
 use Rattle.std.proofs.lemmas.Option.{option_and_then_some, same_Some}
 use Rattle.std.proofs.lemmas.List.{length-set, length-replicate}
 use Rattle.std.proofs.lemmas.List.Edits.{length-insert, length-remove}
-use Rattle.lfs_model.specs.Tag.{type_of_tag, id_of_tag, abstract_type_of_tag}
-use Rattle.lfs_model.specs.Log.{LogEntry}
-use Rattle.lfs_model.specs.EntryTypes.{create_tag_type}
-use Rattle.lfs_model.specs.Content.{RawSlot, RawPairContent, empty_slot, slots_padded_to_id, content_after_log_entry, content_after_log_entries, empty_raw_pair_content}
-use Rattle.lfs_tag.specs.SlotCount.{slot_count_after_entry, slot_count_after_entries}
+use Rattle.lfs_model.specs.format.Tag.{tag_type, tag_id, abstract_type}
+use Rattle.lfs_model.specs.format.Log.{LogEntry}
+use Rattle.lfs_model.specs.format.EntryTypes.{create_tag_type}
+use Rattle.lfs_model.specs.format.Content.{RawSlot, RawContent, empty_slot, slots_padded_to, content_after_one, content_after, empty_raw_content}
+use Rattle.lfs_tag.specs.SlotCount.{slot_count_after_entry, slot_count_after}
 use Rattle.lfs_tag.proofs.Effects.{Effect, rests, names, creates, deletes, structures, attributes, effect}
 
-padded_count : (s : List RawSlot) (id : ℕ) → length (slots_padded_to_id s id) ≡ max (length s) (id + 1)
+padded_count : (s : List RawSlot) (id : ℕ) → length (slots_padded_to s id) ≡ max (length s) (id + 1)
 padded_count s id = length-append s (replicate (id + 1 - length s) empty_slot) ∙ omega (arith, length-replicate (id + 1 - length s) empty_slot)
 
 count_step : (s t : List RawSlot) (e : LogEntry) → Effect s t e → slot_count_after_entry (length s) e ≡ length t
 count_step s t e (rests high same) =
-    let a : eqb (abstract_type_of_tag e.tag) 0 ≡ false = grind (arith, nat_tests) in
-    let b : eqb (abstract_type_of_tag e.tag) 4 ≡ false = grind (arith, nat_tests) in
+    let a : eqb (abstract_type e.tag) 0 ≡ false = grind (arith, nat_tests) in
+    let b : eqb (abstract_type e.tag) 4 ≡ false = grind (arith, nat_tests) in
     rw (a, b) (ap length (sym same))
 count_step s t e (names class keeps is) =
-    let a : eqb (abstract_type_of_tag e.tag) 0 ≡ true = grind (arith, nat_tests) in
-    rw (a, is) (sym (length-set (slots_padded_to_id s (id_of_tag e.tag)) (id_of_tag e.tag) _ ∙ padded_count s (id_of_tag e.tag)))
+    let a : eqb (abstract_type e.tag) 0 ≡ true = grind (arith, nat_tests) in
+    rw (a, is) (sym (length-set (slots_padded_to s (tag_id e.tag)) (tag_id e.tag) _ ∙ padded_count s (tag_id e.tag)))
 count_step s t e (creates class create le is) =
-    let a : eqb (abstract_type_of_tag e.tag) 0 ≡ false = grind (arith, nat_tests) in
-    let b : eqb (abstract_type_of_tag e.tag) 4 ≡ true = grind (arith, nat_tests) in
-    let c : eqb (type_of_tag e.tag) create_tag_type ≡ true = grind (arith, nat_tests) in
-    let d : leb (id_of_tag e.tag) (length s) ≡ true = grind (arith, nat_tests) in
-    rw (a, b, c, d, is) (sym (length-insert s (id_of_tag e.tag) empty_slot le))
+    let a : eqb (abstract_type e.tag) 0 ≡ false = grind (arith, nat_tests) in
+    let b : eqb (abstract_type e.tag) 4 ≡ true = grind (arith, nat_tests) in
+    let c : eqb (tag_type e.tag) create_tag_type ≡ true = grind (arith, nat_tests) in
+    let d : leb (tag_id e.tag) (length s) ≡ true = grind (arith, nat_tests) in
+    rw (a, b, c, d, is) (sym (length-insert s (tag_id e.tag) empty_slot le))
 count_step s t e (deletes class delete lt is) =
-    let a : eqb (abstract_type_of_tag e.tag) 0 ≡ false = grind (arith, nat_tests) in
-    let b : eqb (abstract_type_of_tag e.tag) 4 ≡ true = grind (arith, nat_tests) in
-    let c : eqb (type_of_tag e.tag) create_tag_type ≡ false = grind (arith, nat_tests) in
-    let d : ltb (id_of_tag e.tag) (length s) ≡ true = grind (arith, nat_tests) in
-    rw (a, b, c, d, is) (omega (arith, length-remove s (id_of_tag e.tag) lt))
+    let a : eqb (abstract_type e.tag) 0 ≡ false = grind (arith, nat_tests) in
+    let b : eqb (abstract_type e.tag) 4 ≡ true = grind (arith, nat_tests) in
+    let c : eqb (tag_type e.tag) create_tag_type ≡ false = grind (arith, nat_tests) in
+    let d : ltb (tag_id e.tag) (length s) ≡ true = grind (arith, nat_tests) in
+    rw (a, b, c, d, is) (omega (arith, length-remove s (tag_id e.tag) lt))
 count_step s t e (structures class keeps lt is) =
-    let a : eqb (abstract_type_of_tag e.tag) 0 ≡ false = grind (arith, nat_tests) in
-    let b : eqb (abstract_type_of_tag e.tag) 4 ≡ false = grind (arith, nat_tests) in
-    rw (a, b, is) (sym (length-set s (id_of_tag e.tag) _))
+    let a : eqb (abstract_type e.tag) 0 ≡ false = grind (arith, nat_tests) in
+    let b : eqb (abstract_type e.tag) 4 ≡ false = grind (arith, nat_tests) in
+    rw (a, b, is) (sym (length-set s (tag_id e.tag) _))
 count_step s t e (attributes class lt is) =
-    let a : eqb (abstract_type_of_tag e.tag) 0 ≡ false = grind (arith, nat_tests) in
-    let b : eqb (abstract_type_of_tag e.tag) 4 ≡ false = grind (arith, nat_tests) in
-    rw (a, b, is) (sym (length-set s (id_of_tag e.tag) _))
+    let a : eqb (abstract_type e.tag) 0 ≡ false = grind (arith, nat_tests) in
+    let b : eqb (abstract_type e.tag) 4 ≡ false = grind (arith, nat_tests) in
+    rw (a, b, is) (sym (length-set s (tag_id e.tag) _))
 
-counts_after_content : (es : List LogEntry) (s t : RawPairContent) → content_after_log_entries s es ≡ Some t → slot_count_after_entries (length s.slots) es ≡ length t.slots
-counts_after_content [] s t h = ap (λ (x : RawPairContent). length x.slots) (same_Some _ _ h)
+counts_after_content : (es : List LogEntry) (s t : RawContent) → content_after s es ≡ Some t → slot_count_after (length s.slots) es ≡ length t.slots
+counts_after_content [] s t h = ap (λ (x : RawContent). length x.slots) (same_Some _ _ h)
 counts_after_content (e ∷ es) s t h =
-    option_and_then_some (λ u. content_after_log_entries u es) (content_after_log_entry s e) t h (λ u is rest.
-    ap (λ n. slot_count_after_entries n es) (count_step s.slots u.slots e (effect s u e is)) ∙ counts_after_content es u t rest)
+    option_and_then_some (λ u. content_after u es) (content_after_one s e) t h (λ u is rest.
+    ap (λ n. slot_count_after n es) (count_step s.slots u.slots e (effect s u e is)) ∙ counts_after_content es u t rest)
 
-pub counted : (es : List LogEntry) (t : RawPairContent) → content_after_log_entries empty_raw_pair_content es ≡ Some t → slot_count_after_entries 0 es ≡ length t.slots
-counted es t h = counts_after_content es empty_raw_pair_content t h
+pub counted : (es : List LogEntry) (t : RawContent) → content_after empty_raw_content es ≡ Some t → slot_count_after 0 es ≡ length t.slots
+counted es t h = counts_after_content es empty_raw_content t h

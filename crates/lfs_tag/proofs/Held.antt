@@ -4,12 +4,12 @@ use Rattle.std.specs.Option.{option_map}
 use Rattle.std.proofs.lemmas.Bool.{cases_lt, cases_order}
 use Rattle.std.proofs.lemmas.Bool.Decides.{nat_tests}
 use Rattle.std.proofs.lemmas.List.{get_or_append_left, get_or-append_right, get_or_past, length-append, length-replicate}
-use Rattle.lfs_model.specs.Slots.{Attributes}
-use Rattle.lfs_model.specs.Content.{RawSlot, empty_slot, slot_of_id, raw_slots_with_function_applied_at_id, slots_padded_to_id, attributes_with_attribute, attributes_without_attribute, attribute_bytes_of_type}
+use Rattle.lfs_model.specs.format.Slots.{Attributes}
+use Rattle.lfs_model.specs.format.Content.{RawSlot, empty_slot, slot_of_id, changed_at, slots_padded_to, attributes_with, attributes_without, attribute_bytes}
 
 -- ---- attributes
 
-pub attribute-put_same : (type : ℕ) (bytes : List ℕ) (xs : Attributes) → attribute_bytes_of_type type (attributes_with_attribute type bytes xs) ≡ Some bytes
+pub attribute-put_same : (type : ℕ) (bytes : List ℕ) (xs : Attributes) → attribute_bytes type (attributes_with type bytes xs) ≡ Some bytes
 attribute-put_same type bytes [] = let e : eqb type type ≡ true = grind (arith, nat_tests) in rw e refl
 attribute-put_same type bytes (a ∷ xs) = elim (cases_order type a.0) [
   | inl equal ↦
@@ -28,7 +28,7 @@ attribute-put_same type bytes (a ∷ xs) = elim (cases_order type a.0) [
       rw (t, e, f) (attribute-put_same type bytes xs)
 ]
 
-pub attribute-put_other : (type other : ℕ) (bytes : List ℕ) (xs : Attributes) → other ≢ type → attribute_bytes_of_type type (attributes_with_attribute other bytes xs) ≡ attribute_bytes_of_type type xs
+pub attribute-put_other : (type other : ℕ) (bytes : List ℕ) (xs : Attributes) → other ≢ type → attribute_bytes type (attributes_with other bytes xs) ≡ attribute_bytes type xs
 attribute-put_other type other bytes [] ne = let e : eqb other type ≡ false = grind (arith, nat_tests) in rw e refl
 attribute-put_other type other bytes (a ∷ xs) ne = elim (cases_order other a.0) [
   | inl equal ↦
@@ -47,33 +47,33 @@ attribute-put_other type other bytes (a ∷ xs) ne = elim (cases_order other a.0
       rw (t, e) (first (eqb a.0 type) (attribute-put_other type other bytes xs ne))
 ]
   where
-    first : (b : Bool) → attribute_bytes_of_type type (attributes_with_attribute other bytes xs) ≡ attribute_bytes_of_type type xs
-        → option_map (λ (x : ℕ × List ℕ). x.1) (cond b (Some a) (find (λ (x : ℕ × List ℕ). eqb x.0 type) (attributes_with_attribute other bytes xs))) ≡ option_map (λ (x : ℕ × List ℕ). x.1) (cond b (Some a) (find (λ (x : ℕ × List ℕ). eqb x.0 type) xs))
+    first : (b : Bool) → attribute_bytes type (attributes_with other bytes xs) ≡ attribute_bytes type xs
+        → option_map (λ (x : ℕ × List ℕ). x.1) (cond b (Some a) (find (λ (x : ℕ × List ℕ). eqb x.0 type) (attributes_with other bytes xs))) ≡ option_map (λ (x : ℕ × List ℕ). x.1) (cond b (Some a) (find (λ (x : ℕ × List ℕ). eqb x.0 type) xs))
     first true rest = refl
     first false rest = rest
 
-pub attribute-without_same : (type : ℕ) (xs : Attributes) → attribute_bytes_of_type type (attributes_without_attribute type xs) ≡ None
+pub attribute-without_same : (type : ℕ) (xs : Attributes) → attribute_bytes type (attributes_without type xs) ≡ None
 attribute-without_same type [] = refl
-attribute-without_same type (a ∷ xs) = elim (eqb a.0 type) as (λ b. eqb a.0 type ≡ b → attribute_bytes_of_type type (cond (not b) (a ∷ attributes_without_attribute type xs) (attributes_without_attribute type xs)) ≡ None) [
+attribute-without_same type (a ∷ xs) = elim (eqb a.0 type) as (λ b. eqb a.0 type ≡ b → attribute_bytes type (cond (not b) (a ∷ attributes_without type xs) (attributes_without type xs)) ≡ None) [
   | true ↦ λ is. attribute-without_same type xs
   | false ↦ λ is. rw is (attribute-without_same type xs)
 ] refl
 
-pub attribute-without_other : (type other : ℕ) (xs : Attributes) → other ≢ type → attribute_bytes_of_type type (attributes_without_attribute other xs) ≡ attribute_bytes_of_type type xs
+pub attribute-without_other : (type other : ℕ) (xs : Attributes) → other ≢ type → attribute_bytes type (attributes_without other xs) ≡ attribute_bytes type xs
 attribute-without_other type other [] ne = refl
-attribute-without_other type other (a ∷ xs) ne = elim (eqb a.0 other) as (λ b. eqb a.0 other ≡ b → attribute_bytes_of_type type (cond (not b) (a ∷ attributes_without_attribute other xs) (attributes_without_attribute other xs)) ≡ attribute_bytes_of_type type (a ∷ xs)) [
+attribute-without_other type other (a ∷ xs) ne = elim (eqb a.0 other) as (λ b. eqb a.0 other ≡ b → attribute_bytes type (cond (not b) (a ∷ attributes_without other xs) (attributes_without other xs)) ≡ attribute_bytes type (a ∷ xs)) [
   | true ↦ λ is. let f : eqb a.0 type ≡ false = grind (arith, nat_tests) in rw f (attribute-without_other type other xs ne)
   | false ↦ λ is. first (eqb a.0 type) (attribute-without_other type other xs ne)
 ] refl
   where
-    first : (b : Bool) → attribute_bytes_of_type type (attributes_without_attribute other xs) ≡ attribute_bytes_of_type type xs
-        → option_map (λ (x : ℕ × List ℕ). x.1) (cond b (Some a) (find (λ (x : ℕ × List ℕ). eqb x.0 type) (attributes_without_attribute other xs))) ≡ option_map (λ (x : ℕ × List ℕ). x.1) (cond b (Some a) (find (λ (x : ℕ × List ℕ). eqb x.0 type) xs))
+    first : (b : Bool) → attribute_bytes type (attributes_without other xs) ≡ attribute_bytes type xs
+        → option_map (λ (x : ℕ × List ℕ). x.1) (cond b (Some a) (find (λ (x : ℕ × List ℕ). eqb x.0 type) (attributes_without other xs))) ≡ option_map (λ (x : ℕ × List ℕ). x.1) (cond b (Some a) (find (λ (x : ℕ × List ℕ). eqb x.0 type) xs))
     first true rest = refl
     first false rest = rest
 
 -- ---- slots
 
-pub slot-up_to : (slots : List RawSlot) (j i : ℕ) → slot_of_id (slots_padded_to_id slots j) i ≡ slot_of_id slots i
+pub slot-up_to : (slots : List RawSlot) (j i : ℕ) → slot_of_id (slots_padded_to slots j) i ≡ slot_of_id slots i
 slot-up_to slots j i =
     elim (cases_lt i (length slots)) [
       | inl lt ↦ get_or_append_left slots (replicate (j + 1 - length slots) empty_slot) empty_slot i lt
@@ -85,11 +85,11 @@ slot-up_to slots j i =
     empties (suc n) zero = refl
     empties (suc n) (suc k) = empties n k
 
-pub length-up_to : (slots : List RawSlot) (j : ℕ) → length (slots_padded_to_id slots j) ≡ length slots + (j + 1 - length slots)
+pub length-up_to : (slots : List RawSlot) (j : ℕ) → length (slots_padded_to slots j) ≡ length slots + (j + 1 - length slots)
 length-up_to slots j = length-append slots (replicate (j + 1 - length slots) empty_slot) ∙ ap (λ (n : ℕ). length slots + n) (length-replicate (j + 1 - length slots) empty_slot)
 
-pub slot-changed_same : (f : RawSlot → RawSlot) (slots : List RawSlot) (j : ℕ) → j < length slots → slot_of_id (raw_slots_with_function_applied_at_id f slots j) j ≡ f (slot_of_id slots j)
+pub slot-changed_same : (f : RawSlot → RawSlot) (slots : List RawSlot) (j : ℕ) → j < length slots → slot_of_id (changed_at f slots j) j ≡ f (slot_of_id slots j)
 slot-changed_same f slots j lt = get_or-set_same slots j (f (slot_of_id slots j)) empty_slot lt
 
-pub slot-changed_other : (f : RawSlot → RawSlot) (slots : List RawSlot) (j i : ℕ) → i ≢ j → slot_of_id (raw_slots_with_function_applied_at_id f slots j) i ≡ slot_of_id slots i
+pub slot-changed_other : (f : RawSlot → RawSlot) (slots : List RawSlot) (j i : ℕ) → i ≢ j → slot_of_id (changed_at f slots j) i ≡ slot_of_id slots i
 slot-changed_other f slots j i ne = get_or-set_other slots j i (f (slot_of_id slots j)) empty_slot ne

@@ -6,8 +6,8 @@ use Rattle.std.proofs.lemmas.Nat.{xor_shr}
 use Rattle.std.proofs.lemmas.List.{drop-append-le, take-append-le, length-drop}
 use Rattle.byteorder.specs.Endian.{big_number}
 use Rattle.byteorder.specs.Numbers.{big_from-append}
-use Rattle.lfs_model.specs.Tag.{tag_data_size}
-use Rattle.lfs_model.specs.Log.{LogEntry, commit_sequence_with_commit_first, tag_at, entry_at, end_offset_of_log_entry, closes, IsCommit, AreAdjacentCommitsInBlock, commit_at, longest_commit_sequence_at, chain_of}
+use Rattle.lfs_model.specs.format.Tag.{tag_data_size}
+use Rattle.lfs_model.specs.format.Log.{LogEntry, with_commit, tag_at, entry_at, entry_end, closes, IsCommit, AreAdjacent, commit_at, longest_sequence, chain_of}
 use Rattle.lfs_model.proofs.Chains.{Lies, lies, commit_none, commit_space, commit_complete, chain_on, chain_none, chain_sound}
 
 pub from_lies : (block : List ℕ) (at before : ℕ) (e : LogEntry) → Lies block at before e → entry_at block at before ≡ Some e
@@ -39,7 +39,7 @@ lies_on front x at before e l = record {
   bytes = l.bytes ∙ sym (part_of_front front x (tag_data_size e.tag) (at + 4) (omega (arith, l.within, l.size)));
 }
 
-pub lies_within : (front x : List ℕ) (at before : ℕ) (e : LogEntry) → end_offset_of_log_entry at e ≤ length front → Lies (front ++ x) at before e → Lies front at before e
+pub lies_within : (front x : List ℕ) (at before : ℕ) (e : LogEntry) → entry_end at e ≤ length front → Lies (front ++ x) at before e → Lies front at before e
 lies_within front x at before e le l = record {
   tag = l.tag ∙ tag_of_front front x at before (omega arith);
   valid = l.valid;
@@ -49,7 +49,7 @@ lies_within front x at before e le l = record {
 }
 
 -- an entry within the front, whatever follows the front
-entry_moves : (front x y : List ℕ) (at before : ℕ) (e : LogEntry) → end_offset_of_log_entry at e ≤ length front → entry_at (front ++ x) at before ≡ Some e → entry_at (front ++ y) at before ≡ Some e
+entry_moves : (front x y : List ℕ) (at before : ℕ) (e : LogEntry) → entry_end at e ≤ length front → entry_at (front ++ x) at before ≡ Some e → entry_at (front ++ y) at before ≡ Some e
 entry_moves front x y at before e le is = from_lies (front ++ y) at before e (lies_on front y at before e (lies_within front x at before e le (lies (front ++ x) at before e is)))
 
 closes_moves : (front x y : List ℕ) (start at : ℕ) (e : LogEntry) → start ≤ at → at + 4 ≤ length front → closes (front ++ x) start at e ≡ closes (front ++ y) start at e
@@ -64,16 +64,16 @@ commit_moves front x y start at before [] end last le within h = absurd h
 commit_moves front x y start at before (e ∷ []) end last le within h =
     (entry_moves front x y at before e (omega (arith, h.3, within)) h.0, h.1, sym (closes_moves front x y start at e le (omega (arith, h.3, within))) ∙ h.2, h.3, h.4)
 commit_moves front x y start at before (e ∷ f ∷ es) end last le within h =
-    let w = commit_space (front ++ x) start (end_offset_of_log_entry at e) e.tag (f ∷ es) end last h.2 in
-    (entry_moves front x y at before e (omega (arith, w.after, within)) h.0, h.1, commit_moves front x y start (end_offset_of_log_entry at e) e.tag (f ∷ es) end last (omega arith) within h.2)
+    let w = commit_space (front ++ x) start (entry_end at e) e.tag (f ∷ es) end last h.2 in
+    (entry_moves front x y at before e (omega (arith, w.after, within)) h.0, h.1, commit_moves front x y start (entry_end at e) e.tag (f ∷ es) end last (omega arith) within h.2)
 
-chain_space : (block : List ℕ) (start at before : ℕ) (cs : List (List LogEntry)) (end last : ℕ) → AreAdjacentCommitsInBlock block start at before cs end last → at ≤ end
+chain_space : (block : List ℕ) (start at before : ℕ) (cs : List (List LogEntry)) (end last : ℕ) → AreAdjacent block start at before cs end last → at ≤ end
 chain_space block start at before [] end last h = omega (arith, h.0)
 chain_space block start at before (c ∷ cs) end last h =
     let w = commit_space block start at before c h.0 h.1 h.2 in
     omega (arith, w.after, chain_space block h.0 h.0 h.1 cs end last h.3)
 
-pub chain_moves : (front x y : List ℕ) (start at before : ℕ) (cs : List (List LogEntry)) (end last : ℕ) → start ≤ at → end ≤ length front → AreAdjacentCommitsInBlock (front ++ x) start at before cs end last → AreAdjacentCommitsInBlock (front ++ y) start at before cs end last
+pub chain_moves : (front x y : List ℕ) (start at before : ℕ) (cs : List (List LogEntry)) (end last : ℕ) → start ≤ at → end ≤ length front → AreAdjacent (front ++ x) start at before cs end last → AreAdjacent (front ++ y) start at before cs end last
 chain_moves front x y start at before [] end last le within h = h
 chain_moves front x y start at before (c ∷ cs) end last le within h =
     let after = chain_space (front ++ x) h.0 h.0 h.1 cs end last h.3 in
@@ -86,8 +86,8 @@ abbrev pub next_start : List (List LogEntry) → ℕ → ℕ → ℕ
 next_start [] start end = start
 next_start (c ∷ cs) start end = end
 
-chain_more : (block : List ℕ) (start at before : ℕ) (cs : List (List LogEntry)) (end last : ℕ) (es : List LogEntry) (end' last' : ℕ) → AreAdjacentCommitsInBlock block start at before cs end last
-    → IsCommit block (next_start cs start end) end last es end' last' → AreAdjacentCommitsInBlock block start at before (cs ++ es ∷ []) end' last'
+chain_more : (block : List ℕ) (start at before : ℕ) (cs : List (List LogEntry)) (end last : ℕ) (es : List LogEntry) (end' last' : ℕ) → AreAdjacent block start at before cs end last
+    → IsCommit block (next_start cs start end) end last es end' last' → AreAdjacent block start at before (cs ++ es ∷ []) end' last'
 chain_more block start at before [] end last es end' last' h k = (end', last', rw (← h.0, ← h.1) k, (refl, refl))
 chain_more block start at before (c ∷ []) end last es end' last' h k =
     (h.0, h.1, h.2, chain_more block h.0 h.0 h.1 [] end last es end' last' h.3 (rw (← h.3.0) k))
@@ -95,15 +95,15 @@ chain_more block start at before (c ∷ d ∷ cs) end last es end' last' h k =
     (h.0, h.1, h.2, chain_more block h.0 h.0 h.1 (d ∷ cs) end last es end' last' h.3 k)
 
 -- a chain that nothing follows is the computed one
-pub chain_is : (block : List ℕ) (start at before : ℕ) (cs : List (List LogEntry)) (end last : ℕ) → AreAdjacentCommitsInBlock block start at before cs end last
-    → commit_at block (next_start cs start end) end last ≡ None → longest_commit_sequence_at block start at before ≡ record { commits = cs; end = end; last = last }
+pub chain_is : (block : List ℕ) (start at before : ℕ) (cs : List (List LogEntry)) (end last : ℕ) → AreAdjacent block start at before cs end last
+    → commit_at block (next_start cs start end) end last ≡ None → longest_sequence block start at before ≡ record { commits = cs; end = end; last = last }
 chain_is block start at before [] end last h none = chain_none block start at before (rw (h.0, h.1) at none) ∙ rw (h.0, h.1) refl
 chain_is block start at before (c ∷ []) end last h none =
     chain_on block start at before (record { entries = c; end = h.0; last = h.1 }) (commit_complete block start at before c h.0 h.1 h.2)
-    ∙ ap (commit_sequence_with_commit_first c) (chain_is block h.0 h.0 h.1 [] end last h.3 (subst (λ (s : ℕ). commit_at block s end last ≡ None) h.3.0 none))
+    ∙ ap (with_commit c) (chain_is block h.0 h.0 h.1 [] end last h.3 (subst (λ (s : ℕ). commit_at block s end last ≡ None) h.3.0 none))
 chain_is block start at before (c ∷ d ∷ cs) end last h none =
     chain_on block start at before (record { entries = c; end = h.0; last = h.1 }) (commit_complete block start at before c h.0 h.1 h.2)
-    ∙ ap (commit_sequence_with_commit_first c) (chain_is block h.0 h.0 h.1 (d ∷ cs) end last h.3 none)
+    ∙ ap (with_commit c) (chain_is block h.0 h.0 h.1 (d ∷ cs) end last h.3 none)
 
 -- one commit more, after a chain that ends at the end of the front
 pub appended : (front x y : List ℕ) (es : List LogEntry) (end last : ℕ) → (chain_of (front ++ x)).end ≡ length front
@@ -113,7 +113,7 @@ pub appended : (front x y : List ℕ) (es : List LogEntry) (end last : ℕ) → 
 unfolding chain_of
 appended front x y es end last ends commit none =
     let old = chain_of (front ++ x) in
-    let was : AreAdjacentCommitsInBlock (front ++ x) 0 4 0xffffffff old.commits old.end old.last = chain_sound (length (front ++ x) - 4) (front ++ x) 0 4 0xffffffff in
+    let was : AreAdjacent (front ++ x) 0 4 0xffffffff old.commits old.end old.last = chain_sound (length (front ++ x) - 4) (front ++ x) 0 4 0xffffffff in
     let kept = chain_moves front x y 0 4 0xffffffff old.commits old.end old.last (omega arith) (omega (arith, ends)) was in
     let here : IsCommit (front ++ y) (next_start old.commits 0 old.end) old.end old.last es end last = rw ends commit in
     let whole = chain_more (front ++ y) 0 4 0xffffffff old.commits old.end old.last es end last kept here in

@@ -4,8 +4,8 @@ use Rattle.std.specs.List.{take-map, drop-map}
 use Rattle.std.proofs.lemmas.Bool.{cases_order}
 use Rattle.std.proofs.lemmas.Bool.Decides.{nat_tests}
 use Rattle.std.proofs.lemmas.List.{map-append, map-set, get_or-map, replicate-append-replicate}
-use Rattle.lfs_model.specs.Slots.{Attributes}
-use Rattle.lfs_model.specs.Content.{RawSlot, empty_slot, attributes_with_attribute, attributes_without_attribute, raw_slots_with_function_applied_at_id}
+use Rattle.lfs_model.specs.format.Slots.{Attributes}
+use Rattle.lfs_model.specs.format.Content.{RawSlot, empty_slot, attributes_with, attributes_without, changed_at}
 use Rattle.lfs_tag.specs.declared.content.Slot.{Slot}
 use Rattle.lfs_tag.specs.declared.content.Attribute.{Attribute}
 use Rattle.lfs_tag.specs.ContentView.{slot_view, attribute_view, index_for_attribute}
@@ -20,7 +20,7 @@ map-insert f xs i x = map-append f (take i xs) (x ∷ drop i xs) ∙ rw (take-ma
 
 -- the attribute of that type stands where one of its type or a greater one first stands
 pub put_same : (type : ℕ) (bytes : List ℕ) (xs : Attributes) (x : ℕ × List ℕ) → index_for_attribute type xs < length xs → (get_or xs (index_for_attribute type xs) x).0 ≡ type
-    → attributes_with_attribute type bytes xs ≡ set xs (index_for_attribute type xs) (type, bytes)
+    → attributes_with type bytes xs ≡ set xs (index_for_attribute type xs) (type, bytes)
 put_same type bytes [] x lt same = absurd (omega arith)
 put_same type bytes (a ∷ xs) x lt same = elim (cases_order type a.0) [
   | inl equal ↦
@@ -40,7 +40,7 @@ put_same type bytes (a ∷ xs) x lt same = elim (cases_order type a.0) [
 
 -- no attribute of that type is there
 pub put_other : (type : ℕ) (bytes : List ℕ) (xs : Attributes) (x : ℕ × List ℕ) → (index_for_attribute type xs < length xs → (get_or xs (index_for_attribute type xs) x).0 ≡ type → ⊥)
-    → attributes_with_attribute type bytes xs ≡ insert xs (index_for_attribute type xs) (type, bytes)
+    → attributes_with type bytes xs ≡ insert xs (index_for_attribute type xs) (type, bytes)
 put_other type bytes [] x other = refl
 put_other type bytes (a ∷ xs) x other = elim (cases_order type a.0) [
   | inl equal ↦
@@ -65,12 +65,12 @@ first_within type (a ∷ xs) = by_test (leb type a.0) (first_within type xs)
     by_test true within = omega arith
     by_test false within = omega arith
 
-pub without_is : (kind : ℕ) (xs : List Attribute) → map attribute_view (filter (λ a. not (eqb a.kind kind)) xs) ≡ attributes_without_attribute kind (map attribute_view xs)
+pub without_is : (kind : ℕ) (xs : List Attribute) → map attribute_view (filter (λ a. not (eqb a.kind kind)) xs) ≡ attributes_without kind (map attribute_view xs)
 without_is kind [] = refl
 without_is kind (a ∷ xs) = by_test (eqb a.kind kind) (without_is kind xs)
   where
-    by_test : (b : Bool) → map attribute_view (filter (λ a. not (eqb a.kind kind)) xs) ≡ attributes_without_attribute kind (map attribute_view xs) → map attribute_view (cond (not b) (a ∷ filter (λ a. not (eqb a.kind kind)) xs) (filter (λ a. not (eqb a.kind kind)) xs))
-        ≡ cond (not b) (attribute_view a ∷ attributes_without_attribute kind (map attribute_view xs)) (attributes_without_attribute kind (map attribute_view xs))
+    by_test : (b : Bool) → map attribute_view (filter (λ a. not (eqb a.kind kind)) xs) ≡ attributes_without kind (map attribute_view xs) → map attribute_view (cond (not b) (a ∷ filter (λ a. not (eqb a.kind kind)) xs) (filter (λ a. not (eqb a.kind kind)) xs))
+        ≡ cond (not b) (attribute_view a ∷ attributes_without kind (map attribute_view xs)) (attributes_without kind (map attribute_view xs))
     by_test true rest = rest
     by_test false rest = ap (λ (ys : Attributes). attribute_view a ∷ ys) rest
 
@@ -82,6 +82,6 @@ one_more xs ys n e = rw (e, append_assoc xs (replicate n empty_slot) (empty_slot
 
 -- a slot that is changed in the code is changed as it is seen
 pub changed_is : (f : RawSlot → RawSlot) (xs : List Slot) (i : ℕ) (x y : Slot) → i < length xs → x ≡ get_or xs i x → slot_view y ≡ f (slot_view x)
-    → map slot_view (set xs i y) ≡ raw_slots_with_function_applied_at_id f (map slot_view xs) i
+    → map slot_view (set xs i y) ≡ changed_at f (map slot_view xs) i
 changed_is f xs i x y lt is new =
     map-set slot_view xs i y ∙ ap (set (map slot_view xs) i) (new ∙ ap f (ap slot_view is ∙ sym (get_or-map slot_view xs i x empty_slot lt)))

@@ -6,11 +6,11 @@ use Rattle.std.proofs.lemmas.Nat.{xor_mod}
 use Rattle.std.proofs.lemmas.Bool.Decides.{nat_tests}
 use Rattle.std.proofs.lemmas.List.{length-append}
 use Rattle.byteorder.specs.Endian.{big_number}
-use Rattle.lfs_model.specs.Tag.{chunk_of_tag, tag_data_size, is_tag_ending_or_spoiling_commit, tag_for_decoding_next_tag}
+use Rattle.lfs_model.specs.format.Tag.{tag_chunk, tag_data_size, is_commit_end, tag_before_next}
 use Rattle.std.specs.List.{flat_map}
-use Rattle.lfs_model.specs.Log.{LogEntry, entry_at, end_offset_of_log_entry, is_checksum_entry, IsCommit, AreAdjacentCommitsInBlock, chain_of, log_entries_of_block, AreLogEntriesBetweenOffsets, run_within, log_entries_between_offsets}
+use Rattle.lfs_model.specs.format.Log.{LogEntry, entry_at, entry_end, is_checksum_entry, IsCommit, AreAdjacent, chain_of, block_entries, AreEntriesBetween, run_within, entries_between}
 use Rattle.lfs_model.proofs.Checksums.{xor_cancel}
-use Rattle.lfs_model.specs.Content.{has_commit}
+use Rattle.lfs_model.specs.format.Content.{has_commit}
 use Rattle.lfs_model.proofs.Chains.{lies, commit_space, chain_sound}
 
 run_zero : (n : ℕ) (block : List ℕ) (at before end : ℕ) → end ≤ at → run_within n block at before end ≡ []
@@ -25,19 +25,19 @@ run_fuel (suc n) zero block at before end p q = run_zero (suc n) block at before
 run_fuel (suc n) (suc m) block at before end p q =
     elim (entry_at block at before) as (λ o. step n o ≡ step m o) [
       | None ↦ refl
-      | Some e ↦ ap (λ (es : List LogEntry). cond (ltb at end) (e ∷ es) []) (run_fuel n m block (end_offset_of_log_entry at e) (tag_for_decoding_next_tag e.tag) end (omega arith) (omega arith))
+      | Some e ↦ ap (λ (es : List LogEntry). cond (ltb at end) (e ∷ es) []) (run_fuel n m block (entry_end at e) (tag_before_next e.tag) end (omega arith) (omega arith))
     ]
   where
     step : ℕ → Option LogEntry → List LogEntry
-    step k o = cond (ltb at end) (option_map_or (λ e. e ∷ run_within k block (end_offset_of_log_entry at e) (tag_for_decoding_next_tag e.tag) end) o []) []
+    step k o = cond (ltb at end) (option_map_or (λ e. e ∷ run_within k block (entry_end at e) (tag_before_next e.tag) end) o []) []
 
-run_more : (block : List ℕ) (at before end : ℕ) → log_entries_between_offsets block at before end ≡ run_within (suc (end - at)) block at before end
+run_more : (block : List ℕ) (at before end : ℕ) → entries_between block at before end ≡ run_within (suc (end - at)) block at before end
 run_more block at before end = run_fuel (end - at) (suc (end - at)) block at before end (omega arith) (omega arith)
 
-pub run_past : (block : List ℕ) (at before end : ℕ) → end ≤ at → log_entries_between_offsets block at before end ≡ []
+pub run_past : (block : List ℕ) (at before end : ℕ) → end ≤ at → entries_between block at before end ≡ []
 run_past block at before end le = run_zero (end - at) block at before end le
 
-pub run_none : (block : List ℕ) (at before end : ℕ) → entry_at block at before ≡ None → log_entries_between_offsets block at before end ≡ []
+pub run_none : (block : List ℕ) (at before end : ℕ) → entry_at block at before ≡ None → entries_between block at before end ≡ []
 unfolding run_within
 run_none block at before end is = run_more block at before end ∙ rw is (either (ltb at end))
   where
@@ -46,27 +46,27 @@ run_none block at before end is = run_more block at before end ∙ rw is (either
     either false = refl
 
 pub run_on : (block : List ℕ) (at before end : ℕ) (e : LogEntry) → at < end → entry_at block at before ≡ Some e
-    → log_entries_between_offsets block at before end ≡ e ∷ log_entries_between_offsets block (end_offset_of_log_entry at e) (tag_for_decoding_next_tag e.tag) end
+    → entries_between block at before end ≡ e ∷ entries_between block (entry_end at e) (tag_before_next e.tag) end
 unfolding run_within
 run_on block at before end e lt is =
     let inside : ltb at end ≡ true = grind (arith, nat_tests) in
-    run_more block at before end ∙ rw (inside, is) (ap (λ (es : List LogEntry). e ∷ es) (run_fuel (end - at) (end - end_offset_of_log_entry at e) block (end_offset_of_log_entry at e) (tag_for_decoding_next_tag e.tag) end (omega arith) (omega arith)))
+    run_more block at before end ∙ rw (inside, is) (ap (λ (es : List LogEntry). e ∷ es) (run_fuel (end - at) (end - entry_end at e) block (entry_end at e) (tag_before_next e.tag) end (omega arith) (omega arith)))
 
 -- a run ends where it begins, or after
-pub run_space : (block : List ℕ) (at before : ℕ) (es : List LogEntry) (end last : ℕ) → AreLogEntriesBetweenOffsets block at before es end last → at ≤ end
+pub run_space : (block : List ℕ) (at before : ℕ) (es : List LogEntry) (end last : ℕ) → AreEntriesBetween block at before es end last → at ≤ end
 run_space block at before [] end last h = omega (arith, h.0)
-run_space block at before (e ∷ es) end last h = omega (arith, run_space block (end_offset_of_log_entry at e) (tag_for_decoding_next_tag e.tag) es end last h.1)
+run_space block at before (e ∷ es) end last h = omega (arith, run_space block (entry_end at e) (tag_before_next e.tag) es end last h.1)
 
 -- the one run from a place to another
-pub run_is : (block : List ℕ) (at before : ℕ) (es : List LogEntry) (end last : ℕ) → AreLogEntriesBetweenOffsets block at before es end last → log_entries_between_offsets block at before end ≡ es
+pub run_is : (block : List ℕ) (at before : ℕ) (es : List LogEntry) (end last : ℕ) → AreEntriesBetween block at before es end last → entries_between block at before end ≡ es
 run_is block at before [] end last h = run_past block at before end (omega (arith, h.0))
 run_is block at before (e ∷ es) end last h =
-    let after = run_space block (end_offset_of_log_entry at e) (tag_for_decoding_next_tag e.tag) es end last h.1 in
-    run_on block at before end e (omega (arith, after)) h.0 ∙ ap (λ (es : List LogEntry). e ∷ es) (run_is block (end_offset_of_log_entry at e) (tag_for_decoding_next_tag e.tag) es end last h.1)
+    let after = run_space block (entry_end at e) (tag_before_next e.tag) es end last h.1 in
+    run_on block at before end e (omega (arith, after)) h.0 ∙ ap (λ (es : List LogEntry). e ∷ es) (run_is block (entry_end at e) (tag_before_next e.tag) es end last h.1)
 
 -- what is left after the first entry
-pub run_rest : (block : List ℕ) (at before end last : ℕ) (e : LogEntry) → at < end → entry_at block at before ≡ Some e → AreLogEntriesBetweenOffsets block at before (log_entries_between_offsets block at before end) end last
-    → AreLogEntriesBetweenOffsets block (end_offset_of_log_entry at e) (tag_for_decoding_next_tag e.tag) (log_entries_between_offsets block (end_offset_of_log_entry at e) (tag_for_decoding_next_tag e.tag) end) end last
+pub run_rest : (block : List ℕ) (at before end last : ℕ) (e : LogEntry) → at < end → entry_at block at before ≡ Some e → AreEntriesBetween block at before (entries_between block at before end) end last
+    → AreEntriesBetween block (entry_end at e) (tag_before_next e.tag) (entries_between block (entry_end at e) (tag_before_next e.tag) end) end last
 run_rest block at before end last e lt is run = let whole = run_on block at before end e lt is in let r = rw whole at run in r.1
 
 -- ---- from the back
@@ -77,30 +77,30 @@ pub record Ends (block : List ℕ) (at before : ℕ) (es : List LogEntry) (end l
   pub mid : ℕ
   pub carry : ℕ
   pub entry : LogEntry
-  pub run : AreLogEntriesBetweenOffsets block at before front mid carry
+  pub run : AreEntriesBetween block at before front mid carry
   pub is : entry_at block mid carry ≡ Some entry
-  pub end_is : end ≡ end_offset_of_log_entry mid entry
-  pub last_is : last ≡ tag_for_decoding_next_tag entry.tag
+  pub end_is : end ≡ entry_end mid entry
+  pub last_is : last ≡ tag_before_next entry.tag
   pub list : es ≡ front ++ entry ∷ []
 
-pub ends : (block : List ℕ) (at before : ℕ) (es : List LogEntry) (end last : ℕ) → AreLogEntriesBetweenOffsets block at before es end last → at < end → Ends block at before es end last
+pub ends : (block : List ℕ) (at before : ℕ) (es : List LogEntry) (end last : ℕ) → AreEntriesBetween block at before es end last → at < end → Ends block at before es end last
 ends block at before [] end last h lt = absurd (omega (arith, h.0))
 ends block at before (e ∷ []) end last h lt =
     record { front = []; mid = at; carry = before; entry = e; run = (refl, refl); is = h.0; end_is = sym h.1.0; last_is = sym h.1.1; list = refl }
 ends block at before (e ∷ f ∷ es) end last h lt =
-    let after = run_space block (end_offset_of_log_entry (end_offset_of_log_entry at e) f) (tag_for_decoding_next_tag f.tag) es end last h.1.1 in
-    let r = ends block (end_offset_of_log_entry at e) (tag_for_decoding_next_tag e.tag) (f ∷ es) end last h.1 (omega (arith, after)) in
+    let after = run_space block (entry_end (entry_end at e) f) (tag_before_next f.tag) es end last h.1.1 in
+    let r = ends block (entry_end at e) (tag_before_next e.tag) (f ∷ es) end last h.1 (omega (arith, after)) in
     record { front = e ∷ r.front; mid = r.mid; carry = r.carry; entry = r.entry; run = (h.0, r.run); is = r.is; end_is = r.end_is; last_is = r.last_is; list = ap (λ (xs : List LogEntry). e ∷ xs) r.list }
 
 -- the tag that carries so
-pub carried_mod : (tag : ℕ) → tag < 2 ^ 31 → tag_for_decoding_next_tag tag % 2 ^ 31 ≡ tag
-carried_mod tag lt = by_class (is_tag_ending_or_spoiling_commit tag)
+pub carried_mod : (tag : ℕ) → tag < 2 ^ 31 → tag_before_next tag % 2 ^ 31 ≡ tag
+carried_mod tag lt = by_class (is_commit_end tag)
   where
-    by_class : (b : Bool) → cond b (bit_xor tag (chunk_of_tag tag % 2 * 2 ^ 31)) tag % 2 ^ 31 ≡ tag
+    by_class : (b : Bool) → cond b (bit_xor tag (tag_chunk tag % 2 * 2 ^ 31)) tag % 2 ^ 31 ≡ tag
     by_class true =
-        let none : chunk_of_tag tag % 2 * 2 ^ 31 % 2 ^ 31 ≡ 0 = omega arith in
+        let none : tag_chunk tag % 2 * 2 ^ 31 % 2 ^ 31 ≡ 0 = omega arith in
         let low : tag % 2 ^ 31 ≡ tag = omega arith in
-        xor_mod tag (chunk_of_tag tag % 2 * 2 ^ 31) 31 ∙ rw (none, low) (xor_zero_r tag)
+        xor_mod tag (tag_chunk tag % 2 * 2 ^ 31) 31 ∙ rw (none, low) (xor_zero_r tag)
     by_class false = omega arith
 
 -- the last entry, by what the code knows: where the run ends and what its last tag carries
@@ -108,14 +108,14 @@ pub record Back (block : List ℕ) (at before : ℕ) (es : List LogEntry) (end l
   pub room : 4 + tag_data_size (last % 2 ^ 31) ≤ end
   pub within : end ≤ length block
   pub ahead : at + 4 + tag_data_size (last % 2 ^ 31) ≤ end
-  pub run : (start : ℕ) → start + 4 + tag_data_size (last % 2 ^ 31) ≡ end → AreLogEntriesBetweenOffsets block at before (log_entries_between_offsets block at before start) start (bit_xor (big_number 4 (drop start block)) (last % 2 ^ 31))
-  pub list : (start : ℕ) → start + 4 + tag_data_size (last % 2 ^ 31) ≡ end → es ≡ log_entries_between_offsets block at before start ++ record { tag = last % 2 ^ 31; bytes = slice_range block (start + 4) end } ∷ []
+  pub run : (start : ℕ) → start + 4 + tag_data_size (last % 2 ^ 31) ≡ end → AreEntriesBetween block at before (entries_between block at before start) start (bit_xor (big_number 4 (drop start block)) (last % 2 ^ 31))
+  pub list : (start : ℕ) → start + 4 + tag_data_size (last % 2 ^ 31) ≡ end → es ≡ entries_between block at before start ++ record { tag = last % 2 ^ 31; bytes = slice_range block (start + 4) end } ∷ []
 
 -- the tag before, from the stored one and this one
 before_is : (stored carry tag : ℕ) → tag ≡ bit_xor stored carry → carry ≡ bit_xor stored tag
 before_is stored carry tag e = rw e (sym (xor_cancel stored carry))
 
-pub back : (block : List ℕ) (at before : ℕ) (es : List LogEntry) (end last : ℕ) → AreLogEntriesBetweenOffsets block at before es end last → at < end → Back block at before es end last
+pub back : (block : List ℕ) (at before : ℕ) (es : List LogEntry) (end last : ℕ) → AreEntriesBetween block at before es end last → at < end → Back block at before es end last
 back block at before es end last h lt =
     let r = ends block at before es end last h lt in
     let e = r.entry in
@@ -141,35 +141,35 @@ shorter xs ys e h = omega (arith, ap length h, length-append ys (e ∷ []))
 
 -- ---- a chain is a run
 
-IsRun-append : (block : List ℕ) (at before : ℕ) (xs : List LogEntry) (mid carry : ℕ) (ys : List LogEntry) (end last : ℕ) → AreLogEntriesBetweenOffsets block at before xs mid carry → AreLogEntriesBetweenOffsets block mid carry ys end last → AreLogEntriesBetweenOffsets block at before (xs ++ ys) end last
+IsRun-append : (block : List ℕ) (at before : ℕ) (xs : List LogEntry) (mid carry : ℕ) (ys : List LogEntry) (end last : ℕ) → AreEntriesBetween block at before xs mid carry → AreEntriesBetween block mid carry ys end last → AreEntriesBetween block at before (xs ++ ys) end last
 IsRun-append block at before [] mid carry ys end last h k = rw (h.0, h.1) k
-IsRun-append block at before (x ∷ xs) mid carry ys end last h k = (h.0, IsRun-append block (end_offset_of_log_entry at x) (tag_for_decoding_next_tag x.tag) xs mid carry ys end last h.1 k)
+IsRun-append block at before (x ∷ xs) mid carry ys end last h k = (h.0, IsRun-append block (entry_end at x) (tag_before_next x.tag) xs mid carry ys end last h.1 k)
 
-carried_other : (e : LogEntry) → is_checksum_entry e ≡ false → tag_for_decoding_next_tag e.tag ≡ e.tag
+carried_other : (e : LogEntry) → is_checksum_entry e ≡ false → tag_before_next e.tag ≡ e.tag
 carried_other e other = rw other refl
 
-commit_run : (block : List ℕ) (start at before : ℕ) (es : List LogEntry) (end last : ℕ) → IsCommit block start at before es end last → AreLogEntriesBetweenOffsets block at before es end last
+commit_run : (block : List ℕ) (start at before : ℕ) (es : List LogEntry) (end last : ℕ) → IsCommit block start at before es end last → AreEntriesBetween block at before es end last
 commit_run block start at before [] end last h = absurd h
 commit_run block start at before (e ∷ []) end last h = (h.0, (sym h.3, sym h.4))
-commit_run block start at before (e ∷ f ∷ es) end last h = (h.0, rw (carried_other e h.1) (commit_run block start (end_offset_of_log_entry at e) e.tag (f ∷ es) end last h.2))
+commit_run block start at before (e ∷ f ∷ es) end last h = (h.0, rw (carried_other e h.1) (commit_run block start (entry_end at e) e.tag (f ∷ es) end last h.2))
 
-pub chain_run : (block : List ℕ) (start at before : ℕ) (cs : List (List LogEntry)) (end last : ℕ) → AreAdjacentCommitsInBlock block start at before cs end last → AreLogEntriesBetweenOffsets block at before (flat_map (λ c. c) cs) end last
+pub chain_run : (block : List ℕ) (start at before : ℕ) (cs : List (List LogEntry)) (end last : ℕ) → AreAdjacent block start at before cs end last → AreEntriesBetween block at before (flat_map (λ c. c) cs) end last
 chain_run block start at before [] end last h = (sym h.0, sym h.1)
 chain_run block start at before (c ∷ cs) end last h =
     IsRun-append block at before c h.0 h.1 (flat_map (λ c. c) cs) end last (commit_run block start at before c h.0 h.1 h.2) (chain_run block h.0 h.0 h.1 cs end last h.3)
 
 -- the run of all entries of a block's chain
-pub all_run : (block : List ℕ) → AreLogEntriesBetweenOffsets block 4 0xffffffff (log_entries_of_block block) (chain_of block).end (chain_of block).last
+pub all_run : (block : List ℕ) → AreEntriesBetween block 4 0xffffffff (block_entries block) (chain_of block).end (chain_of block).last
 unfolding chain_of
 all_run block = chain_run block 0 4 0xffffffff (chain_of block).commits (chain_of block).end (chain_of block).last (chain_sound (length block - 4) block 0 4 0xffffffff)
 
-pub all_is : (block : List ℕ) → log_entries_between_offsets block 4 0xffffffff (chain_of block).end ≡ log_entries_of_block block
-all_is block = run_is block 4 0xffffffff (log_entries_of_block block) (chain_of block).end (chain_of block).last (all_run block)
+pub all_is : (block : List ℕ) → entries_between block 4 0xffffffff (chain_of block).end ≡ block_entries block
+all_is block = run_is block 4 0xffffffff (block_entries block) (chain_of block).end (chain_of block).last (all_run block)
 
 -- each entry takes four bytes and more
-pub run_count : (block : List ℕ) (at before : ℕ) (es : List LogEntry) (end last : ℕ) → AreLogEntriesBetweenOffsets block at before es end last → at + 4 * length es ≤ end
+pub run_count : (block : List ℕ) (at before : ℕ) (es : List LogEntry) (end last : ℕ) → AreEntriesBetween block at before es end last → at + 4 * length es ≤ end
 run_count block at before [] end last h = omega (arith, h.0)
-run_count block at before (e ∷ es) end last h = omega (arith, run_count block (end_offset_of_log_entry at e) (tag_for_decoding_next_tag e.tag) es end last h.1)
+run_count block at before (e ∷ es) end last h = omega (arith, run_count block (entry_end at e) (tag_before_next e.tag) es end last h.1)
 
 -- there is a commit where the chain goes on past the revision
 pub goes_on : (block : List ℕ) → ltb 4 (chain_of block).end ≡ has_commit block
@@ -178,7 +178,7 @@ goes_on block =
     let c = chain_of block in
     by_commits c.commits (chain_sound (length block - 4) block 0 4 0xffffffff)
   where
-    by_commits : (cs : List (List LogEntry)) → AreAdjacentCommitsInBlock block 0 4 0xffffffff cs (chain_of block).end (chain_of block).last → ltb 4 (chain_of block).end ≡ ltb 0 (length cs)
+    by_commits : (cs : List (List LogEntry)) → AreAdjacent block 0 4 0xffffffff cs (chain_of block).end (chain_of block).last → ltb 4 (chain_of block).end ≡ ltb 0 (length cs)
     by_commits [] h = rw h.0 refl
     by_commits (c ∷ cs) h =
         let first = commit_space block 0 4 0xffffffff c h.0 h.1 h.2 in

@@ -4,7 +4,7 @@ use Rattle.std.specs.Int.Bits.{bit_xor, xor_zero_r, xor_shifted, xor_assoc}
 use Rattle.std.proofs.lemmas.Bool.{eqb-true}
 use Rattle.std.proofs.lemmas.Nat.{xor_comm, xor_shr, xor_mod}
 use Rattle.std.proofs.Math.Nat.{pow-suc}
-use Rattle.lfs_model.specs.Crc.{crc_after_bit, next_bits}
+use Rattle.lfs_model.specs.format.Crc.{crc_after_bit, next_bits}
 use Rattle.lfs_tag.specs.declared.crc_table.TheConstants.{AFTER}
 
 -- the lowest bit alone decides what is mixed in, and the others move down

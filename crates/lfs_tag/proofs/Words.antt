@@ -4,7 +4,7 @@ use Rattle.std.specs.Int.Bits.{bit_xor, xor_zero_r, xor_shifted, xor_assoc}
 use Rattle.std.proofs.lemmas.Bool.{cases_lt}
 use Rattle.std.proofs.lemmas.Nat.{xor_comm, xor_shr, xor_mod}
 use Rattle.byteorder.specs.Endian.{little_from}
-use Rattle.lfs_model.specs.Crc.{crc_after_bit, next_bits, crc_of}
+use Rattle.lfs_model.specs.format.Crc.{crc_after_bit, next_bits, crc_of}
 use Rattle.lfs_model.proofs.Checksums.{xor_swap, AreBytes}
 use Rattle.lfs_tag.proofs.Table.{by_low_byte, next_bits-xor}
 

@@ -1,24 +1,24 @@
 -- A commit's bytes before its checksum, and what a builder keeps of them.
 use Rattle.std.specs.Prelude.{◌≡◌, ◌<◌, ◌≤◌, ℕ, ◌^◌, ◌-◌, true, false, List, [], ◌∷◌, ◌++◌, length, take, min, bit_xor, Option, Some, None, IfSome}
 use Rattle.byteorder.specs.Endian.{little_bytes}
-use Rattle.lfs_model.specs.Tag.{IsValidTag, tag_data_size, tag_for_decoding_next_tag}
-use Rattle.lfs_model.specs.Log.{LogEntry, is_checksum_entry}
-use Rattle.lfs_model.specs.Commit.{encoded_bytes_of_log_entries}
-use Rattle.lfs_model.specs.Geometry.{is_valid_page_size}
-use Rattle.lfs_tag.specs.Builder.{CommitBeingBuilt, checksum_start}
+use Rattle.lfs_model.specs.format.Tag.{IsValidTag, tag_data_size, tag_before_next}
+use Rattle.lfs_model.specs.format.Log.{LogEntry, is_checksum_entry}
+use Rattle.lfs_model.specs.layers.Commit.{encoded_entries}
+use Rattle.lfs_model.specs.format.Geometry.{is_page}
+use Rattle.lfs_tag.specs.Builder.{PartialCommit, checksum_start}
 
 -- what the last of the tags is carried as
-abbrev pub last_tag_after_entries : ℕ → List LogEntry → ℕ
-last_tag_after_entries before [] = before
-last_tag_after_entries before (e ∷ es) = last_tag_after_entries (tag_for_decoding_next_tag e.tag) es
+abbrev pub last_after : ℕ → List LogEntry → ℕ
+last_after before [] = before
+last_after before (e ∷ es) = last_after (tag_before_next e.tag) es
 
 abbrev pub revision_bytes : Option ℕ → List ℕ
 revision_bytes None = []
 revision_bytes (Some revision) = little_bytes 4 revision
 
 -- all bytes before the checksum
-abbrev pub bytes_before_checksum : CommitBeingBuilt → List ℕ
-bytes_before_checksum b = revision_bytes b.revision ++ encoded_bytes_of_log_entries b.previous b.entries
+abbrev pub bytes_to_checksum : PartialCommit → List ℕ
+bytes_to_checksum b = revision_bytes b.revision ++ encoded_entries b.previous b.entries
 
 -- an entry that is no checksum, and is read as the same entry
 pub record IsStorableEntry (before : ℕ) (e : LogEntry) : Type 0 where
@@ -29,15 +29,15 @@ pub record IsStorableEntry (before : ℕ) (e : LogEntry) : Type 0 where
 
 abbrev pub AreStorableEntries : ℕ → List LogEntry → Type 0
 AreStorableEntries before [] = Unit {0}
-AreStorableEntries before (e ∷ es) = IsStorableEntry before e × AreStorableEntries (tag_for_decoding_next_tag e.tag) es
+AreStorableEntries before (e ∷ es) = IsStorableEntry before e × AreStorableEntries (tag_before_next e.tag) es
 
 -- The fields of a builder: how many bytes there are, whether they fit or not, the last tag, and the bytes where they fit.
-pub record IsBuilderOfCommit (page len last : ℕ) (buf : List ℕ) (b : CommitBeingBuilt) : Type 0 where
+pub record BuildsCommit (page len last : ℕ) (buf : List ℕ) (b : PartialCommit) : Type 0 where
   pub page_is : page ≡ b.page
-  pub power : is_valid_page_size b.page ≡ true
+  pub power : is_page b.page ≡ true
   pub room : length buf ≡ b.room
   pub len_is : len ≡ min (checksum_start b) (2 ^ 64 - 1)
-  pub last_is : last ≡ last_tag_after_entries b.previous b.entries
+  pub last_is : last ≡ last_after b.previous b.entries
   pub revision : IfSome b.revision (λ r. r < 2 ^ 32)
   pub entries : AreStorableEntries b.previous b.entries
-  pub bytes : len ≤ length buf → take len buf ≡ bytes_before_checksum b
+  pub bytes : len ≤ length buf → take len buf ≡ bytes_to_checksum b

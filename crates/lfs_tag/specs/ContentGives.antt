@@ -6,16 +6,16 @@ use Rattle.lfs_device.specs.declared.error.Error.{Error}
 use Rattle.lfs_device.specs.declared.error.Error.TheVariants.{Corrupt, NoMemory}
 
 -- The error is that of a malformed log, or of memory that wasn't granted, which may come at any log.
-abbrev pub IsErrorOfReadingContent : {S : Type 0} → ContentError → Option S → Type 0
-IsErrorOfReadingContent errors.NoMemory o = Unit {0}
-IsErrorOfReadingContent errors.Malformed o = o ≡ None
+abbrev pub IsContentError : {S : Type 0} → ContentError → Option S → Type 0
+IsContentError errors.NoMemory o = Unit {0}
+IsContentError errors.Malformed o = o ≡ None
 
 -- the value that was computed is left, unless memory ran out
-abbrev pub GivesValueUnlessNoMemory : {X S : Type 0} → (X → S) → Result X ContentError → Option S → Type 0
-GivesValueUnlessNoMemory view (Ok x) o = o ≡ Some (view x)
-GivesValueUnlessNoMemory view (Err e) o = IsErrorOfReadingContent e o
+abbrev pub GivesWithMemory : {X S : Type 0} → (X → S) → Result X ContentError → Option S → Type 0
+GivesWithMemory view (Ok x) o = o ≡ Some (view x)
+GivesWithMemory view (Err e) o = IsContentError e o
 
 -- the same as the file system's error
-abbrev pub error_of_content_error : ContentError → Error
-error_of_content_error errors.Malformed = Corrupt
-error_of_content_error errors.NoMemory = NoMemory
+abbrev pub error_of_content : ContentError → Error
+error_of_content errors.Malformed = Corrupt
+error_of_content errors.NoMemory = NoMemory

@@ -1,9 +1,9 @@
 -- The content of the code, as the definitions have it: without where its bytes are in memory.
 use Rattle.std.specs.Prelude.{ℕ, suc, if◌then◌else◌, nat_le, List, [], ◌∷◌, map}
 use Rattle.std.specs.Option.{option_map}
-use Rattle.lfs_model.specs.Slots.{Attributes, pair_address_of_array}
-use Rattle.lfs_model.specs.Slots as slots
-use Rattle.lfs_model.specs.Content.{RawSlot, RawPairContent}
+use Rattle.lfs_model.specs.format.Slots.{Attributes, array_address}
+use Rattle.lfs_model.specs.format.Slots as slots
+use Rattle.lfs_model.specs.format.Content.{RawSlot, RawContent}
 use Rattle.lfs_tag.specs.declared.content.NameOrStruct.{NameOrStruct}
 use Rattle.lfs_tag.specs.declared.content.Attribute.{Attribute}
 use Rattle.lfs_tag.specs.declared.content.Slot.{Slot}
@@ -11,23 +11,23 @@ use Rattle.lfs_tag.specs.declared.content.Tail.{Tail}
 use Rattle.lfs_tag.specs.declared.content.Content.{Content}
 use Rattle.lfs_tag.specs.FieldsView.{move_view}
 
-abbrev pub name_or_struct_view : NameOrStruct → ℕ × List ℕ
-name_or_struct_view p = (p.kind, p.bytes.now)
+abbrev pub data_view : NameOrStruct → ℕ × List ℕ
+data_view p = (p.kind, p.bytes.now)
 
 abbrev pub attribute_view : Attribute → ℕ × List ℕ
 attribute_view a = (a.kind, a.bytes.now)
 
 abbrev pub slot_view : Slot → RawSlot
 slot_view s = record {
-  name = option_map name_or_struct_view s.name;
-  struct = option_map name_or_struct_view s.structure;
+  name = option_map data_view s.name;
+  struct = option_map data_view s.structure;
   attributes = map attribute_view s.attributes.items;
 }
 
 abbrev pub tail_view : Tail → slots.Tail
-tail_view t = record { hard = t.hard; to = pair_address_of_array t.pair }
+tail_view t = record { hard = t.hard; to = array_address t.pair }
 
-abbrev pub content_view : Content → RawPairContent
+abbrev pub content_view : Content → RawContent
 content_view c = record {
   slots = map slot_view c.slots.items;
   tail = option_map tail_view c.tail;

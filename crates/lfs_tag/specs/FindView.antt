@@ -1,21 +1,21 @@
 -- What a search for a name returns.
 use Rattle.std.specs.Prelude.{ℕ, nat_lt, if◌then◌else◌, true, false, List, length, Option}
 use Rattle.lfs_model.specs.declared.order.NameOrder.{NameOrder}
-use Rattle.lfs_model.specs.Content.{RawSlot}
-use Rattle.lfs_model.specs.Lookup.{IsLeastIdOfName, IsIdForNewName}
+use Rattle.lfs_model.specs.format.Content.{RawSlot}
+use Rattle.lfs_model.specs.layers.Lookup.{IsLeastId, IsNewId}
 use Rattle.lfs_tag.specs.declared.lookup.Lookup.{Lookup}
 use Rattle.lfs_tag.specs.declared.lookup.Lookup.TheVariants.{Found, Place}
 use Rattle.lfs_tag.specs.declared.lookup.NameComparison.{NameComparison}
-use Rattle.lfs_tag.specs.Find.{first_unskipped_slot_comparing_as_wanted}
+use Rattle.lfs_tag.specs.Find.{first_wanted_slot}
 
 -- the name is found there, or is absent and belongs there
-abbrev pub IsLookupOfName : NameOrder → List ℕ → Option ℕ → List RawSlot → Lookup → Type 0
-IsLookupOfName order name skip slots (Found id) = IsLeastIdOfName name skip slots id
-IsLookupOfName order name skip slots (Place id) = IsIdForNewName order name skip slots id
+abbrev pub IsNameLookup : NameOrder → List ℕ → Option ℕ → List RawSlot → Lookup → Type 0
+IsNameLookup order name skip slots (Found id) = IsLeastId name skip slots id
+IsNameLookup order name skip slots (Place id) = IsNewId order name skip slots id
 
 -- how it is computed from the slots' comparisons
 abbrev pub lookup_of_comparisons : Option ℕ → List NameComparison → Lookup
 lookup_of_comparisons skip ranks =
-    if nat_lt (first_unskipped_slot_comparing_as_wanted true skip 0 ranks) (length ranks)
-    then Found (first_unskipped_slot_comparing_as_wanted true skip 0 ranks)
-    else Place (first_unskipped_slot_comparing_as_wanted false skip 0 ranks)
+    if nat_lt (first_wanted_slot true skip 0 ranks) (length ranks)
+    then Found (first_wanted_slot true skip 0 ranks)
+    else Place (first_wanted_slot false skip 0 ranks)

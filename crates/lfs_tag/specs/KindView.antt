@@ -1,17 +1,17 @@
 -- What the code makes of a name's type, in the words of the definitions.
 use Rattle.std.specs.Prelude.{ℕ, Bool, false, List, Option, Some, None}
-use Rattle.lfs_model.specs.Content.{kind_of_name_type}
-use Rattle.lfs_model.specs.Slots.{is_superblock_kind}
-use Rattle.lfs_model.specs.Slots as slots
+use Rattle.lfs_model.specs.format.Content.{kind_of_type}
+use Rattle.lfs_model.specs.format.Slots.{names_superblock}
+use Rattle.lfs_model.specs.format.Slots as slots
 use Rattle.lfs_tag.specs.declared.slot_kind.SlotNameKind.{SlotNameKind}
 use Rattle.lfs_tag.specs.declared.slot_kind.SlotNameKind.TheVariants as variant
 
-abbrev pub slot_name_kind_view : SlotNameKind → slots.KindOfSlot
-slot_name_kind_view variant.File = slots.File
-slot_name_kind_view variant.Directory = slots.Directory
-slot_name_kind_view variant.Superblock = slots.Superblock
+abbrev pub name_kind_view : SlotNameKind → slots.SlotKind
+name_kind_view variant.File = slots.File
+name_kind_view variant.Directory = slots.Directory
+name_kind_view variant.Superblock = slots.Superblock
 
 -- whether a name is a superblock's
-abbrev pub is_superblock_name : Option (ℕ × List ℕ) → Bool
-is_superblock_name None = false
-is_superblock_name (Some name) = is_superblock_kind (kind_of_name_type name.0)
+abbrev pub is_superblock_tag : Option (ℕ × List ℕ) → Bool
+is_superblock_tag None = false
+is_superblock_tag (Some name) = names_superblock (kind_of_type name.0)

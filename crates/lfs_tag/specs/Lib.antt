@@ -1,13 +1,13 @@
 pub mod LogEntryView
-pub mod Read
-pub mod Walk
+pub mod LogReading
+pub mod EntryWalk
 pub mod FieldsView
 pub mod ContentView
 pub mod KindView
 pub mod StructView
 pub mod ContentGives
 pub mod Summary
-pub mod Search
+pub mod EntrySearch
 pub mod VerdictView
 pub mod Find
 pub mod FindView

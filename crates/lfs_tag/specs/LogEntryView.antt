@@ -1,6 +1,6 @@
 -- An entry, without where it is in memory.
 use Rattle.lfs_tag.specs.declared.entry.Entry.{Entry}
-use Rattle.lfs_model.specs.Log.{LogEntry}
+use Rattle.lfs_model.specs.format.Log.{LogEntry}
 
 abbrev pub log_entry_view : Entry → LogEntry
 log_entry_view e = record { tag = e.tag; bytes = e.bytes.now }

@@ -2,12 +2,12 @@
 use Rattle.std.specs.Prelude.{◌≡◌, ℕ, ◌+◌, ◌-◌, ◌==◌, ◌&&◌, not, nat_lt, nat_le, if◌then◌else◌, Bool, true, false, List, [], ◌∷◌, ◌++◌, length, map, replicate, slice_set, slice_index_or, Option, Some, None, is_some}
 use Rattle.std.specs.Option.{option_map, option_and_then}
 use Rattle.std.specs.List.{insert, remove}
-use Rattle.lfs_model.specs.Slots.{Gstate, zero_gstate}
-use Rattle.lfs_model.specs.Slots as slots
-use Rattle.lfs_model.specs.Tag.{type_of_tag, id_of_tag, abstract_type_of_tag}
-use Rattle.lfs_model.specs.Log.{LogEntry, log_entries_of_block}
-use Rattle.lfs_model.specs.Content.{RawSlot, RawPairContent, content_after_log_entries, empty_raw_pair_content, pair_content_if_slots_complete}
-use Rattle.lfs_model.specs.EntryTypes.{create_tag_type, delete_tag_type, is_tag_of_known_type_and_length, has_tag_id_if_needed, tail_of_log_entry, gstate_of_bytes}
+use Rattle.lfs_model.specs.format.Slots.{Gstate, zero_gstate}
+use Rattle.lfs_model.specs.format.Slots as slots
+use Rattle.lfs_model.specs.format.Tag.{tag_type, tag_id, abstract_type}
+use Rattle.lfs_model.specs.format.Log.{LogEntry, block_entries}
+use Rattle.lfs_model.specs.format.Content.{RawSlot, RawContent, content_after, empty_raw_content, complete_content}
+use Rattle.lfs_model.specs.format.EntryTypes.{create_tag_type, delete_tag_type, is_known_tag, has_needed_id, entry_tail, read_gstate}
 use Rattle.lfs_tag.specs.ContentView.{tail_view}
 use Rattle.lfs_tag.specs.FieldsView.{move_view}
 use Rattle.lfs_tag.specs.declared.summary.SlotSummary.{SlotSummary}
@@ -15,66 +15,66 @@ use Rattle.lfs_tag.specs.declared.summary.PartialSummary as code
 use Rattle.lfs_tag.specs.declared.summary.Summary.{Summary}
 
 -- the summary is of that content, which is the log's
-pub record IsSummaryOfLogContent (block : List ℕ) (c : RawPairContent) (s : Summary) : Type 0 where
-  pub content : content_after_log_entries empty_raw_pair_content (log_entries_of_block block) ≡ Some c
+pub record IsLogSummary (block : List ℕ) (c : RawContent) (s : Summary) : Type 0 where
+  pub content : content_after empty_raw_content (block_entries block) ≡ Some c
   pub slot_count : s.slot_count ≡ length c.slots
   pub tail : option_map tail_view s.tail ≡ c.tail
   pub move_state : move_view s.move_state ≡ c.move
-  pub complete : s.is_complete ≡ is_some (pair_content_if_slots_complete c)
+  pub complete : s.is_complete ≡ is_some (complete_content c)
 
 -- ---- how it is computed: of each slot only whether it has a name and a struct
 
-abbrev pub name_and_struct_mark_of_slot : RawSlot → SlotSummary
-name_and_struct_mark_of_slot s = record { has_name = is_some s.name; has_struct = is_some s.struct }
+abbrev pub mark_of_slot : RawSlot → SlotSummary
+mark_of_slot s = record { has_name = is_some s.name; has_struct = is_some s.struct }
 
 pub record OutlineOfLog : Type 0 where
   pub marks : List SlotSummary
   pub tail : Option slots.Tail
   pub move : Gstate
 
-abbrev pub outline_of_content : RawPairContent → OutlineOfLog
-outline_of_content c = record { marks = map name_and_struct_mark_of_slot c.slots; tail = c.tail; move = c.move }
+abbrev pub outline_of_content : RawContent → OutlineOfLog
+outline_of_content c = record { marks = map mark_of_slot c.slots; tail = c.tail; move = c.move }
 
 abbrev pub outline_view : code.PartialSummary → OutlineOfLog
 outline_view o = record { marks = o.marks.items; tail = option_map tail_view o.tail; move = move_view o.move_state }
 
-abbrev pub empty_name_and_struct_mark : SlotSummary
-empty_name_and_struct_mark = record { has_name = false; has_struct = false }
+abbrev pub empty_mark : SlotSummary
+empty_mark = record { has_name = false; has_struct = false }
 
-abbrev pub name_and_struct_mark_at_id : List SlotSummary → ℕ → SlotSummary
-name_and_struct_mark_at_id marks id = slice_index_or marks id empty_name_and_struct_mark
+abbrev pub mark_at_id : List SlotSummary → ℕ → SlotSummary
+mark_at_id marks id = slice_index_or marks id empty_mark
 
-abbrev pub slot_marks_with_one_changed : (SlotSummary → SlotSummary) → List SlotSummary → ℕ → List SlotSummary
-slot_marks_with_one_changed f marks id = slice_set marks id (f (name_and_struct_mark_at_id marks id))
+abbrev pub marks_with_change : (SlotSummary → SlotSummary) → List SlotSummary → ℕ → List SlotSummary
+marks_with_change f marks id = slice_set marks id (f (mark_at_id marks id))
 
-abbrev pub slot_marks_padded_to_id : List SlotSummary → ℕ → List SlotSummary
-slot_marks_padded_to_id marks id = marks ++ replicate (id + 1 - length marks) empty_name_and_struct_mark
+abbrev pub marks_padded_to : List SlotSummary → ℕ → List SlotSummary
+marks_padded_to marks id = marks ++ replicate (id + 1 - length marks) empty_mark
 
-abbrev pub has_name_and_struct : SlotSummary → Bool
-has_name_and_struct m = m.has_name && m.has_struct
+abbrev pub has_both : SlotSummary → Bool
+has_both m = m.has_name && m.has_struct
 
 -- the marks after an entry, or none where the entry isn't allowed there
-abbrev pub slot_marks_after_entry : List SlotSummary → LogEntry → Option (List SlotSummary)
-slot_marks_after_entry marks e =
-    if abstract_type_of_tag e.tag == 0 then Some (slot_marks_with_one_changed (λ m. record m { has_name = true }) (slot_marks_padded_to_id marks (id_of_tag e.tag)) (id_of_tag e.tag))
-    else (if type_of_tag e.tag == create_tag_type then (if nat_le (id_of_tag e.tag) (length marks) then Some (insert marks (id_of_tag e.tag) empty_name_and_struct_mark) else None)
-    else (if type_of_tag e.tag == delete_tag_type then (if nat_lt (id_of_tag e.tag) (length marks) then Some (remove marks (id_of_tag e.tag)) else None)
-    else (if not (name_and_struct_mark_at_id marks (id_of_tag e.tag)).has_name then None
-    else (if abstract_type_of_tag e.tag == 2 then Some (slot_marks_with_one_changed (λ m. record m { has_struct = true }) marks (id_of_tag e.tag))
+abbrev pub marks_after_entry : List SlotSummary → LogEntry → Option (List SlotSummary)
+marks_after_entry marks e =
+    if abstract_type e.tag == 0 then Some (marks_with_change (λ m. record m { has_name = true }) (marks_padded_to marks (tag_id e.tag)) (tag_id e.tag))
+    else (if tag_type e.tag == create_tag_type then (if nat_le (tag_id e.tag) (length marks) then Some (insert marks (tag_id e.tag) empty_mark) else None)
+    else (if tag_type e.tag == delete_tag_type then (if nat_lt (tag_id e.tag) (length marks) then Some (remove marks (tag_id e.tag)) else None)
+    else (if not (mark_at_id marks (tag_id e.tag)).has_name then None
+    else (if abstract_type e.tag == 2 then Some (marks_with_change (λ m. record m { has_struct = true }) marks (tag_id e.tag))
     else Some marks))))
 
 -- the outline after an entry, or none where the log is malformed
 abbrev pub outline_after_entry : OutlineOfLog → LogEntry → Option OutlineOfLog
 outline_after_entry o e =
-    if abstract_type_of_tag e.tag == 5 then Some o
-    else (if not (is_tag_of_known_type_and_length e.tag && has_tag_id_if_needed e.tag) then None
-    else (if abstract_type_of_tag e.tag == 6 then Some (record o { tail = tail_of_log_entry e })
-    else (if abstract_type_of_tag e.tag == 7 then Some (record o { move = gstate_of_bytes e.bytes })
-    else option_map (λ marks. record o { marks = marks }) (slot_marks_after_entry o.marks e))))
+    if abstract_type e.tag == 5 then Some o
+    else (if not (is_known_tag e.tag && has_needed_id e.tag) then None
+    else (if abstract_type e.tag == 6 then Some (record o { tail = entry_tail e })
+    else (if abstract_type e.tag == 7 then Some (record o { move = read_gstate e.bytes })
+    else option_map (λ marks. record o { marks = marks }) (marks_after_entry o.marks e))))
 
-abbrev pub outline_after_entries : OutlineOfLog → List LogEntry → Option OutlineOfLog
-outline_after_entries o [] = Some o
-outline_after_entries o (e ∷ es) = option_and_then (λ p. outline_after_entries p es) (outline_after_entry o e)
+abbrev pub outline_after : OutlineOfLog → List LogEntry → Option OutlineOfLog
+outline_after o [] = Some o
+outline_after o (e ∷ es) = option_and_then (λ p. outline_after p es) (outline_after_entry o e)
 
-abbrev pub outline_of_empty_log : OutlineOfLog
-outline_of_empty_log = record { marks = []; tail = None; move = zero_gstate }
+abbrev pub empty_outline : OutlineOfLog
+empty_outline = record { marks = []; tail = None; move = zero_gstate }

@@ -2,14 +2,14 @@
 
 ghost use Rattle.std.specs.Prelude.{◌≡◌, ℕ, IfSome, slice_index, ◌≢◌, ◌+◌, ◌-◌, ◌≤◌, ◌<◌, ◌^◌, ◌++◌, [], ◌↔◌, length, take, min, true, replicate, IsOk, IfOk, IfErr};
 ghost use Rattle.byteorder.specs.Endian.{big_bytes, little_bytes};
-ghost use Rattle.lfs_model.specs.Crc.{crc_of};
-ghost use Rattle.lfs_model.specs.Log.{LogEntry};
-ghost use Rattle.lfs_model.specs.Tag.{IsValidTag, abstract_type_of_tag, tag_data_size, tag_of_type_id_and_length, tag_for_decoding_next_tag};
-ghost use Rattle.lfs_model.specs.Geometry.{is_valid_page_size};
-ghost use Rattle.lfs_model.specs.EntryTypes.{no_id};
-ghost use Rattle.lfs_model.specs.Blocks.{bytes_after_overwrite_at};
-ghost use Rattle.lfs_model.specs.Commit.{checksum_tag_type_for_following_bytes};
-ghost use Rattle.lfs_tag.specs.Builder.{commit_with_one_more_entry, padded_commit_end, checksum_tag as checksum_entry_tag, ArePagesOfCommit};
+ghost use Rattle.lfs_model.specs.format.Crc.{crc_of};
+ghost use Rattle.lfs_model.specs.format.Log.{LogEntry};
+ghost use Rattle.lfs_model.specs.format.Tag.{IsValidTag, abstract_type, tag_data_size, make_tag, tag_before_next};
+ghost use Rattle.lfs_model.specs.format.Geometry.{is_page};
+ghost use Rattle.lfs_model.specs.format.EntryTypes.{no_id};
+ghost use Rattle.lfs_model.specs.format.Blocks.{overwritten_at};
+ghost use Rattle.lfs_model.specs.layers.Commit.{checksum_type};
+ghost use Rattle.lfs_tag.specs.Builder.{commit_adding_entry, padded_end_of, checksum_tag as checksum_entry_tag, AreCommitPages};
 
 use crate::crc;
 use crate::kinds::{CHECKSUM, TURNED_CHECKSUM};
@@ -35,15 +35,15 @@ pub struct CommitBuilder<'a> {
 }
 
 impl<'a> Model for CommitBuilder<'a> {
-    ghost use Rattle.lfs_tag.specs.Builder.{CommitBeingBuilt};
+    ghost use Rattle.lfs_tag.specs.Builder.{PartialCommit};
 
-    ghost Value = { CommitBeingBuilt };
+    ghost Value = { PartialCommit };
 
-    ghost use Rattle.lfs_tag.specs.BuilderView.{commit_being_built_view, IsConsistentBuilder};
+    ghost use Rattle.lfs_tag.specs.BuilderView.{built_view, IsBuilder};
 
-    ghost view = { commit_being_built_view };
+    ghost view = { built_view };
 
-    ghost invariant = { IsConsistentBuilder };
+    ghost invariant = { IsBuilder };
 }
 
 // Writes the revision of a block where there is room. Returns how many bytes it takes.
@@ -61,7 +61,7 @@ fn write_revision(buf: &mut [u8], revision: u32) -> usize
 // Writes a stored tag and the bytes after it.
 fn put_entry(buf: &mut [u8], at: usize, stored: u32, bytes: &[u8])
     requires { at + 4 + length bytes.now ≤ length buf.old }
-    ensures { buf.new ≡ bytes_after_overwrite_at buf.old at (big_bytes 4 stored ++ bytes.now) }
+    ensures { buf.new ≡ overwritten_at buf.old at (big_bytes 4 stored ++ bytes.now) }
 {
     BigEndian::write_u32(&mut buf[at..], stored);
     let start = at + 4;
@@ -69,12 +69,12 @@ fn put_entry(buf: &mut [u8], at: usize, stored: u32, bytes: &[u8])
 }
 
 // Writes a stored tag and its bytes where there is room. Returns where they end, or would end.
-fn write_entry_to_buffer_if_room(buf: &mut [u8], at: usize, stored: u32, bytes: &[u8]) -> usize
+fn write_entry(buf: &mut [u8], at: usize, stored: u32, bytes: &[u8]) -> usize
     ensures end { result ≡ min (at + 4 + length bytes.now) (2 ^ 64 - 1) }
     ensures exact { result ≤ length buf.old → result ≡ at + 4 + length bytes.now }
     ensures len { length buf.new ≡ length buf.old }
     ensures bytes { result ≤ length buf.old
-        → buf.new ≡ bytes_after_overwrite_at buf.old at (big_bytes 4 stored ++ bytes.now) }
+        → buf.new ≡ overwritten_at buf.old at (big_bytes 4 stored ++ bytes.now) }
 {
     let end = at.saturating_add(4).saturating_add(bytes.len());
     if end <= buf.len() {
@@ -84,12 +84,12 @@ fn write_entry_to_buffer_if_room(buf: &mut [u8], at: usize, stored: u32, bytes: 
 }
 
 // Writes the checksum's stored tag, the checksum of all bytes before it, and the padding.
-fn write_checksum_and_padding(buf: &mut [u8], at: usize, stored: u32, end: usize)
+fn write_checksum(buf: &mut [u8], at: usize, stored: u32, end: usize)
     requires room { at + 8 ≤ end }
     requires within { end ≤ length buf.old }
     ensures fits { crc_of 0xffffffff (take at buf.old ++ big_bytes 4 stored) < 2 ^ 32 }
     ensures bytes { let sum = crc_of 0xffffffff (take at buf.old ++ big_bytes 4 stored) in
-        buf.new ≡ bytes_after_overwrite_at buf.old at (big_bytes 4 stored
+        buf.new ≡ overwritten_at buf.old at (big_bytes 4 stored
         ++ (little_bytes 4 sum ++ replicate (end - (at + 8)) 255)) }
 {
     BigEndian::write_u32(&mut buf[at..], stored);
@@ -101,7 +101,7 @@ fn write_checksum_and_padding(buf: &mut [u8], at: usize, stored: u32, end: usize
 // Returns the checksum's tag for so many bytes.
 fn checksum_tag(next: Option<[u8; 4]>, size: usize) -> Tag
     requires { size < 2 ^ 10 }
-    ensures tag { result ≡ tag_of_type_id_and_length (checksum_tag_type_for_following_bytes next) no_id size }
+    ensures tag { result ≡ make_tag (checksum_type next) no_id size }
     ensures bytes { IfSome next (λ next. (i : ℕ) → slice_index next i < 256) }
 {
     let turns = match next {
@@ -124,7 +124,7 @@ impl<'a> CommitBuilder<'a> {
         previous: Tag,
         revision: Option<u32>,
     ) -> CommitBuilder<'a>
-        requires { is_valid_page_size page ≡ true }
+        requires { is_page page ≡ true }
         ensures { result ≡ record {
           page = page;
           room = length buf.old;
@@ -139,7 +139,7 @@ impl<'a> CommitBuilder<'a> {
         };
         CommitBuilder {
             page: page as usize,
-            pushed: PushedCommitProof::with_commit_chosen_by_proof(
+            pushed: PushedCommitProof::with_ghost_commit(
                 &(page, buf.len(), previous, revision),
                 &(),
             ),
@@ -154,22 +154,22 @@ impl<'a> CommitBuilder<'a> {
     /// [`finish`](CommitBuilder::finish) fails.
     pub fn push(&mut self, tag: Tag, bytes: &[u8])
         requires valid { IsValidTag tag }
-        requires other { abstract_type_of_tag tag ≢ 5 }
+        requires other { abstract_type tag ≢ 5 }
         requires bytes { length bytes.now ≡ tag_data_size tag }
         ensures { let entry : LogEntry = record { tag = tag; bytes = bytes.now } in
-            self.new ≡ commit_with_one_more_entry entry self.old }
+            self.new ≡ commit_adding_entry entry self.old }
     {
         let stored = tag.encode(self.last);
         let buf = &mut *self.buf;
-        let end = write_entry_to_buffer_if_room(buf, self.len, stored, bytes);
-        self.pushed = PushedCommitProof::with_commit_chosen_by_proof(&self.pushed, &(tag, bytes));
+        let end = write_entry(buf, self.len, stored, bytes);
+        self.pushed = PushedCommitProof::with_ghost_commit(&self.pushed, &(tag, bytes));
         self.len = end;
         self.last = tag;
     }
 
     // Returns where the padded commit ends, or the greatest number where the end is past that.
     fn padded_end(&self) -> usize
-        ensures { result ≡ min (padded_commit_end self.now) (2 ^ 64 - 1) }
+        ensures { result ≡ min (padded_end_of self.now) (2 ^ 64 - 1) }
     {
         self.len
             .saturating_add(8)
@@ -179,8 +179,8 @@ impl<'a> CommitBuilder<'a> {
 
     /// Returns where the padded commit will end, in bytes from the buffer's start. The end may be
     /// past the buffer's. Returns `u32::MAX` where the end is past that.
-    pub fn end_of_padded_commit(&self) -> u32
-        ensures { result ≡ min (padded_commit_end self.now) (2 ^ 32 - 1) }
+    pub fn end_on_page(&self) -> u32
+        ensures { result ≡ min (padded_end_of self.now) (2 ^ 32 - 1) }
     {
         u32::try_from(self.padded_end()).unwrap_or(u32::MAX)
     }
@@ -188,12 +188,12 @@ impl<'a> CommitBuilder<'a> {
     /// Returns the commit's last tag, as the next tag in the block is stored with it. `next` is the
     /// argument that [`finish`](CommitBuilder::finish) will get. The caller's condition is that the
     /// commit fits the buffer.
-    pub fn checksum_tag_as_previous_of_next_commit(&self, next: Option<[u8; 4]>) -> Tag
-        requires { padded_commit_end self.now ≤ self.now.room }
-        ensures { result ≡ tag_for_decoding_next_tag (checksum_entry_tag self.now next) }
+    pub fn next_previous_tag(&self, next: Option<[u8; 4]>) -> Tag
+        requires { padded_end_of self.now ≤ self.now.room }
+        ensures { result ≡ tag_before_next (checksum_entry_tag self.now next) }
     {
         let size = self.padded_end() - (self.len + 4);
-        checksum_tag(next, size).as_previous_of_next_tag()
+        checksum_tag(next, size).as_previous_tag()
     }
 
     /// Returns the commit's pages, which the caller programs into the block. `next` is the four
@@ -203,10 +203,10 @@ impl<'a> CommitBuilder<'a> {
     ///
     /// Errors: `TooBig` exactly where the padded commit doesn't fit the buffer.
     pub fn finish(self, next: Option<[u8; 4]>) -> Result<&'a [u8], Error>
-        ensures fits { IsOk result ↔ (padded_commit_end self.entry ≤ self.entry.room) }
+        ensures fits { IsOk result ↔ (padded_end_of self.entry ≤ self.entry.room) }
         ensures error { IfErr result (λ e. e ≡ Error.TooBig) }
-        ensures size { IfOk result (λ pages. length pages.now ≡ padded_commit_end self.entry) }
-        ensures commit { IfOk result (λ pages. ArePagesOfCommit self.entry next pages.now) }
+        ensures size { IfOk result (λ pages. length pages.now ≡ padded_end_of self.entry) }
+        ensures commit { IfOk result (λ pages. AreCommitPages self.entry next pages.now) }
     {
         let end = self.padded_end();
         let CommitBuilder {
@@ -220,7 +220,7 @@ impl<'a> CommitBuilder<'a> {
             return Err(Error::TooBig);
         }
         let tag = checksum_tag(next, end - (len + 4));
-        write_checksum_and_padding(buf, len, tag.encode(last), end);
+        write_checksum(buf, len, tag.encode(last), end);
         Ok(&buf[..end])
     }
 }

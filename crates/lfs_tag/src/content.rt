@@ -2,16 +2,16 @@
 
 ghost use Rattle.std.specs.Prelude.{◌≡◌, ℕ, ◌+◌, ◌≤◌, ◌<◌, ◌++◌, [], ◌∷◌, length, map, OnOk, IfOk, IsTrue, remove, insert, vec_len, is_some, filter, not, ◌==◌, Some, None};
 ghost use Rattle.std.specs.Option.{option_map};
-ghost use Rattle.lfs_model.specs.Log.{log_entries_of_block};
-ghost use Rattle.lfs_model.specs.EntryTypes.{is_tag_of_known_type_and_length, has_tag_id_if_needed, tail_of_log_entry};
-ghost use Rattle.lfs_model.specs.Content.{attributes_with_attribute, attributes_after_entry, empty_slot, slot_of_id, raw_slots_with_function_applied_at_id, slots_padded_to_id, slots_after_log_entry, content_after_log_entry, content_after_log_entries, empty_raw_pair_content};
-ghost use Rattle.lfs_model.specs.Thread.{is_hard_tail};
+ghost use Rattle.lfs_model.specs.format.Log.{block_entries};
+ghost use Rattle.lfs_model.specs.format.EntryTypes.{is_known_tag, has_needed_id, entry_tail};
+ghost use Rattle.lfs_model.specs.format.Content.{attributes_with, attributes_after, empty_slot, slot_of_id, changed_at, slots_padded_to, slots_after, content_after_one, content_after, empty_raw_content};
+ghost use Rattle.lfs_model.specs.format.Thread.{is_hard_tail};
 ghost use Rattle.lfs_tag.specs.LogEntryView.{log_entry_view};
-ghost use Rattle.lfs_tag.specs.ContentView.{name_or_struct_view, attribute_view, slot_view, tail_view, content_view, index_for_attribute};
-ghost use Rattle.lfs_tag.specs.ContentGives.{GivesValueUnlessNoMemory};
+ghost use Rattle.lfs_tag.specs.ContentView.{data_view, attribute_view, slot_view, tail_view, content_view, index_for_attribute};
+ghost use Rattle.lfs_tag.specs.ContentGives.{GivesWithMemory};
 
 use crate::entry::Entry;
-use crate::fields::{MoveState, NULL_ADDRESS, move_state_from_bytes, pair_address_from_bytes};
+use crate::fields::{MoveState, NULL_ADDRESS, move_from_bytes, address_from_bytes};
 use crate::kinds::{
     ATTRIBUTE_CLASS, CHECKSUM_CLASS, CREATE, CTZ_STRUCT, DELETE, DIRECTORY_NAME, DIRECTORY_STRUCT,
     FILE_NAME, HARD_TAIL, INLINE_STRUCT, MOVE_CLASS, MOVE_STATE, NAME_CLASS, SOFT_TAIL,
@@ -94,9 +94,9 @@ impl From<AllocError> for ContentError {
 
 /// Converts to the file system's error: a malformed log is `Corrupt`.
 impl From<ContentError> for Error {
-    ghost use Rattle.lfs_tag.specs.ContentGives.{error_of_content_error};
+    ghost use Rattle.lfs_tag.specs.ContentGives.{error_of_content};
 
-    ghost from_gives = { λ c e. e ≡ error_of_content_error c };
+    ghost from_gives = { λ c e. e ≡ error_of_content c };
 
     fn from(error: ContentError) -> Error {
         match error {
@@ -107,13 +107,13 @@ impl From<ContentError> for Error {
 }
 
 // Returns whether the format has a tag's type, with its length.
-pub(crate) fn is_known_kind_and_length(tag: Tag) -> bool
-    ensures { result ≡ is_tag_of_known_type_and_length tag }
+pub(crate) fn is_known_entry(tag: Tag) -> bool
+    ensures { result ≡ is_known_tag tag }
 {
     let kind = tag.kind();
     let len = tag.len();
     let is_attribute = tag.class() == ATTRIBUTE_CLASS;
-    if tag.has_attribute_removal_length() {
+    if tag.has_removal_length() {
         return is_attribute;
     }
     match kind {
@@ -126,8 +126,8 @@ pub(crate) fn is_known_kind_and_length(tag: Tag) -> bool
 }
 
 // Returns whether a tag that needs an id has one.
-pub(crate) fn has_id_where_needed(tag: Tag) -> bool
-    ensures { result ≡ has_tag_id_if_needed tag }
+pub(crate) fn has_needed_slot(tag: Tag) -> bool
+    ensures { result ≡ has_needed_id tag }
 {
     CHECKSUM_CLASS <= tag.class() || tag.id() != Tag::NO_ID
 }
@@ -143,7 +143,7 @@ fn empty_slot<'a>(alloc: Global) -> Slot<'a>
 }
 
 // Returns the place of the first attribute of a type or a greater one, or the length.
-fn index_of_attribute_or_where_it_belongs(attributes: &[Attribute<'_>], kind: u8) -> usize
+fn attribute_index(attributes: &[Attribute<'_>], kind: u8) -> usize
     ensures { result ≡ index_for_attribute kind (map attribute_view attributes.now) }
 {
     for (i, attribute) in attributes.iter().enumerate() {
@@ -159,9 +159,9 @@ fn set_attribute<'a>(
     attributes: &mut Vec<Attribute<'a>>,
     attribute: Attribute<'a>,
 ) -> Result<(), AllocError>
-    ensures { OnOk result (map attribute_view attributes.new.items ≡ attributes_with_attribute attribute.entry.kind attribute.entry.bytes.now (map attribute_view attributes.old.items)) }
+    ensures { OnOk result (map attribute_view attributes.new.items ≡ attributes_with attribute.entry.kind attribute.entry.bytes.now (map attribute_view attributes.old.items)) }
 {
-    let place = index_of_attribute_or_where_it_belongs(attributes, attribute.kind);
+    let place = attribute_index(attributes, attribute.kind);
     if place < attributes.len() && attributes[place].kind == attribute.kind {
         attributes[place] = attribute;
     } else {
@@ -178,9 +178,9 @@ fn remove_attribute(attributes: &mut Vec<Attribute<'_>>, kind: u8)
 }
 
 // Adds empty slots up to an id.
-fn pad_slots_to_id(alloc: Global, slots: &mut Vec<Slot<'_>>, id: usize) -> Result<(), AllocError>
+fn pad_slots(alloc: Global, slots: &mut Vec<Slot<'_>>, id: usize) -> Result<(), AllocError>
     requires { id < 1024 }
-    ensures filled { OnOk result (map slot_view slots.new.items ≡ slots_padded_to_id (map slot_view slots.old.items) id) }
+    ensures filled { OnOk result (map slot_view slots.new.items ≡ slots_padded_to (map slot_view slots.old.items) id) }
     ensures long { OnOk result (id < vec_len slots.new) }
 {
     while slots.len() <= id {
@@ -197,9 +197,9 @@ fn set_slot_name<'a>(
     part: NameOrStruct<'a>,
 ) -> Result<(), AllocError>
     requires { id < 1024 }
-    ensures { OnOk result (map slot_view slots.new.items ≡ raw_slots_with_function_applied_at_id (λ s. record s { name = Some (name_or_struct_view part.entry) }) (slots_padded_to_id (map slot_view slots.old.items) id) id) }
+    ensures { OnOk result (map slot_view slots.new.items ≡ changed_at (λ s. record s { name = Some (data_view part.entry) }) (slots_padded_to (map slot_view slots.old.items) id) id) }
 {
-    pad_slots_to_id(alloc, slots, id)?;
+    pad_slots(alloc, slots, id)?;
     let slot = &mut slots[id];
     slot.name = Some(part);
     Ok(())
@@ -208,7 +208,7 @@ fn set_slot_name<'a>(
 // Gives a slot its struct.
 fn set_slot_struct<'a>(slots: &mut Vec<Slot<'a>>, id: usize, part: NameOrStruct<'a>)
     requires { id < vec_len slots.old }
-    ensures { map slot_view slots.new.items ≡ raw_slots_with_function_applied_at_id (λ s. record s { struct = Some (name_or_struct_view part.entry) }) (map slot_view slots.old.items) id }
+    ensures { map slot_view slots.new.items ≡ changed_at (λ s. record s { struct = Some (data_view part.entry) }) (map slot_view slots.old.items) id }
 {
     let slot = &mut slots[id];
     slot.structure = Some(part);
@@ -221,11 +221,11 @@ fn change_attribute<'a>(
     entry: &Entry<'a>,
 ) -> Result<(), AllocError>
     requires { id < vec_len slots.old }
-    ensures { OnOk result (map slot_view slots.new.items ≡ raw_slots_with_function_applied_at_id (λ s. record s { attributes = attributes_after_entry (log_entry_view entry.now) s.attributes }) (map slot_view slots.old.items) id) }
+    ensures { OnOk result (map slot_view slots.new.items ≡ changed_at (λ s. record s { attributes = attributes_after (log_entry_view entry.now) s.attributes }) (map slot_view slots.old.items) id) }
 {
     let slot = &mut slots[id];
     let kind = entry.tag.chunk();
-    if entry.tag.has_attribute_removal_length() {
+    if entry.tag.has_removal_length() {
         remove_attribute(&mut slot.attributes, kind);
     } else {
         let bytes = entry.bytes;
@@ -264,12 +264,12 @@ fn remove_slot(slots: &mut Vec<Slot<'_>>, id: usize)
 }
 
 // Applies to the slots an entry that is no checksum, tail or move state.
-fn apply_entry_to_slots<'a>(
+fn apply_to_slots<'a>(
     alloc: Global,
     slots: &mut Vec<Slot<'a>>,
     entry: &Entry<'a>,
 ) -> Result<(), ContentError>
-    ensures { GivesValueUnlessNoMemory (λ _. map slot_view slots.new.items) result (slots_after_log_entry (map slot_view slots.old.items) (log_entry_view entry.now)) }
+    ensures { GivesWithMemory (λ _. map slot_view slots.new.items) result (slots_after (map slot_view slots.old.items) (log_entry_view entry.now)) }
 {
     let kind = entry.tag.kind();
     let class = entry.tag.class();
@@ -305,11 +305,11 @@ fn apply_entry_to_slots<'a>(
 }
 
 // Returns the tail that an entry sets.
-pub(crate) fn tail_set_by_entry(entry: &Entry<'_>) -> Option<Tail>
+pub(crate) fn tail_set_by(entry: &Entry<'_>) -> Option<Tail>
     requires { 8 ≤ length entry.now.bytes.now }
-    ensures { option_map tail_view result ≡ tail_of_log_entry (log_entry_view entry.now) }
+    ensures { option_map tail_view result ≡ entry_tail (log_entry_view entry.now) }
 {
-    let pair = pair_address_from_bytes(entry.bytes);
+    let pair = address_from_bytes(entry.bytes);
     if pair[0] == NULL_ADDRESS && pair[1] == NULL_ADDRESS {
         None
     } else {
@@ -321,29 +321,29 @@ pub(crate) fn tail_set_by_entry(entry: &Entry<'_>) -> Option<Tail>
 }
 
 // Applies an entry to the content.
-fn apply_entry_to_content<'a>(
+fn apply_to_content<'a>(
     alloc: Global,
     content: &mut Content<'a>,
     entry: &Entry<'a>,
 ) -> Result<(), ContentError>
-    ensures { GivesValueUnlessNoMemory (λ _. content_view content.new) result (content_after_log_entry (content_view content.old) (log_entry_view entry.now)) }
+    ensures { GivesWithMemory (λ _. content_view content.new) result (content_after_one (content_view content.old) (log_entry_view entry.now)) }
 {
     let tag = entry.tag;
     let class = tag.class();
     if class == CHECKSUM_CLASS {
         return Ok(());
     }
-    if !is_known_kind_and_length(tag) || !has_id_where_needed(tag) {
+    if !is_known_entry(tag) || !has_needed_slot(tag) {
         return Err(ContentError::Malformed);
     }
     if class == TAIL_CLASS {
-        content.tail = tail_set_by_entry(entry);
+        content.tail = tail_set_by(entry);
         Ok(())
     } else if class == MOVE_CLASS {
-        content.move_state = move_state_from_bytes(entry.bytes);
+        content.move_state = move_from_bytes(entry.bytes);
         Ok(())
     } else {
-        apply_entry_to_slots(alloc, &mut content.slots, entry)?;
+        apply_to_slots(alloc, &mut content.slots, entry)?;
         Ok(())
     }
 }
@@ -355,23 +355,23 @@ impl<'a> Content<'a> {
     /// Errors: `Malformed` exactly where the log is malformed. `NoMemory` where memory for slots
     /// and attributes isn't granted.
     pub fn read(alloc: Global, log: &Log<'a>) -> Result<Content<'a>, ContentError>
-        ensures content { IfOk result (λ c. content_after_log_entries empty_raw_pair_content (log_entries_of_block log.now) ≡ Some (content_view c)) }
-        ensures malformed { result ≡ Err ContentError.Malformed → content_after_log_entries empty_raw_pair_content (log_entries_of_block log.now) ≡ None }
+        ensures content { IfOk result (λ c. content_after empty_raw_content (block_entries log.now) ≡ Some (content_view c)) }
+        ensures malformed { result ≡ Err ContentError.Malformed → content_after empty_raw_content (block_entries log.now) ≡ None }
     {
-        Content::read_with_room_for_slots(alloc, log, 0)
+        Content::read_with_room(alloc, log, 0)
     }
 
     /// Reads a log's content as [`read`](Content::read) does. Memory for so many slots is asked for first. For
     /// slots no more is asked for, unless the log ever had more of them.
     ///
     /// Errors are those of [`read`](Content::read).
-    pub fn read_with_room_for_slots(
+    pub fn read_with_room(
         alloc: Global,
         log: &Log<'a>,
         slot_count: usize,
     ) -> Result<Content<'a>, ContentError>
-        ensures content { IfOk result (λ c. content_after_log_entries empty_raw_pair_content (log_entries_of_block log.now) ≡ Some (content_view c)) }
-        ensures malformed { result ≡ Err ContentError.Malformed → content_after_log_entries empty_raw_pair_content (log_entries_of_block log.now) ≡ None }
+        ensures content { IfOk result (λ c. content_after empty_raw_content (block_entries log.now) ≡ Some (content_view c)) }
+        ensures malformed { result ≡ Err ContentError.Malformed → content_after empty_raw_content (block_entries log.now) ≡ None }
     {
         let mut content = Content {
             slots: Vec::with_capacity(alloc, slot_count)?,
@@ -379,7 +379,7 @@ impl<'a> Content<'a> {
             move_state: MoveState::none(),
         };
         for entry in log.entries() {
-            if let Err(error) = apply_entry_to_content(alloc, &mut content, &entry) {
+            if let Err(error) = apply_to_content(alloc, &mut content, &entry) {
                 return Err(error);
             }
         }
@@ -389,14 +389,14 @@ impl<'a> Content<'a> {
     /// Applies one more entry, as if the log had it at its end.
     ///
     /// Errors are those of [`read`](Content::read). After an error nothing is known of the content.
-    pub fn apply_one_more_entry(
+    pub fn apply_next_entry(
         &mut self,
         alloc: Global,
         entry: &Entry<'a>,
     ) -> Result<(), ContentError>
-        ensures { GivesValueUnlessNoMemory (λ _. content_view self.new) result (content_after_log_entry (content_view self.old) (log_entry_view entry.now)) }
+        ensures { GivesWithMemory (λ _. content_view self.new) result (content_after_one (content_view self.old) (log_entry_view entry.now)) }
     {
-        apply_entry_to_content(alloc, self, entry)?;
+        apply_to_content(alloc, self, entry)?;
         Ok(())
     }
 }

@@ -1,7 +1,7 @@
 // What the steps of the checksum make of a byte, a word and eight bytes.
 
 ghost use Rattle.std.specs.Prelude.{◌≡◌, ◌+◌, ◌*◌, ◌<◌, ◌≤◌, length, take, slice_index};
-ghost use Rattle.lfs_model.specs.Crc.{next_bits, crc_of};
+ghost use Rattle.lfs_model.specs.format.Crc.{next_bits, crc_of};
 
 use byteorder::{ByteOrder, LittleEndian};
 
@@ -266,7 +266,7 @@ const AFTER: [u32; 2048] = [
 ];
 
 // Returns the number at a place of the table.
-fn crc_table_word_at(place: usize) -> u32
+fn table_word(place: usize) -> u32
     requires { place < 2048 }
     ensures { result ≡ slice_index AFTER place }
 {
@@ -274,37 +274,37 @@ fn crc_table_word_at(place: usize) -> u32
 }
 
 // Returns the result of eight steps for each row, up to this one, of a byte.
-fn crc_after_byte_and_zero_bytes(row: usize, byte: u32) -> u32
+fn crc_of_byte(row: usize, byte: u32) -> u32
     requires row { row < 8 }
     requires byte { byte < 256 }
     ensures { result ≡ next_bits (8 * (row + 1)) byte }
 {
-    crc_table_word_at(row * 256 + byte as usize)
+    table_word(row * 256 + byte as usize)
 }
 
 // Makes eight steps.
-pub(crate) fn crc_after_eight_bits(x: u32) -> u32
+pub(crate) fn crc_after_bits(x: u32) -> u32
     ensures { result ≡ next_bits 8 x }
 {
-    (x >> 8) ^ crc_after_byte_and_zero_bytes(0, x & 0xff)
+    (x >> 8) ^ crc_of_byte(0, x & 0xff)
 }
 
 // Returns the result of 32 steps, and eight for each row before this one, of a word.
-fn crc_after_word_and_zero_bytes(row: usize, word: u32) -> u32
+fn crc_of_word(row: usize, word: u32) -> u32
     requires { row ≤ 4 }
     ensures { result ≡ next_bits (8 * row + 32) word }
 {
-    crc_after_byte_and_zero_bytes(row + 3, word & 0xff)
-        ^ crc_after_byte_and_zero_bytes(row + 2, word >> 8 & 0xff)
-        ^ crc_after_byte_and_zero_bytes(row + 1, word >> 16 & 0xff)
-        ^ crc_after_byte_and_zero_bytes(row, word >> 24)
+    crc_of_byte(row + 3, word & 0xff)
+        ^ crc_of_byte(row + 2, word >> 8 & 0xff)
+        ^ crc_of_byte(row + 1, word >> 16 & 0xff)
+        ^ crc_of_byte(row, word >> 24)
 }
 
 // Returns the checksum after the first eight of these bytes.
-pub(crate) fn crc_after_eight_bytes(sum: u32, bytes: &[u8]) -> u32
+pub(crate) fn crc_after_eight(sum: u32, bytes: &[u8]) -> u32
     requires { 8 ≤ length bytes.now }
     ensures { result ≡ crc_of sum (take 8 bytes.now) }
 {
-    crc_after_word_and_zero_bytes(4, sum ^ LittleEndian::read_u32(bytes))
-        ^ crc_after_word_and_zero_bytes(0, LittleEndian::read_u32(&bytes[4..]))
+    crc_of_word(4, sum ^ LittleEndian::read_u32(bytes))
+        ^ crc_of_word(0, LittleEndian::read_u32(&bytes[4..]))
 }

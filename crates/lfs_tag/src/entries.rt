@@ -2,9 +2,9 @@
 
 ghost use Rattle.std.specs.Prelude.{◌≡◌, ◌+◌, ◌%◌, ◌^◌, ◌≤◌, ◌<◌, List, length, drop, slice_range, bit_xor};
 ghost use Rattle.byteorder.specs.Endian.{big_number};
-ghost use Rattle.lfs_model.specs.Tag.{tag_data_size};
+ghost use Rattle.lfs_model.specs.format.Tag.{tag_data_size};
 ghost use Rattle.std.specs.Iterator.{YieldsFirstBy, YieldsLastBy, item_count};
-ghost use Rattle.lfs_model.specs.Log.{chain_of, log_entries_of_block};
+ghost use Rattle.lfs_model.specs.format.Log.{chain_of, block_entries};
 ghost use Rattle.lfs_tag.specs.LogEntryView.{log_entry_view};
 
 use crate::entry::Entry;
@@ -25,15 +25,15 @@ pub struct Entries<'a> {
 
 impl<'a> Model for Entries<'a> {
     ghost use Rattle.std.specs.Prelude.{List};
-    ghost use Rattle.lfs_model.specs.Log.{LogEntry};
+    ghost use Rattle.lfs_model.specs.format.Log.{LogEntry};
 
     ghost Value = { List LogEntry };
 
-    ghost use Rattle.lfs_tag.specs.Walk.{entries_left_to_walk, AreLogEntriesBetweenIteratorEnds};
+    ghost use Rattle.lfs_tag.specs.EntryWalk.{entries_left, AreIteratorEntries};
 
-    ghost view = { entries_left_to_walk };
+    ghost view = { entries_left };
 
-    ghost invariant = { AreLogEntriesBetweenIteratorEnds };
+    ghost invariant = { AreIteratorEntries };
 }
 
 impl<'a> Entries<'a> {
@@ -41,8 +41,8 @@ impl<'a> Entries<'a> {
     pub(crate) fn of_commit_sequence(block: &'a [u8], end: usize, last: Tag) -> Entries<'a>
         requires end { end ≡ (chain_of block.now).end }
         requires last { last ≡ (chain_of block.now).last }
-        ensures value { result ≡ log_entries_of_block block.now }
-        ensures small { length (log_entries_of_block block.now) < 2 ^ 62 }
+        ensures value { result ≡ block_entries block.now }
+        ensures small { length (block_entries block.now) < 2 ^ 62 }
     {
         Entries {
             block,
@@ -56,7 +56,7 @@ impl<'a> Entries<'a> {
 
 impl<'a> Entries<'a> {
     // Returns the same entries once more.
-    pub(crate) fn copy_of_iterator_over_remaining_entries(&self) -> Entries<'a>
+    pub(crate) fn copy_of_rest(&self) -> Entries<'a>
         ensures { result ≡ self.now }
     {
         Entries {
@@ -84,7 +84,7 @@ impl<'a> Iterator for Entries<'a> {
             return None;
         };
         self.at = self.at + 4 + entry.bytes.len();
-        self.before = entry.tag.as_previous_of_next_tag();
+        self.before = entry.tag.as_previous_tag();
         Some(entry)
     }
 }

@@ -1,7 +1,7 @@
 // One entry of a log.
 
 ghost use Rattle.std.specs.Prelude.{◌≡◌, length};
-ghost use Rattle.lfs_model.specs.Tag.{tag_data_size};
+ghost use Rattle.lfs_model.specs.format.Tag.{tag_data_size};
 
 use crate::tag::Tag;
 

@@ -3,10 +3,10 @@
 ghost use Rattle.std.specs.Prelude.{◌≡◌, ◌^◌, ◌<◌, slice_index};
 ghost use Rattle.std.specs.List.{flat_map};
 ghost use Rattle.byteorder.specs.Endian.{little_bytes};
-ghost use Rattle.lfs_model.specs.Slots.{Ctz, pair_address_of_array};
-ghost use Rattle.lfs_model.specs.EntryTypes.{pair_address_of_bytes, gstate_of_bytes, superblock_fields_of_struct_bytes, ctz_struct_type};
-ghost use Rattle.lfs_model.specs.Content.{struct_of_type_and_bytes};
-ghost use Rattle.lfs_model.specs.WrittenContent.{bytes_of_pair_address, bytes_of_move_state, superblock_fields_bytes};
+ghost use Rattle.lfs_model.specs.format.Slots.{Ctz, array_address};
+ghost use Rattle.lfs_model.specs.format.EntryTypes.{read_address, read_gstate, superblock_fields, ctz_type};
+ghost use Rattle.lfs_model.specs.format.Content.{read_struct};
+ghost use Rattle.lfs_model.specs.layers.WrittenContent.{address_bytes, bytes_of_move_state, fields_bytes};
 ghost use Rattle.lfs_tag.specs.FieldsView.{superblock_view, move_view};
 
 use crate::fields::{MoveState, Superblock};
@@ -14,8 +14,8 @@ use byteorder::{ByteOrder, LittleEndian};
 
 /// Returns the bytes of a tail, or of a directory's struct, that names this pair.
 pub fn pair_bytes(pair: [u32; 2]) -> [u8; 8]
-    ensures bytes { result ≡ bytes_of_pair_address (pair_address_of_array pair) }
-    ensures read { pair_address_of_bytes result ≡ pair_address_of_array pair }
+    ensures bytes { result ≡ address_bytes (array_address pair) }
+    ensures read { read_address result ≡ array_address pair }
 {
     let mut bytes = [0; 8];
     LittleEndian::write_u32_into(&pair, &mut bytes);
@@ -25,18 +25,18 @@ pub fn pair_bytes(pair: [u32; 2]) -> [u8; 8]
 /// Returns the bytes of a file's struct that names a skip list: the address of its last block, and
 /// its size in bytes (SPEC.md of littlefs, "0x202 LFS_TYPE_CTZSTRUCT").
 pub fn ctz_bytes(head: u32, size: u32) -> [u8; 8]
-    ensures bytes { result ≡ bytes_of_pair_address (head, size) }
-    ensures read { struct_of_type_and_bytes ctz_struct_type result ≡ Ctz head size }
+    ensures bytes { result ≡ address_bytes (head, size) }
+    ensures read { read_struct ctz_type result ≡ Ctz head size }
 {
     pair_bytes([head, size])
 }
 
 /// Returns the bytes of a superblock's struct (SPEC.md of littlefs, "0x0ff LFS_TYPE_SUPERBLOCK").
 pub fn superblock_bytes(superblock: &Superblock) -> [u8; 24]
-    ensures bytes { result ≡ superblock_fields_bytes (superblock_view superblock.now) }
-    ensures read { superblock_fields_of_struct_bytes result ≡ superblock_view superblock.now }
+    ensures bytes { result ≡ fields_bytes (superblock_view superblock.now) }
+    ensures read { superblock_fields result ≡ superblock_view superblock.now }
 {
-    bytes_of_six_words([
+    six_word_bytes([
         superblock.version,
         superblock.block_size,
         superblock.block_count,
@@ -47,9 +47,9 @@ pub fn superblock_bytes(superblock: &Superblock) -> [u8; 24]
 }
 
 // Returns the bytes of a superblock's six numbers, in their order.
-fn bytes_of_six_words(words: [u32; 6]) -> [u8; 24]
+fn six_word_bytes(words: [u32; 6]) -> [u8; 24]
     ensures bytes { result ≡ flat_map (little_bytes 4) words }
-    ensures read { superblock_fields_of_struct_bytes result ≡ record {
+    ensures read { superblock_fields result ≡ record {
       version = slice_index words 0;
       block_size = slice_index words 1;
       block_count = slice_index words 2;
@@ -69,7 +69,7 @@ pub fn move_state_bytes(state: &MoveState) -> [u8; 12]
     requires kind { state.now.kind < 2 ^ 11 }
     requires id { state.now.id < 2 ^ 10 }
     ensures bytes { result ≡ bytes_of_move_state (move_view state.now) }
-    ensures read { gstate_of_bytes result ≡ move_view state.now }
+    ensures read { read_gstate result ≡ move_view state.now }
 {
     let word = u32::from(state.sync) * 0x8000_0000
         + u32::from(state.kind) * 0x10_0000

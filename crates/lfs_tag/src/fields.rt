@@ -1,14 +1,14 @@
 // The fields of structs, tails and move states: numbers of 32 bits, the lowest byte first.
 
 ghost use Rattle.std.specs.Prelude.{◌≡◌, ◌+◌, ◌≤◌, ◌↔◌, IsTrue, length};
-ghost use Rattle.lfs_model.specs.Disk.{attr_max_of, file_max_of, name_max_of};
-ghost use Rattle.lfs_model.specs.Fresh.{superblock_struct_bytes};
-ghost use Rattle.lfs_model.specs.Slots.{Ctz, pair_address_of_array, zero_gstate};
-ghost use Rattle.lfs_model.specs.EntryTypes.{pair_address_of_bytes, gstate_of_bytes, superblock_fields_of_struct_bytes, ctz_struct_type};
-ghost use Rattle.lfs_model.specs.Content.{struct_of_type_and_bytes};
-ghost use Rattle.lfs_model.specs.Profile.{are_usable_limits, profile_with_limits};
-ghost use Rattle.lfs_model.specs.View.{is_accepted_version};
-ghost use Rattle.lfs_model.specs.WrittenContent.{superblock_fields_bytes, is_zero_gstate};
+ghost use Rattle.lfs_model.specs.format.Disk.{attr_max_of, file_max_of, name_max_of};
+ghost use Rattle.lfs_model.specs.tree.Fresh.{superblock_bytes};
+ghost use Rattle.lfs_model.specs.format.Slots.{Ctz, array_address, zero_gstate};
+ghost use Rattle.lfs_model.specs.format.EntryTypes.{read_address, read_gstate, superblock_fields, ctz_type};
+ghost use Rattle.lfs_model.specs.format.Content.{read_struct};
+ghost use Rattle.lfs_model.specs.tree.Profile.{are_usable, with_limits};
+ghost use Rattle.lfs_model.specs.tree.View.{accepts_version};
+ghost use Rattle.lfs_model.specs.layers.WrittenContent.{fields_bytes, is_zero};
 ghost use Rattle.lfs_tag.specs.FieldsView.{superblock_view, move_view};
 
 use byteorder::{ByteOrder, LittleEndian};
@@ -68,7 +68,7 @@ impl Superblock {
           file_max = file_max_of geometry.now.profile;
           attr_max = attr_max_of geometry.now.profile;
         } }
-        ensures bytes { superblock_fields_bytes (superblock_view result) ≡ superblock_struct_bytes geometry.now.profile geometry.now.block_size geometry.now.block_count }
+        ensures bytes { fields_bytes (superblock_view result) ≡ superblock_bytes geometry.now.profile geometry.now.block_size geometry.now.block_count }
     {
         Superblock {
             version: Superblock::VERSION,
@@ -91,7 +91,7 @@ impl Superblock {
 
     /// Returns whether no limit is 0, or above what an image may have.
     fn has_usable_limits(&self) -> bool
-        ensures { result ≡ are_usable_limits (superblock_view self.now) }
+        ensures { result ≡ are_usable (superblock_view self.now) }
     {
         (1..=255).contains(&self.name_max)
             && (1..=2_147_483_647).contains(&self.file_max)
@@ -101,7 +101,7 @@ impl Superblock {
     /// Returns the profile with the superblock's limits. Where one is 0 or above the format's own,
     /// the profile stays as it is.
     pub fn limits_over(&self, profile: Profile) -> Profile
-        ensures { result ≡ profile_with_limits (superblock_view self.now) profile }
+        ensures { result ≡ with_limits (superblock_view self.now) profile }
     {
         if !self.has_usable_limits() {
             return profile;
@@ -118,7 +118,7 @@ impl Superblock {
 
     /// Returns whether the version is one of these.
     pub fn has_accepted_version(&self, versions: AcceptedVersions) -> bool
-        ensures { result ≡ is_accepted_version versions self.now.version }
+        ensures { result ≡ accepts_version versions self.now.version }
     {
         match versions {
             AcceptedVersions::OnlyTwoZero => self.version == Superblock::VERSION,
@@ -144,16 +144,16 @@ impl MoveState {
 
     /// Returns whether the delta is zero. Then a pair that is written anew has no entry for it.
     pub fn is_none(&self) -> bool
-        ensures { result ≡ is_zero_gstate (move_view self.now) }
+        ensures { result ≡ is_zero (move_view self.now) }
     {
         !self.sync && self.kind == 0 && self.id == 0 && self.pair[0] == 0 && self.pair[1] == 0
     }
 }
 
 // Returns the two addresses with which these bytes begin.
-pub(crate) fn pair_address_from_bytes(bytes: &[u8]) -> [u32; 2]
+pub(crate) fn address_from_bytes(bytes: &[u8]) -> [u32; 2]
     requires { 8 ≤ length bytes.now }
-    ensures { pair_address_of_array result ≡ pair_address_of_bytes bytes.now }
+    ensures { array_address result ≡ read_address bytes.now }
 {
     let first = LittleEndian::read_u32(bytes);
     let second = LittleEndian::read_u32(&bytes[4..]);
@@ -161,38 +161,38 @@ pub(crate) fn pair_address_from_bytes(bytes: &[u8]) -> [u32; 2]
 }
 
 // Returns the move state with which these bytes begin.
-pub(crate) fn move_state_from_bytes(bytes: &[u8]) -> MoveState
+pub(crate) fn move_from_bytes(bytes: &[u8]) -> MoveState
     requires { 12 ≤ length bytes.now }
-    ensures { move_view result ≡ gstate_of_bytes bytes.now }
+    ensures { move_view result ≡ read_gstate bytes.now }
 {
     let word = LittleEndian::read_u32(bytes);
     MoveState {
         sync: word >> 31 == 1,
         kind: (word >> 20 & 0x7ff) as u16,
         id: (word >> 10 & 0x3ff) as u16,
-        pair: pair_address_from_bytes(&bytes[4..]),
+        pair: address_from_bytes(&bytes[4..]),
     }
 }
 
 /// Returns the pair that a tail or a directory's struct names.
 pub fn pair_of(bytes: &[u8; 8]) -> [u32; 2]
-    ensures { pair_address_of_array result ≡ pair_address_of_bytes bytes.now }
+    ensures { array_address result ≡ read_address bytes.now }
 {
-    pair_address_from_bytes(bytes)
+    address_from_bytes(bytes)
 }
 
 /// Returns the head and the size of a skip list, from a file's struct. The head is the address of
 /// its last block, and the size is in bytes (SPEC.md of littlefs, "0x202 LFS_TYPE_CTZSTRUCT").
 pub fn ctz_of(bytes: &[u8; 8]) -> (u32, u32)
-    ensures { struct_of_type_and_bytes ctz_struct_type bytes.now ≡ Ctz result.0 result.1 }
+    ensures { read_struct ctz_type bytes.now ≡ Ctz result.0 result.1 }
 {
-    let words = pair_address_from_bytes(bytes);
+    let words = address_from_bytes(bytes);
     (words[0], words[1])
 }
 
 /// Returns the fields of a superblock's struct.
 pub fn superblock_of(bytes: &[u8; 24]) -> Superblock
-    ensures { superblock_view result ≡ superblock_fields_of_struct_bytes bytes.now }
+    ensures { superblock_view result ≡ superblock_fields bytes.now }
 {
     Superblock {
         version: LittleEndian::read_u32(bytes),
@@ -207,7 +207,7 @@ pub fn superblock_of(bytes: &[u8; 24]) -> Superblock
 /// Returns the move state in an entry's bytes. The lowest ten bits of the first word have no
 /// meaning.
 pub fn move_of(bytes: &[u8; 12]) -> MoveState
-    ensures { move_view result ≡ gstate_of_bytes bytes.now }
+    ensures { move_view result ≡ read_gstate bytes.now }
 {
-    move_state_from_bytes(bytes)
+    move_from_bytes(bytes)
 }

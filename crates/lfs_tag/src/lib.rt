@@ -33,8 +33,8 @@ pub use field_bytes::{ctz_bytes, move_state_bytes, pair_bytes, superblock_bytes}
 pub use fields::{MoveState, NULL_ADDRESS, Superblock, ctz_of, move_of, pair_of, superblock_of};
 pub use log::Log;
 pub use lookup::{Lookup, find};
-pub use names::{is_name, is_valid_path_component, name_cmp};
-pub use revision::is_revision_later_than;
+pub use names::{is_name, is_valid_component, name_cmp};
+pub use revision::is_later_than;
 pub use search::{find_slot_name, find_slot_struct, get};
 pub use slot_kind::SlotNameKind;
 pub use steps::Steps;

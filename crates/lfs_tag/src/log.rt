@@ -2,8 +2,8 @@
 
 ghost use Rattle.std.specs.Prelude.{◌≡◌, ℕ, ◌+◌, ◌≤◌, ◌<◌, ◌^◌, ◌↔◌, List, length, IfSome};
 ghost use Rattle.std.specs.Option.{option_map};
-ghost use Rattle.lfs_model.specs.Log.{entry_at, closes, commit_at, chain_of, revision_of_block, log_entries_of_block};
-ghost use Rattle.lfs_model.specs.Content.{has_commit};
+ghost use Rattle.lfs_model.specs.format.Log.{entry_at, closes, commit_at, chain_of, block_revision, block_entries};
+ghost use Rattle.lfs_model.specs.format.Content.{has_commit};
 ghost use Rattle.lfs_tag.specs.LogEntryView.{log_entry_view};
 
 use crate::crc;
@@ -14,7 +14,7 @@ use byteorder::{BigEndian, ByteOrder, LittleEndian};
 use std::marker::Model;
 
 // Returns the entry at an offset, where the tag before it is carried as `before`.
-#[tactic(auto, unfolding(lfs_model::specs::Log::entry_at))]
+#[tactic(auto, unfolding(lfs_model::specs::format::Log::entry_at))]
 pub(crate) fn entry_at(block: &[u8], at: usize, before: Tag) -> Option<Entry<'_>>
     ensures value { option_map log_entry_view result ≡ entry_at block.now at before }
     ensures within { IfSome result (λ e. at + 4 + length e.bytes.now ≤ length block.now) }
@@ -35,8 +35,8 @@ pub(crate) fn entry_at(block: &[u8], at: usize, before: Tag) -> Option<Entry<'_>
 }
 
 // Returns whether the checksum entry at an offset ends the commit that begins at `start`.
-#[tactic(auto, unfolding(lfs_model::specs::Log::closes))]
-fn is_valid_commit_checksum(block: &[u8], start: usize, at: usize, entry: &Entry<'_>) -> bool
+#[tactic(auto, unfolding(lfs_model::specs::format::Log::closes))]
+fn is_valid_checksum(block: &[u8], start: usize, at: usize, entry: &Entry<'_>) -> bool
     requires start { start ≤ at }
     requires within { at + 4 + length entry.now.bytes.now ≤ length block.now }
     ensures { result ≡ closes block.now start at (log_entry_view entry.now) }
@@ -60,8 +60,8 @@ fn commit_end(block: &[u8], start: usize, mut at: usize, mut before: Tag) -> Opt
     while let Some(entry) = entry_at(block, at, before) {
         let end = at + 4 + entry.bytes.len();
         if entry.tag.ends_commit() {
-            return if is_valid_commit_checksum(block, start, at, &entry) {
-                Some((end, entry.tag.as_previous_of_next_tag()))
+            return if is_valid_checksum(block, start, at, &entry) {
+                Some((end, entry.tag.as_previous_tag()))
             } else {
                 None
             };
@@ -74,7 +74,7 @@ fn commit_end(block: &[u8], start: usize, mut at: usize, mut before: Tag) -> Opt
 
 // Returns the revision, or 0 in a block that is too short for one.
 fn revision(block: &[u8]) -> u32
-    ensures { result ≡ revision_of_block block.now }
+    ensures { result ≡ block_revision block.now }
 {
     if block.len() < 4 {
         0
@@ -98,11 +98,11 @@ impl<'a> Model for Log<'a> {
 
     ghost Value = { List ℕ };
 
-    ghost use Rattle.lfs_tag.specs.Read.{AreLogFieldsThoseOfBlock};
+    ghost use Rattle.lfs_tag.specs.LogReading.{AreLogFields};
 
     ghost view = { λ l. l.block.now };
 
-    ghost invariant = { AreLogFieldsThoseOfBlock };
+    ghost invariant = { AreLogFields };
 }
 
 impl<'a> Log<'a> {
@@ -126,7 +126,7 @@ impl<'a> Log<'a> {
     }
 
     /// Makes the log of a block whose chain is known to end at `end` with the tag `last`. The block
-    /// isn't read again. The caller's condition is that [`end`](Log::end) and [`last_tag_of_log`](Log::last_tag_of_log)
+    /// isn't read again. The caller's condition is that [`end`](Log::end) and [`last_log_tag`](Log::last_log_tag)
     /// would return these for the bytes.
     pub fn with_known_end(block: &'a [u8], end: usize, last: Tag) -> Log<'a>
         requires end { end ≡ (chain_of block.now).end }
@@ -158,7 +158,7 @@ impl<'a> Log<'a> {
 
     /// Returns what the tag after the last commit is decoded with. Returns all bits set where there
     /// is no commit.
-    pub fn last_tag_of_log(&self) -> Tag
+    pub fn last_log_tag(&self) -> Tag
         ensures { result ≡ (chain_of self.now).last }
     {
         self.last
@@ -166,7 +166,7 @@ impl<'a> Log<'a> {
 
     /// Returns the block's revision count, or 0 in a block of less than 4 bytes.
     pub fn revision(&self) -> u32
-        ensures { result ≡ revision_of_block self.now }
+        ensures { result ≡ block_revision self.now }
     {
         self.revision
     }
@@ -181,8 +181,8 @@ impl<'a> Log<'a> {
     /// Returns the entries of all commits, oldest first. They can be taken from both ends, and
     /// nothing is copied.
     pub fn entries(&self) -> Entries<'a>
-        ensures value { result ≡ log_entries_of_block self.now }
-        ensures small { length (log_entries_of_block self.now) < 2 ^ 62 }
+        ensures value { result ≡ block_entries self.now }
+        ensures small { length (block_entries self.now) < 2 ^ 62 }
     {
         Entries::of_commit_sequence(self.block, self.end, self.last)
     }

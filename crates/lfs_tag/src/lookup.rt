@@ -3,10 +3,10 @@
 ghost use Rattle.std.specs.Prelude.{◌≡◌, ℕ, ◌+◌, ◌≤◌, ◌<◌, ◌^◌, [], length, map, max, slice_set, IsTrue, Some, None};
 ghost use Rattle.std.specs.List.{insert, remove};
 ghost use Rattle.arrayvec.specs.ArrayVec.{array_vec_len};
-ghost use Rattle.lfs_model.specs.Log.{log_entries_of_block};
-ghost use Rattle.lfs_model.specs.Content.{RawPairContent, content_after_log_entries, empty_raw_pair_content, slot_of_id};
-ghost use Rattle.lfs_tag.specs.Find.{comparison_of_ordering, comparison_of_sought_name_with_entry, comparison_of_sought_name_with_slot, sought_name_comparisons_padded_to_id, sought_name_comparisons_after_splice, sought_name_comparisons_after_entry, sought_name_comparisons_after_entries, is_comparison_same_or_greater_as_wanted, is_skipped_id, is_unskipped_slot_comparing_as_wanted, first_unskipped_slot_comparing_as_wanted};
-ghost use Rattle.lfs_tag.specs.FindView.{IsLookupOfName, lookup_of_comparisons};
+ghost use Rattle.lfs_model.specs.format.Log.{block_entries};
+ghost use Rattle.lfs_model.specs.format.Content.{RawContent, content_after, empty_raw_content, slot_of_id};
+ghost use Rattle.lfs_tag.specs.Find.{ordering_comparison, comparison_with_entry, comparison_with_slot, comparisons_padded_to, comparisons_after_splice, comparisons_after_entry, comparisons_after, is_wanted_comparison, is_skipped_id, is_wanted_slot, first_wanted_slot};
+ghost use Rattle.lfs_tag.specs.FindView.{IsNameLookup, lookup_of_comparisons};
 ghost use Rattle.lfs_tag.specs.LogEntryView.{log_entry_view};
 
 use crate::entry::Entry;
@@ -54,13 +54,13 @@ type Ranks = ArrayVec<NameComparison, ROOM>;
 /// is taken. The log's entries are taken once, and each name is compared once, where there are never
 /// more than 1,024 slots. A log that ever has more is searched back for each slot.
 pub fn find(log: &Log<'_>, order: NameOrder, name: &[u8], skip: Option<u16>) -> Lookup
-    ensures { (c : RawPairContent) → content_after_log_entries empty_raw_pair_content (log_entries_of_block log.now) ≡ Some c → length log.now ≤ 2 ^ 16 → IsLookupOfName order name.now skip c.slots result }
+    ensures { (c : RawContent) → content_after empty_raw_content (block_entries log.now) ≡ Some c → length log.now ≤ 2 ^ 16 → IsNameLookup order name.now skip c.slots result }
 {
     if BLOCK_MAX < log.block().len() {
         return Lookup::Place(0);
     }
     let mut ranks = Ranks::new();
-    if sought_name_comparisons_of_slots(&mut ranks, log, order, name) {
+    if comparisons_of_slots(&mut ranks, log, order, name) {
         find_in_ranks(&ranks, skip)
     } else {
         find_by_ids(log, order, name, skip)
@@ -72,18 +72,18 @@ fn find_in_ranks(ranks: &[NameComparison], skip: Option<u16>) -> Lookup
     requires { length ranks.now < 2 ^ 16 }
     ensures { result ≡ lookup_of_comparisons skip ranks.now }
 {
-    let found = first_slot_whose_name_compares_as_wanted(ranks, true, skip);
+    let found = first_wanted(ranks, true, skip);
     if found < ranks.len() {
         Lookup::Found(found as u16)
     } else {
-        Lookup::Place(first_slot_whose_name_compares_as_wanted(ranks, false, skip) as u16)
+        Lookup::Place(first_wanted(ranks, false, skip) as u16)
     }
 }
 
 // Returns the same of a log with any number of slots. Its entries are searched for each slot's name.
 fn find_by_ids(log: &Log<'_>, order: NameOrder, name: &[u8], skip: Option<u16>) -> Lookup
     requires { length log.now ≤ 2 ^ 16 }
-    ensures { (c : RawPairContent) → content_after_log_entries empty_raw_pair_content (log_entries_of_block log.now) ≡ Some c → result ≡ lookup_of_comparisons skip (map (comparison_of_sought_name_with_slot order name.now) c.slots) }
+    ensures { (c : RawContent) → content_after empty_raw_content (block_entries log.now) ≡ Some c → result ≡ lookup_of_comparisons skip (map (comparison_with_slot order name.now) c.slots) }
 {
     let count = slot_count(log);
     let found = first_wanted_id(log, order, name, true, skip, count);
@@ -105,12 +105,12 @@ fn first_wanted_id(
     count: usize,
 ) -> usize
     requires { count < 2 ^ 16 }
-    ensures first { (c : RawPairContent) → content_after_log_entries empty_raw_pair_content (log_entries_of_block log.now) ≡ Some c → count ≡ length c.slots → result ≡ first_unskipped_slot_comparing_as_wanted same skip 0 (map (comparison_of_sought_name_with_slot order name.now) c.slots) }
+    ensures first { (c : RawContent) → content_after empty_raw_content (block_entries log.now) ≡ Some c → count ≡ length c.slots → result ≡ first_wanted_slot same skip 0 (map (comparison_with_slot order name.now) c.slots) }
     ensures within { result ≤ count }
 {
     for id in 0..count {
         let rank = rank_of_slot(log, order, name, id as u16);
-        if is_unskipped_slot_named_as_wanted(same, skip, id, rank) {
+        if named_as_wanted(same, skip, id, rank) {
             return id;
         }
     }
@@ -119,7 +119,7 @@ fn first_wanted_id(
 
 // Returns how a slot's name compares with the wanted one.
 fn rank_of_slot(log: &Log<'_>, order: NameOrder, name: &[u8], id: u16) -> NameComparison
-    ensures { (c : RawPairContent) → content_after_log_entries empty_raw_pair_content (log_entries_of_block log.now) ≡ Some c → result ≡ comparison_of_sought_name_with_slot order name.now (slot_of_id c.slots id) }
+    ensures { (c : RawContent) → content_after empty_raw_content (block_entries log.now) ≡ Some c → result ≡ comparison_with_slot order name.now (slot_of_id c.slots id) }
 {
     match find_slot_name(log, id, &mut Steps::new()) {
         Some(part) if part.kind != SUPERBLOCK_NAME => comparison_by_ordering(name_cmp(
@@ -131,17 +131,17 @@ fn rank_of_slot(log: &Log<'_>, order: NameOrder, name: &[u8], id: u16) -> NameCo
 
 // Notes the ranks of a log's slots. Returns false where there is no room for them.
 #[tactic(auto, using(crate::proofs::Ranks::few_entries))]
-fn sought_name_comparisons_of_slots(
+fn comparisons_of_slots(
     ranks: &mut Ranks,
     log: &Log<'_>,
     order: NameOrder,
     name: &[u8],
 ) -> bool
     requires { ranks.old.items ≡ [] }
-    ensures { IsTrue result → ranks.new.items ≡ sought_name_comparisons_after_entries order name.now [] (log_entries_of_block log.now) }
+    ensures { IsTrue result → ranks.new.items ≡ comparisons_after order name.now [] (block_entries log.now) }
 {
     for entry in log.entries() {
-        if !apply_entry_to_sought_name_comparisons(ranks, order, name, &entry) {
+        if !apply_to_comparisons(ranks, order, name, &entry) {
             return false;
         }
     }
@@ -149,33 +149,33 @@ fn sought_name_comparisons_of_slots(
 }
 
 // Applies an entry to the ranks. Returns false where there is no room for another slot.
-fn apply_entry_to_sought_name_comparisons(
+fn apply_to_comparisons(
     ranks: &mut Ranks,
     order: NameOrder,
     name: &[u8],
     entry: &Entry<'_>,
 ) -> bool
-    ensures { IsTrue result → ranks.new.items ≡ sought_name_comparisons_after_entry order name.now ranks.old.items (log_entry_view entry.now) }
+    ensures { IsTrue result → ranks.new.items ≡ comparisons_after_entry order name.now ranks.old.items (log_entry_view entry.now) }
 {
     let class = entry.tag.class();
     if class == NAME_CLASS {
-        let rank = compare_sought_name_with_entry(order, name, entry);
-        put_sought_name_comparison(ranks, usize::from(entry.tag.id()), rank);
+        let rank = compare_with_entry(order, name, entry);
+        put_comparison(ranks, usize::from(entry.tag.id()), rank);
         true
     } else if class == SPLICE_CLASS {
-        apply_splice_to_sought_name_comparisons(ranks, entry)
+        splice_comparisons(ranks, entry)
     } else {
         true
     }
 }
 
 // Returns how the name that an entry gives a slot compares with the wanted one.
-fn compare_sought_name_with_entry(
+fn compare_with_entry(
     order: NameOrder,
     name: &[u8],
     entry: &Entry<'_>,
 ) -> NameComparison
-    ensures { result ≡ comparison_of_sought_name_with_entry order name.now (log_entry_view entry.now) }
+    ensures { result ≡ comparison_with_entry order name.now (log_entry_view entry.now) }
 {
     if entry.tag.kind() == SUPERBLOCK_NAME {
         NameComparison::NoneOrLess
@@ -186,7 +186,7 @@ fn compare_sought_name_with_entry(
 
 // Returns how a slot's name compares, by the order of the wanted name and that one.
 fn comparison_by_ordering(ordering: Ordering) -> NameComparison
-    ensures { result ≡ comparison_of_ordering ordering }
+    ensures { result ≡ ordering_comparison ordering }
 {
     match ordering {
         Ordering::Less => NameComparison::Greater,
@@ -196,18 +196,18 @@ fn comparison_by_ordering(ordering: Ordering) -> NameComparison
 }
 
 // Ranks a slot, which may be past the end.
-fn put_sought_name_comparison(ranks: &mut Ranks, id: usize, rank: NameComparison)
+fn put_comparison(ranks: &mut Ranks, id: usize, rank: NameComparison)
     requires { id < 1024 }
-    ensures { ranks.new.items ≡ slice_set (sought_name_comparisons_padded_to_id ranks.old.items id) id rank }
+    ensures { ranks.new.items ≡ slice_set (comparisons_padded_to ranks.old.items id) id rank }
 {
-    pad_sought_name_comparisons_to_id(ranks, id);
+    pad_comparisons(ranks, id);
     ranks[id] = rank;
 }
 
 // Adds slots without a name up to an id.
-fn pad_sought_name_comparisons_to_id(ranks: &mut Ranks, id: usize)
+fn pad_comparisons(ranks: &mut Ranks, id: usize)
     requires { id < 1024 }
-    ensures ranks { ranks.new.items ≡ sought_name_comparisons_padded_to_id ranks.old.items id }
+    ensures ranks { ranks.new.items ≡ comparisons_padded_to ranks.old.items id }
     ensures long { id < array_vec_len ranks.new }
 {
     while ranks.len() <= id {
@@ -216,8 +216,8 @@ fn pad_sought_name_comparisons_to_id(ranks: &mut Ranks, id: usize)
 }
 
 // Applies a create or a delete. Returns false where there is no room for another slot.
-fn apply_splice_to_sought_name_comparisons(ranks: &mut Ranks, entry: &Entry<'_>) -> bool
-    ensures { IsTrue result → ranks.new.items ≡ sought_name_comparisons_after_splice ranks.old.items (log_entry_view entry.now) }
+fn splice_comparisons(ranks: &mut Ranks, entry: &Entry<'_>) -> bool
+    ensures { IsTrue result → ranks.new.items ≡ comparisons_after_splice ranks.old.items (log_entry_view entry.now) }
 {
     let id = usize::from(entry.tag.id());
     if entry.tag.kind() == CREATE {
@@ -235,35 +235,35 @@ fn apply_splice_to_sought_name_comparisons(ranks: &mut Ranks, entry: &Entry<'_>)
 
 // Returns the first slot whose name is the wanted one, or a greater one. Returns the number of
 // slots where there is none.
-fn first_slot_whose_name_compares_as_wanted(
+fn first_wanted(
     ranks: &[NameComparison],
     same: bool,
     skip: Option<u16>,
 ) -> usize
-    ensures first { result ≡ first_unskipped_slot_comparing_as_wanted same skip 0 ranks.now }
+    ensures first { result ≡ first_wanted_slot same skip 0 ranks.now }
     ensures within { result ≤ length ranks.now }
 {
     for (id, rank) in ranks.iter().enumerate() {
-        if is_unskipped_slot_named_as_wanted(same, skip, id, *rank) {
+        if named_as_wanted(same, skip, id, *rank) {
             return id;
         }
     }
     ranks.len()
 }
 
-fn is_unskipped_slot_named_as_wanted(
+fn named_as_wanted(
     same: bool,
     skip: Option<u16>,
     id: usize,
     rank: NameComparison,
 ) -> bool
-    ensures { result ≡ is_unskipped_slot_comparing_as_wanted same skip id rank }
+    ensures { result ≡ is_wanted_slot same skip id rank }
 {
-    is_sought_name_comparison_as_wanted(same, rank) && !is_id_to_skip(skip, id)
+    is_as_wanted(same, rank) && !skips_id(skip, id)
 }
 
-fn is_sought_name_comparison_as_wanted(same: bool, rank: NameComparison) -> bool
-    ensures { result ≡ is_comparison_same_or_greater_as_wanted same rank }
+fn is_as_wanted(same: bool, rank: NameComparison) -> bool
+    ensures { result ≡ is_wanted_comparison same rank }
 {
     match rank {
         NameComparison::NoneOrLess => false,
@@ -272,7 +272,7 @@ fn is_sought_name_comparison_as_wanted(same: bool, rank: NameComparison) -> bool
     }
 }
 
-fn is_id_to_skip(skip: Option<u16>, id: usize) -> bool
+fn skips_id(skip: Option<u16>, id: usize) -> bool
     ensures { result ≡ is_skipped_id skip id }
 {
     match skip {

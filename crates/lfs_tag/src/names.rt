@@ -2,18 +2,18 @@
 
 ghost use Rattle.std.specs.Prelude.{◌≡◌, ◌==◌, ◌||◌, not};
 ghost use Rattle.std.specs.List.{list_all};
-ghost use Rattle.lfs_model.specs.Names.{is_path_component, is_valid_name, name_cmp_longer_first, name_cmp, same_name, slash_byte};
+ghost use Rattle.lfs_model.specs.format.Names.{is_component, is_valid_name, cmp_longer_first, name_cmp, same_name, slash_byte};
 
 use lfs_model::NameOrder;
 use std::cmp::Ordering;
 
 /// Returns whether a path may have such a component, of any length. It isn't empty, has neither a
 /// byte 0 nor a slash, and is neither `.` nor `..`.
-pub fn is_valid_path_component(name: &[u8]) -> bool
-    ensures { result ≡ is_path_component name.now }
+pub fn is_valid_component(name: &[u8]) -> bool
+    ensures { result ≡ is_component name.now }
 {
     !name.is_empty()
-        && has_no_zero_or_slash(name)
+        && has_name_bytes(name)
         && !are_names_equal(name, b".")
         && !are_names_equal(name, b"..")
 }
@@ -22,7 +22,7 @@ pub fn is_valid_path_component(name: &[u8]) -> bool
 pub fn is_name(name: &[u8]) -> bool
     ensures { result ≡ is_valid_name name.now }
 {
-    is_valid_path_component(name) && name.len() <= 255
+    is_valid_component(name) && name.len() <= 255
 }
 
 fn are_names_equal(name: &[u8], other: &[u8]) -> bool
@@ -32,7 +32,7 @@ fn are_names_equal(name: &[u8], other: &[u8]) -> bool
 }
 
 // Returns whether neither 0 nor '/' is among the bytes.
-fn has_no_zero_or_slash(name: &[u8]) -> bool
+fn has_name_bytes(name: &[u8]) -> bool
     ensures { result ≡ list_all (λ b. not (b == 0 || b == slash_byte)) name.now }
 {
     name.iter().all(|byte| !(*byte == 0 || *byte == b'/'))
@@ -45,12 +45,12 @@ pub fn name_cmp(order: NameOrder, name: &[u8], other: &[u8]) -> Ordering
 {
     match order {
         NameOrder::ShorterFirst => name.cmp(other),
-        NameOrder::LongerFirst => compare_names_longer_first(name, other),
+        NameOrder::LongerFirst => compare_longer_first(name, other),
     }
 }
 
-fn compare_names_longer_first(name: &[u8], other: &[u8]) -> Ordering
-    ensures { result ≡ name_cmp_longer_first name.now other.now }
+fn compare_longer_first(name: &[u8], other: &[u8]) -> Ordering
+    ensures { result ≡ cmp_longer_first name.now other.now }
 {
     let shared = name.len().min(other.len());
     name[..shared]

@@ -1,8 +1,8 @@
 // How many slots a log has.
 
 ghost use Rattle.std.specs.Prelude.{◌≡◌, ◌+◌, ◌≤◌, ◌<◌, ◌^◌, length, max};
-ghost use Rattle.lfs_model.specs.Log.{log_entries_of_block};
-ghost use Rattle.lfs_tag.specs.SlotCount.{slot_count_after_entry, slot_count_after_entries};
+ghost use Rattle.lfs_model.specs.format.Log.{block_entries};
+ghost use Rattle.lfs_tag.specs.SlotCount.{slot_count_after_entry, slot_count_after};
 ghost use Rattle.lfs_tag.specs.LogEntryView.{log_entry_view};
 
 use crate::entry::Entry;
@@ -13,7 +13,7 @@ use crate::log::Log;
 #[tactic(auto, using(crate::proofs::Ranks::few_entries))]
 pub(crate) fn slot_count(log: &Log<'_>) -> usize
     requires { length log.now ≤ 2 ^ 16 }
-    ensures count { result ≡ slot_count_after_entries 0 (log_entries_of_block log.now) }
+    ensures count { result ≡ slot_count_after 0 (block_entries log.now) }
     ensures few { result < 17408 }
 {
     let mut count = 0;

@@ -1,10 +1,10 @@
 // What a slot is, by the type of its name.
 
 ghost use Rattle.std.specs.Prelude.{◌≡◌, Some};
-ghost use Rattle.lfs_model.specs.Content.{slot_if_name_and_struct_present, kind_of_name_type};
-ghost use Rattle.lfs_model.specs.Slots.{Slot as ModelSlot, is_superblock, is_superblock_kind};
+ghost use Rattle.lfs_model.specs.format.Content.{complete_slot, kind_of_type};
+ghost use Rattle.lfs_model.specs.format.Slots.{Slot as ModelSlot, is_superblock, names_superblock};
 ghost use Rattle.lfs_tag.specs.ContentView.{slot_view};
-ghost use Rattle.lfs_tag.specs.KindView.{slot_name_kind_view, is_superblock_name};
+ghost use Rattle.lfs_tag.specs.KindView.{name_kind_view, is_superblock_tag};
 
 use crate::content::{NameOrStruct, Slot};
 use crate::kinds::{DIRECTORY_NAME, FILE_NAME};
@@ -21,7 +21,7 @@ pub enum SlotNameKind {
 impl SlotNameKind {
     /// The kind of the slots that have a name of this type.
     pub fn of(name: &NameOrStruct<'_>) -> SlotNameKind
-        ensures { slot_name_kind_view result ≡ kind_of_name_type name.now.kind }
+        ensures { name_kind_view result ≡ kind_of_type name.now.kind }
     {
         match name.kind {
             FILE_NAME => SlotNameKind::File,
@@ -32,7 +32,7 @@ impl SlotNameKind {
 
     /// Whether it is a superblock's.
     pub fn is_superblock(self) -> bool
-        ensures { result ≡ is_superblock_kind (slot_name_kind_view self) }
+        ensures { result ≡ names_superblock (name_kind_view self) }
     {
         match self {
             SlotNameKind::Superblock => true,
@@ -45,8 +45,8 @@ impl SlotNameKind {
 impl Slot<'_> {
     /// Whether it is a superblock's: it has a name, which is neither a file's nor a directory's.
     pub fn is_superblock(&self) -> bool
-        ensures named { result ≡ is_superblock_name (slot_view self.now).name }
-        ensures complete { (s : ModelSlot) → slot_if_name_and_struct_present (slot_view self.now) ≡ Some s → result ≡ is_superblock s }
+        ensures named { result ≡ is_superblock_tag (slot_view self.now).name }
+        ensures complete { (s : ModelSlot) → complete_slot (slot_view self.now) ≡ Some s → result ≡ is_superblock s }
     {
         match self.name {
             Some(name) => SlotNameKind::of(&name).is_superblock(),

@@ -2,9 +2,9 @@
 
 ghost use Rattle.std.specs.Prelude.{◌≡◌, Some};
 ghost use Rattle.std.specs.Option.{option_map};
-ghost use Rattle.lfs_model.specs.Content.{struct_of_type_and_bytes};
-ghost use Rattle.lfs_model.specs.LoggedContent.{IsNameOrStructTheFormatAllows};
-ghost use Rattle.lfs_tag.specs.ContentView.{name_or_struct_view};
+ghost use Rattle.lfs_model.specs.format.Content.{read_struct};
+ghost use Rattle.lfs_model.specs.layers.LoggedContent.{IsAllowed};
+ghost use Rattle.lfs_tag.specs.ContentView.{data_view};
 
 use crate::content::NameOrStruct;
 use crate::fields::{ctz_of, pair_of};
@@ -23,13 +23,13 @@ pub enum Struct<'a> {
 }
 
 impl<'a> Struct<'a> {
-    ghost use Rattle.lfs_tag.specs.StructView.{struct_if_type_and_size_match, struct_view};
+    ghost use Rattle.lfs_tag.specs.StructView.{struct_if_matching, struct_view};
 
     /// What a part says as a slot's struct. `None` exactly where its type is no struct's, or where
     /// a list or a pair isn't named in 8 bytes. No log that has a content holds such a struct.
     pub fn of(part: &NameOrStruct<'a>) -> Option<Struct<'a>>
-        ensures says { IsNameOrStructTheFormatAllows 2 (name_or_struct_view part.now) → option_map struct_view result ≡ Some (struct_of_type_and_bytes part.now.kind part.now.bytes.now) }
-        ensures only { option_map struct_view result ≡ struct_if_type_and_size_match (name_or_struct_view part.now) }
+        ensures says { IsAllowed 2 (data_view part.now) → option_map struct_view result ≡ Some (read_struct part.now.kind part.now.bytes.now) }
+        ensures only { option_map struct_view result ≡ struct_if_matching (data_view part.now) }
     {
         match (part.kind, <&[u8; 8]>::try_from(part.bytes)) {
             (INLINE_STRUCT, _) => Some(Struct::Inline(part.bytes)),

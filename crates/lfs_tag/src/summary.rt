@@ -2,17 +2,17 @@
 
 ghost use Rattle.std.specs.Prelude.{◌≡◌, ℕ, ◌<◌, ◌≤◌, OnOk, IfOk, IsTrue, length, true, vec_len, Some, None};
 ghost use Rattle.std.specs.List.{insert, remove, list_all};
-ghost use Rattle.lfs_model.specs.Log.{log_entries_of_block};
-ghost use Rattle.lfs_model.specs.Content.{RawPairContent, content_after_log_entries, empty_raw_pair_content};
+ghost use Rattle.lfs_model.specs.format.Log.{block_entries};
+ghost use Rattle.lfs_model.specs.format.Content.{RawContent, content_after, empty_raw_content};
 ghost use Rattle.lfs_tag.specs.LogEntryView.{log_entry_view};
-ghost use Rattle.lfs_tag.specs.ContentGives.{GivesValueUnlessNoMemory};
-ghost use Rattle.lfs_tag.specs.Summary.{IsSummaryOfLogContent, empty_name_and_struct_mark, name_and_struct_mark_at_id, slot_marks_with_one_changed, slot_marks_padded_to_id, has_name_and_struct, slot_marks_after_entry, outline_view, outline_after_entry, outline_after_entries, outline_of_empty_log};
+ghost use Rattle.lfs_tag.specs.ContentGives.{GivesWithMemory};
+ghost use Rattle.lfs_tag.specs.Summary.{IsLogSummary, empty_mark, mark_at_id, marks_with_change, marks_padded_to, has_both, marks_after_entry, outline_view, outline_after_entry, outline_after, empty_outline};
 
 use crate::content::{
-    ContentError, Tail, has_id_where_needed, is_known_kind_and_length, tail_set_by_entry,
+    ContentError, Tail, has_needed_slot, is_known_entry, tail_set_by,
 };
 use crate::entry::Entry;
-use crate::fields::{MoveState, move_state_from_bytes};
+use crate::fields::{MoveState, move_from_bytes};
 use crate::kinds::{
     CHECKSUM_CLASS, CREATE, DELETE, MOVE_CLASS, NAME_CLASS, STRUCT_CLASS, TAIL_CLASS,
 };
@@ -53,10 +53,10 @@ impl Summary {
     /// granted.
     #[tactic(auto, using(crate::proofs::Summaries::no_content_where_none))]
     pub fn read(alloc: Global, log: &Log<'_>) -> Result<Summary, ContentError>
-        ensures summary { IfOk result (λ s. (c : RawPairContent) × IsSummaryOfLogContent log.now c s) }
-        ensures malformed { result ≡ Err ContentError.Malformed → content_after_log_entries empty_raw_pair_content (log_entries_of_block log.now) ≡ None }
+        ensures summary { IfOk result (λ s. (c : RawContent) × IsLogSummary log.now c s) }
+        ensures malformed { result ≡ Err ContentError.Malformed → content_after empty_raw_content (block_entries log.now) ≡ None }
     {
-        let outline = match read_outline_of_log(alloc, log) {
+        let outline = match read_outline(alloc, log) {
             Ok(outline) => outline,
             Err(error) => return Err(error),
         };
@@ -64,14 +64,14 @@ impl Summary {
             slot_count: outline.marks.len(),
             tail: outline.tail,
             move_state: outline.move_state,
-            is_complete: are_all_slots_complete(&outline.marks),
+            is_complete: all_complete(&outline.marks),
         })
     }
 }
 
-fn read_outline_of_log(alloc: Global, log: &Log<'_>) -> Result<PartialSummary, ContentError>
-    ensures outline { IfOk result (λ o. outline_after_entries outline_of_empty_log (log_entries_of_block log.now) ≡ Some (outline_view o)) }
-    ensures malformed { result ≡ Err ContentError.Malformed → outline_after_entries outline_of_empty_log (log_entries_of_block log.now) ≡ None }
+fn read_outline(alloc: Global, log: &Log<'_>) -> Result<PartialSummary, ContentError>
+    ensures outline { IfOk result (λ o. outline_after empty_outline (block_entries log.now) ≡ Some (outline_view o)) }
+    ensures malformed { result ≡ Err ContentError.Malformed → outline_after empty_outline (block_entries log.now) ≡ None }
 {
     let mut outline = PartialSummary {
         marks: Vec::new(alloc),
@@ -79,63 +79,63 @@ fn read_outline_of_log(alloc: Global, log: &Log<'_>) -> Result<PartialSummary, C
         move_state: MoveState::none(),
     };
     for entry in log.entries() {
-        if let Err(error) = apply_entry_to_outline(&mut outline, &entry) {
+        if let Err(error) = apply_to_outline(&mut outline, &entry) {
             return Err(error);
         }
     }
     Ok(outline)
 }
 
-fn are_all_slots_complete(marks: &[SlotSummary]) -> bool
-    ensures { result ≡ list_all has_name_and_struct marks.now }
+fn all_complete(marks: &[SlotSummary]) -> bool
+    ensures { result ≡ list_all has_both marks.now }
 {
     marks.iter().all(|mark| mark.has_name && mark.has_struct)
 }
 
 // Applies an entry to the outline.
-fn apply_entry_to_outline(
+fn apply_to_outline(
     outline: &mut PartialSummary,
     entry: &Entry<'_>,
 ) -> Result<(), ContentError>
-    ensures { GivesValueUnlessNoMemory (λ _. outline_view outline.new) result (outline_after_entry (outline_view outline.old) (log_entry_view entry.now)) }
+    ensures { GivesWithMemory (λ _. outline_view outline.new) result (outline_after_entry (outline_view outline.old) (log_entry_view entry.now)) }
 {
     let tag = entry.tag;
     let class = tag.class();
     if class == CHECKSUM_CLASS {
         return Ok(());
     }
-    if !is_known_kind_and_length(tag) || !has_id_where_needed(tag) {
+    if !is_known_entry(tag) || !has_needed_slot(tag) {
         return Err(ContentError::Malformed);
     }
     if class == TAIL_CLASS {
-        outline.tail = tail_set_by_entry(entry);
+        outline.tail = tail_set_by(entry);
         Ok(())
     } else if class == MOVE_CLASS {
-        outline.move_state = move_state_from_bytes(entry.bytes);
+        outline.move_state = move_from_bytes(entry.bytes);
         Ok(())
     } else {
-        apply_entry_to_slot_marks(&mut outline.marks, entry)?;
+        apply_to_marks(&mut outline.marks, entry)?;
         Ok(())
     }
 }
 
 // Applies to the slots' marks an entry that is no checksum, tail or move state.
-fn apply_entry_to_slot_marks(
+fn apply_to_marks(
     marks: &mut Vec<SlotSummary>,
     entry: &Entry<'_>,
 ) -> Result<(), ContentError>
-    ensures { GivesValueUnlessNoMemory (λ _. marks.new.items) result (slot_marks_after_entry marks.old.items (log_entry_view entry.now)) }
+    ensures { GivesWithMemory (λ _. marks.new.items) result (marks_after_entry marks.old.items (log_entry_view entry.now)) }
 {
     let kind = entry.tag.kind();
     let class = entry.tag.class();
     let id = usize::from(entry.tag.id());
-    let is_named = is_marked_as_named(marks, id);
+    let is_named = is_named_mark(marks, id);
     if class == NAME_CLASS {
-        mark_slot_as_named(marks, id)?;
+        mark_named(marks, id)?;
         Ok(())
     } else if kind == CREATE {
         if id <= marks.len() {
-            insert_empty_slot_mark(marks, id)?;
+            insert_empty_mark(marks, id)?;
             Ok(())
         } else {
             Err(ContentError::Malformed)
@@ -150,7 +150,7 @@ fn apply_entry_to_slot_marks(
     } else if !is_named {
         Err(ContentError::Malformed)
     } else if class == STRUCT_CLASS {
-        mark_slot_as_having_struct(marks, id);
+        mark_struct(marks, id);
         Ok(())
     } else {
         Ok(())
@@ -158,8 +158,8 @@ fn apply_entry_to_slot_marks(
 }
 
 // Returns whether a slot is there and has a name.
-fn is_marked_as_named(marks: &[SlotSummary], id: usize) -> bool
-    ensures value { result ≡ (name_and_struct_mark_at_id marks.now id).has_name }
+fn is_named_mark(marks: &[SlotSummary], id: usize) -> bool
+    ensures value { result ≡ (mark_at_id marks.now id).has_name }
     ensures there { IsTrue result → id < length marks.now }
 {
     if id < marks.len() {
@@ -170,19 +170,19 @@ fn is_marked_as_named(marks: &[SlotSummary], id: usize) -> bool
 }
 
 // Marks the name of a slot, which may be past the end.
-fn mark_slot_as_named(marks: &mut Vec<SlotSummary>, id: usize) -> Result<(), AllocError>
+fn mark_named(marks: &mut Vec<SlotSummary>, id: usize) -> Result<(), AllocError>
     requires { id < 1024 }
-    ensures { OnOk result (marks.new.items ≡ slot_marks_with_one_changed (λ m. record m { has_name = true }) (slot_marks_padded_to_id marks.old.items id) id) }
+    ensures { OnOk result (marks.new.items ≡ marks_with_change (λ m. record m { has_name = true }) (marks_padded_to marks.old.items id) id) }
 {
-    pad_slot_marks_to_id(marks, id)?;
+    pad_marks(marks, id)?;
     marks[id].has_name = true;
     Ok(())
 }
 
 // Adds marks of empty slots up to an id.
-fn pad_slot_marks_to_id(marks: &mut Vec<SlotSummary>, id: usize) -> Result<(), AllocError>
+fn pad_marks(marks: &mut Vec<SlotSummary>, id: usize) -> Result<(), AllocError>
     requires { id < 1024 }
-    ensures filled { OnOk result (marks.new.items ≡ slot_marks_padded_to_id marks.old.items id) }
+    ensures filled { OnOk result (marks.new.items ≡ marks_padded_to marks.old.items id) }
     ensures long { OnOk result (id < vec_len marks.new) }
 {
     if marks.len() <= id {
@@ -196,16 +196,16 @@ const NO_MARK: SlotSummary = SlotSummary {
     has_struct: false,
 };
 
-fn mark_slot_as_having_struct(marks: &mut Vec<SlotSummary>, id: usize)
+fn mark_struct(marks: &mut Vec<SlotSummary>, id: usize)
     requires { id < vec_len marks.old }
-    ensures { marks.new.items ≡ slot_marks_with_one_changed (λ m. record m { has_struct = true }) marks.old.items id }
+    ensures { marks.new.items ≡ marks_with_change (λ m. record m { has_struct = true }) marks.old.items id }
 {
     marks[id].has_struct = true;
 }
 
-fn insert_empty_slot_mark(marks: &mut Vec<SlotSummary>, id: usize) -> Result<(), AllocError>
+fn insert_empty_mark(marks: &mut Vec<SlotSummary>, id: usize) -> Result<(), AllocError>
     requires { id ≤ vec_len marks.old }
-    ensures { OnOk result (marks.new.items ≡ insert marks.old.items id empty_name_and_struct_mark) }
+    ensures { OnOk result (marks.new.items ≡ insert marks.old.items id empty_mark) }
 {
     marks.insert(id, NO_MARK)?;
     Ok(())

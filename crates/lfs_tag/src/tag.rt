@@ -1,8 +1,8 @@
 // Tags.
 
 ghost use Rattle.std.specs.Prelude.{◌≡◌, ◌<◌, ◌^◌, ◌%◌, ◌↔◌, IsTrue, bit_xor};
-ghost use Rattle.lfs_model.specs.Tag.{IsValidTag, type_of_tag, id_of_tag, length_of_tag, abstract_type_of_tag, chunk_of_tag, tag_data_size, is_tag_ending_or_spoiling_commit, tag_of_type_id_and_length, tag_for_decoding_next_tag};
-ghost use Rattle.lfs_model.specs.EntryTypes.{is_attribute_removal};
+ghost use Rattle.lfs_model.specs.format.Tag.{IsValidTag, tag_type, tag_id, tag_length, abstract_type, tag_chunk, tag_data_size, is_commit_end, make_tag, tag_before_next};
+ghost use Rattle.lfs_model.specs.format.EntryTypes.{is_attribute_removal};
 
 use crate::kinds::{CHECKSUM_CLASS, FORWARD_CHECKSUM};
 use std::marker::Model;
@@ -50,10 +50,10 @@ impl Tag {
         requires kind { kind < 2 ^ 11 }
         requires id { id < 2 ^ 10 }
         requires len { len < 2 ^ 10 }
-        ensures bits { result ≡ tag_of_type_id_and_length kind id len }
-        ensures kind { type_of_tag result ≡ kind }
-        ensures id { id_of_tag result ≡ id }
-        ensures len { length_of_tag result ≡ len }
+        ensures bits { result ≡ make_tag kind id len }
+        ensures kind { tag_type result ≡ kind }
+        ensures id { tag_id result ≡ id }
+        ensures len { tag_length result ≡ len }
         ensures valid { IsValidTag result }
     {
         Tag {
@@ -89,28 +89,28 @@ impl Tag {
     /// Returns the type, below 2,048: one of [`crate::kinds`], or that of a user attribute, 0x300
     /// and its own type.
     pub fn kind(self) -> u16
-        ensures { result ≡ type_of_tag self }
+        ensures { result ≡ tag_type self }
     {
         (self.bits >> 20 & 0x7ff) as u16
     }
 
     /// Returns the id of the slot, below 1,024.
     pub fn id(self) -> u16
-        ensures { result ≡ id_of_tag self }
+        ensures { result ≡ tag_id self }
     {
         (self.bits >> 10 & 0x3ff) as u16
     }
 
     /// Returns the length, below 1,024.
     pub fn len(self) -> u16
-        ensures { result ≡ length_of_tag self }
+        ensures { result ≡ tag_length self }
     {
         (self.bits & 0x3ff) as u16
     }
 
     /// Returns the class: the upper three bits of the type.
     pub fn class(self) -> u16
-        ensures { result ≡ abstract_type_of_tag self }
+        ensures { result ≡ abstract_type self }
     {
         self.kind() >> 8
     }
@@ -118,13 +118,13 @@ impl Tag {
     /// Returns the chunk: the lower eight bits of the type. In an attribute's tag these are the
     /// attribute's own type.
     pub fn chunk(self) -> u8
-        ensures { result ≡ chunk_of_tag self }
+        ensures { result ≡ tag_chunk self }
     {
         (self.kind() & 0xff) as u8
     }
 
     /// Returns whether the length is the one that removes an attribute.
-    pub fn has_attribute_removal_length(self) -> bool
+    pub fn has_removal_length(self) -> bool
         ensures { result ≡ is_attribute_removal self }
     {
         self.len() == Tag::REMOVED
@@ -134,7 +134,7 @@ impl Tag {
     pub fn size(self) -> usize
         ensures { result ≡ tag_data_size self }
     {
-        if self.has_attribute_removal_length() {
+        if self.has_removal_length() {
             0
         } else {
             usize::from(self.len())
@@ -144,15 +144,15 @@ impl Tag {
     // Returns whether the tag ends a commit, or spoils it. These are all tags of class 5 but a
     // forward checksum's, which littlefs writes from version 2.1 on and which has no meaning here.
     pub(crate) fn ends_commit(self) -> bool
-        ensures { result ≡ is_tag_ending_or_spoiling_commit self }
+        ensures { result ≡ is_commit_end self }
     {
         self.class() == CHECKSUM_CLASS && !(self.kind() == FORWARD_CHECKSUM && self.len() <= 1022)
     }
 
     // Returns the tag as the next one is decoded with it. A checksum's lowest chunk bit is added to
     // the top bit. So the bytes after a commit can be made to decode as no tag.
-    pub(crate) fn as_previous_of_next_tag(self) -> Tag
-        ensures { result ≡ tag_for_decoding_next_tag self }
+    pub(crate) fn as_previous_tag(self) -> Tag
+        ensures { result ≡ tag_before_next self }
     {
         if self.ends_commit() {
             Tag {

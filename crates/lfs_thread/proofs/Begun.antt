@@ -6,46 +6,46 @@ use Rattle.std.proofs.lemmas.Bool.Decides.{eqb_tells}
 use Rattle.std.proofs.lemmas.Option.{slice_get_within}
 use Rattle.std.proofs.lemmas.List.{map-append, length-set, length-replicate}
 use Rattle.lfs_device.specs.declared.device.BlockDevice.{Ghosts}
-use Rattle.lfs_device.specs.Calls.{ReadsOnly}
-use Rattle.lfs_model.specs.Blocks.{Blocks}
-use Rattle.lfs_model.specs.BlockSets.{Free, InFlight, Used, AreExactlyTheInFlightBlocks, BlockStateList, IsBlockFree, IsBlockInFlight, IsBlockMarkedUsedInMap}
-use Rattle.lfs_model.specs.Disk.{Disk, block_count}
-use Rattle.lfs_model.specs.History.{DeviceCallEvent, AreCallsSinceOnlyReads}
-use Rattle.lfs_model.specs.Slots.{PairContent}
-use Rattle.lfs_model.specs.Content.{pair_content_if_slots_complete, content_of_pair_at, raw_content_of_pair_at}
-use Rattle.lfs_model.specs.Thread.{Pair, anchor_pair_address, AreLinkedByTails, pair_address_named_by_tail, blocks_of_pairs}
-use Rattle.lfs_model.specs.Violations.{LeadsByTails}
-use Rattle.lfs_model.proofs.BlockSets.{slice_get-set_same, slice_get-set_other, Contains-occurrence_count_of_number, occurrence_count_of_number-Contains, used_count-AreExactlyTheUsedBlocks, counts_le}
+use Rattle.lfs_device.specs.DeviceCalls.{ReadsOnly}
+use Rattle.lfs_model.specs.format.Blocks.{Blocks}
+use Rattle.lfs_model.specs.layers.BlockSets.{Free, InFlight, Used, AreInFlight, BlockStates, IsFree, IsInFlight, IsUsedBlock}
+use Rattle.lfs_model.specs.format.Disk.{Disk, block_count}
+use Rattle.lfs_model.specs.session.History.{CallEvent, OnlyReadsSince}
+use Rattle.lfs_model.specs.format.Slots.{PairContent}
+use Rattle.lfs_model.specs.format.Content.{complete_content, content_at, raw_content}
+use Rattle.lfs_model.specs.format.Thread.{Pair, anchor_address, AreLinked, tail_address_of, blocks_of_pairs}
+use Rattle.lfs_model.specs.layers.Violations.{LeadsByTails}
+use Rattle.lfs_model.proofs.BlockSets.{slice_get-set_same, slice_get-set_other, Contains-number_count, number_count-Contains, used_count-AreUsed, counts_le}
 use Rattle.lfs_model.proofs.Completed.{completed_parts}
 use Rattle.lfs_model.proofs.Histories.{goes_on_by}
-use Rattle.lfs_model.proofs.Counts.{occurrence_count_of_number, count_here, once_from_distinct, distinct_from_once}
+use Rattle.lfs_model.proofs.Counts.{number_count, count_here, once_from_distinct, distinct_from_once}
 use Rattle.lfs_tag.specs.ContentView.{tail_view}
-use Rattle.lfs_pair.specs.Commit.{IsPairAddressOnDisk}
-use Rattle.lfs_pair.specs.Pair.{FetchFindsPair, pair_address_in_header}
-use Rattle.lfs_thread.specs.Kept.{PairHeader, pair_on_disk_at, pairs_of_headers, IsPairHeaderOnDisk, AreAllBlocksUsed, IsKeptThreadOnDisk}
-use Rattle.lfs_thread.specs.Begun.{ArePairsBeforeAddress, IsPairWithContentOnFreeBlocks, IsBeginningOfThread}
+use Rattle.lfs_pair.specs.Commits.{AddressIsOnDisk}
+use Rattle.lfs_pair.specs.Pair.{FetchFindsPair, header_address}
+use Rattle.lfs_thread.specs.Kept.{PairHeader, disk_pair_at, pairs_of_headers, IsHeader, AllBlocksUsed, IsKeptOnDisk}
+use Rattle.lfs_thread.specs.Begun.{AreBeforeAddress, IsOnFreeBlocks, IsThreadBeginning}
 use Rattle.lfs_thread.proofs.Keeping.{headers_append, header_content, header_contents, pair_on_content, blocks_append}
 use Rattle.lfs_thread.proofs.Changing.{headers_read}
 use Rattle.lfs_thread.proofs.Coming.{two_unused, free_unused}
 
 -- ---- a pair that was fetched
 
-pub fetched_header : (disk : Disk) (history : List DeviceCallEvent) (at : ℕ × ℕ) (pair : PairHeader) → IsPairAddressOnDisk disk at → FetchFindsPair disk history at pair → pair.is_complete ≡ true → IsPairHeaderOnDisk disk history pair
-fetched_header disk history at pair on f full = go (pair_content_if_slots_complete f.held) refl (sym f.is_pair.describes.sums.complete ∙ full)
+pub fetched_header : (disk : Disk) (history : List CallEvent) (at : ℕ × ℕ) (pair : PairHeader) → AddressIsOnDisk disk at → FetchFindsPair disk history at pair → pair.is_complete ≡ true → IsHeader disk history pair
+fetched_header disk history at pair on f full = go (complete_content f.held) refl (sym f.is_pair.describes.sums.complete ∙ full)
   where
-    go : (o : Option PairContent) → pair_content_if_slots_complete f.held ≡ o → is_some {T = PairContent} o ≡ true → IsPairHeaderOnDisk disk history pair
+    go : (o : Option PairContent) → complete_content f.held ≡ o → is_some {T = PairContent} o ≡ true → IsHeader disk history pair
     go None e k = absurd (cc)
     go (Some c) e k = record {
-      address = subst (IsPairAddressOnDisk disk) (sym f.at) on;
+      address = subst (AddressIsOnDisk disk) (sym f.at) on;
       held = f.held;
       is_pair = f.is_pair;
-      raw = ap (raw_content_of_pair_at disk) f.at ∙ f.content;
+      raw = ap (raw_content disk) f.at ∙ f.content;
       content = c;
       complete = e;
     }
 
-pub fetched_stands : (disk : Disk) (history : List DeviceCallEvent) (at : ℕ × ℕ) (pair : PairHeader) (sets : BlockStateList) → IsPairAddressOnDisk disk at → FetchFindsPair disk history at pair → pair.is_complete ≡ true
-    → IsBlockFree sets at.0 → IsBlockFree (set sets at.0 Used) at.1 → IsPairWithContentOnFreeBlocks disk sets at
+pub fetched_stands : (disk : Disk) (history : List CallEvent) (at : ℕ × ℕ) (pair : PairHeader) (sets : BlockStates) → AddressIsOnDisk disk at → FetchFindsPair disk history at pair → pair.is_complete ≡ true
+    → IsFree sets at.0 → IsFree (set sets at.0 Used) at.1 → IsOnFreeBlocks disk sets at
 fetched_stands disk history at pair sets on f full first second =
     let h = fetched_header disk history at pair on f full in
     record {
@@ -53,76 +53,76 @@ fetched_stands disk history at pair sets on f full first second =
       first_free = first;
       second_free = sym (slice_get-set_other sets at.0 at.1 Used (λ e. on.apart (sym e))) ∙ second;
       content = h.content;
-      holds = ap (content_of_pair_at disk) (sym f.at) ∙ header_content disk history pair h;
+      holds = ap (content_at disk) (sym f.at) ∙ header_content disk history pair h;
     }
 
 -- no content, where a slot lacks its name or its struct
-pub fetched_incomplete : (disk : Disk) (history : List DeviceCallEvent) (at : ℕ × ℕ) (pair : PairHeader) → FetchFindsPair disk history at pair → pair.is_complete ≡ false → content_of_pair_at disk at ≡ None
-fetched_incomplete disk history at pair f not_full = ap (option_and_then pair_content_if_slots_complete) f.content ∙ go (pair_content_if_slots_complete f.held) (sym f.is_pair.describes.sums.complete ∙ not_full)
+pub fetched_incomplete : (disk : Disk) (history : List CallEvent) (at : ℕ × ℕ) (pair : PairHeader) → FetchFindsPair disk history at pair → pair.is_complete ≡ false → content_at disk at ≡ None
+fetched_incomplete disk history at pair f not_full = ap (option_and_then complete_content) f.content ∙ go (complete_content f.held) (sym f.is_pair.describes.sums.complete ∙ not_full)
   where
     go : (o : Option PairContent) → is_some {T = PairContent} o ≡ false → o ≡ None
     go None k = refl
     go (Some c) k = absurd (cc)
 
-pub on_disk : (disk : Disk) (n : ℕ) (at : ℕ × ℕ) → block_count disk ≡ n → at.0 ≢ at.1 → at.0 < n → at.1 < n → IsPairAddressOnDisk disk at
+pub on_disk : (disk : Disk) (n : ℕ) (at : ℕ × ℕ) → block_count disk ≡ n → at.0 ≢ at.1 → at.0 < n → at.1 < n → AddressIsOnDisk disk at
 on_disk disk n at is apart first second = record { apart = apart; first = subst (λ k. at.0 < k) (sym is) first; second = subst (λ k. at.1 < k) (sym is) second }
 
 -- ---- nothing is read yet
 
-none_used : (n b : ℕ) → IsBlockMarkedUsedInMap (replicate n Free) b → ⊥
+none_used : (n b : ℕ) → IsUsedBlock (replicate n Free) b → ⊥
 none_used zero b u = absurd (cc)
 none_used (suc n) zero u = absurd (cc)
 none_used (suc n) (suc b) u = none_used n b u
 
-all_free : (n b : ℕ) → b < n → IsBlockFree (replicate n Free) b
+all_free : (n b : ℕ) → b < n → IsFree (replicate n Free) b
 all_free zero b l = absurd (omega arith)
 all_free (suc n) zero l = refl
 all_free (suc n) (suc b) l = all_free n b (omega arith)
 
-pub begun_none : (disk : Disk) (history : List DeviceCallEvent) (n : ℕ) → n ≡ block_count disk → IsBeginningOfThread disk history [] (replicate n Free) (Some anchor_pair_address)
+pub begun_none : (disk : Disk) (history : List CallEvent) (n : ℕ) → n ≡ block_count disk → IsThreadBeginning disk history [] (replicate n Free) (Some anchor_address)
 begun_none disk history n e = record {
   each = tt;
   links = refl;
   distinct = distinct_from_once [] (λ b. omega arith);
   size = length-replicate n Free ∙ e;
-  marked = λ b. ((λ u. absurd (none_used n b u)), (λ h. absurd (omega (arith, occurrence_count_of_number-Contains [] b h))));
+  marked = λ b. ((λ u. absurd (none_used n b u)), (λ h. absurd (omega (arith, number_count-Contains [] b h))));
   others = λ b l. inr (all_free n b (let k = length-replicate n Free in omega arith));
 }
 
 -- ---- one more
 
-leads_on : (at : Option (ℕ × ℕ)) (ps : List Pair) (p : Pair) → LeadsByTails at ps (Some p.at) → LeadsByTails at (ps ++ p ∷ []) (pair_address_named_by_tail p.content.tail)
+leads_on : (at : Option (ℕ × ℕ)) (ps : List Pair) (p : Pair) → LeadsByTails at ps (Some p.at) → LeadsByTails at (ps ++ p ∷ []) (tail_address_of p.content.tail)
 leads_on at [] p l = (l, refl)
-leads_on at (q ∷ ps) p l = (l.0, leads_on (pair_address_named_by_tail q.content.tail) ps p l.1)
+leads_on at (q ∷ ps) p l = (l.0, leads_on (tail_address_of q.content.tail) ps p l.1)
 
-all_used : (sets : BlockStateList) (bs : List ℕ) → ((b : ℕ) → Contains bs b → IsBlockMarkedUsedInMap sets b) → AreAllBlocksUsed sets bs
+all_used : (sets : BlockStates) (bs : List ℕ) → ((b : ℕ) → Contains bs b → IsUsedBlock sets b) → AllBlocksUsed sets bs
 all_used sets [] f = tt
-all_used sets (b ∷ bs) f = (f b (Contains-occurrence_count_of_number (b ∷ bs) b (let k = count_here b bs in omega arith)), all_used sets bs (λ c h. f c (Contains-occurrence_count_of_number (b ∷ bs) c (let k = occurrence_count_of_number-Contains bs c h in let l = more c b bs in omega arith))))
+all_used sets (b ∷ bs) f = (f b (Contains-number_count (b ∷ bs) b (let k = count_here b bs in omega arith)), all_used sets bs (λ c h. f c (Contains-number_count (b ∷ bs) c (let k = number_count-Contains bs c h in let l = more c b bs in omega arith))))
   where
-    more : (x b : ℕ) (bs : List ℕ) → occurrence_count_of_number x bs ≤ occurrence_count_of_number x (b ∷ bs)
+    more : (x b : ℕ) (bs : List ℕ) → number_count x bs ≤ number_count x (b ∷ bs)
     more x b bs = omega arith
 
-used_now : (disk : Disk) (history : List DeviceCallEvent) (hs : List PairHeader) (sets : BlockStateList) (next : Option (ℕ × ℕ)) → IsBeginningOfThread disk history hs sets next → AreAllBlocksUsed sets (blocks_of_pairs (pairs_of_headers disk hs))
+used_now : (disk : Disk) (history : List CallEvent) (hs : List PairHeader) (sets : BlockStates) (next : Option (ℕ × ℕ)) → IsThreadBeginning disk history hs sets next → AllBlocksUsed sets (blocks_of_pairs (pairs_of_headers disk hs))
 used_now disk history hs sets next begun = all_used sets (blocks_of_pairs (pairs_of_headers disk hs)) (λ b h. (begun.marked b).1 h)
 
-module _ (disk : Disk) (blocks : Blocks) (before after : List DeviceCallEvent) (hs : List PairHeader) (sets : BlockStateList) (at : ℕ × ℕ) (h : PairHeader)
-    (reads : AreCallsSinceOnlyReads blocks before after) (begun : IsBeginningOfThread disk before hs sets (Some at)) (is : IsPairHeaderOnDisk disk after h) (same : pair_address_in_header h ≡ at) (stands : IsPairWithContentOnFreeBlocks disk sets at) where
+module _ (disk : Disk) (blocks : Blocks) (before after : List CallEvent) (hs : List PairHeader) (sets : BlockStates) (at : ℕ × ℕ) (h : PairHeader)
+    (reads : OnlyReadsSince blocks before after) (begun : IsThreadBeginning disk before hs sets (Some at)) (is : IsHeader disk after h) (same : header_address h ≡ at) (stands : IsOnFreeBlocks disk sets at) where
   abbrev p : Pair
-  p = pair_on_disk_at disk (pair_address_in_header h)
+  p = disk_pair_at disk (header_address h)
 
-  abbrev now : BlockStateList
+  abbrev now : BlockStates
   now = set (set sets at.0 Used) at.1 Used
 
   tail_is : p.content.tail ≡ option_map tail_view h.tail
-  tail_is = ap (λ (q : Pair). q.content.tail) (pair_on_content disk (pair_address_in_header h) is.content (header_content disk after h is))
+  tail_is = ap (λ (q : Pair). q.content.tail) (pair_on_content disk (header_address h) is.content (header_content disk after h is))
       ∙ (completed_parts is.held is.content is.complete).tail ∙ sym is.is_pair.describes.sums.tail
 
   pairs_now : pairs_of_headers disk (hs ++ h ∷ []) ≡ pairs_of_headers disk hs ++ p ∷ []
-  pairs_now = map-append (λ x. pair_on_disk_at disk (pair_address_in_header x)) hs (h ∷ [])
+  pairs_now = map-append (λ x. disk_pair_at disk (header_address x)) hs (h ∷ [])
 
-  counts : (b : ℕ) → occurrence_count_of_number b (blocks_of_pairs (pairs_of_headers disk (hs ++ h ∷ []))) ≡ occurrence_count_of_number b (blocks_of_pairs (pairs_of_headers disk hs)) + occurrence_count_of_number b (at.0 ∷ at.1 ∷ [])
-  counts b = ap (λ z. occurrence_count_of_number b (blocks_of_pairs z)) pairs_now ∙ blocks_append (pairs_of_headers disk hs) (p ∷ []) b
-      ∙ ap (λ (x : ℕ × ℕ). occurrence_count_of_number b (blocks_of_pairs (pairs_of_headers disk hs)) + occurrence_count_of_number b (x.0 ∷ x.1 ∷ [])) same
+  counts : (b : ℕ) → number_count b (blocks_of_pairs (pairs_of_headers disk (hs ++ h ∷ []))) ≡ number_count b (blocks_of_pairs (pairs_of_headers disk hs)) + number_count b (at.0 ∷ at.1 ∷ [])
+  counts b = ap (λ z. number_count b (blocks_of_pairs z)) pairs_now ∙ blocks_append (pairs_of_headers disk hs) (p ∷ []) b
+      ∙ ap (λ (x : ℕ × ℕ). number_count b (blocks_of_pairs (pairs_of_headers disk hs)) + number_count b (x.0 ∷ x.1 ∷ [])) same
 
   first_within : at.0 < length sets
   first_within = slice_get_within sets at.0 Free stands.first_free
@@ -130,10 +130,10 @@ module _ (disk : Disk) (blocks : Blocks) (before after : List DeviceCallEvent) (
   second_within : at.1 < length (set sets at.0 Used)
   second_within = let l = slice_get_within sets at.1 Free stands.second_free in let e = length-set sets at.0 Used in omega arith
 
-  first_used : IsBlockMarkedUsedInMap now at.0
+  first_used : IsUsedBlock now at.0
   first_used = slice_get-set_other (set sets at.0 Used) at.1 at.0 Used stands.apart ∙ slice_get-set_same sets at.0 Used first_within
 
-  second_used : IsBlockMarkedUsedInMap now at.1
+  second_used : IsUsedBlock now at.1
   second_used = slice_get-set_same (set sets at.0 Used) at.1 Used second_within
 
   other_same : (b : ℕ) → b ≢ at.0 → b ≢ at.1 → slice_get now b ≡ slice_get sets b
@@ -149,61 +149,61 @@ module _ (disk : Disk) (blocks : Blocks) (before after : List DeviceCallEvent) (
       go (inr k) (inl l) = inl (inr l.1)
       go (inr k) (inr l) = inr (k.1, l.1)
 
-  one_of : (b : ℕ) → (b ≡ at.0) ⊎ (b ≡ at.1) → (IsBlockMarkedUsedInMap now b) × (1 ≤ occurrence_count_of_number b (at.0 ∷ at.1 ∷ []))
-  one_of b (inl e) = (subst (IsBlockMarkedUsedInMap now) (sym e) first_used, (let k = ap (λ x. occurrence_count_of_number x (at.0 ∷ at.1 ∷ [])) e in let l = count_here at.0 (at.1 ∷ []) in omega arith))
-  one_of b (inr e) = (subst (IsBlockMarkedUsedInMap now) (sym e) second_used, (let k = ap (λ x. occurrence_count_of_number x (at.0 ∷ at.1 ∷ [])) e in let l = count_here at.1 [] in let m = more at.1 at.0 (at.1 ∷ []) in omega arith))
+  one_of : (b : ℕ) → (b ≡ at.0) ⊎ (b ≡ at.1) → (IsUsedBlock now b) × (1 ≤ number_count b (at.0 ∷ at.1 ∷ []))
+  one_of b (inl e) = (subst (IsUsedBlock now) (sym e) first_used, (let k = ap (λ x. number_count x (at.0 ∷ at.1 ∷ [])) e in let l = count_here at.0 (at.1 ∷ []) in omega arith))
+  one_of b (inr e) = (subst (IsUsedBlock now) (sym e) second_used, (let k = ap (λ x. number_count x (at.0 ∷ at.1 ∷ [])) e in let l = count_here at.1 [] in let m = more at.1 at.0 (at.1 ∷ []) in omega arith))
     where
-      more : (x b : ℕ) (bs : List ℕ) → occurrence_count_of_number x bs ≤ occurrence_count_of_number x (b ∷ bs)
+      more : (x b : ℕ) (bs : List ℕ) → number_count x bs ≤ number_count x (b ∷ bs)
       more x b bs = omega arith
 
-  no_other : (b : ℕ) → b ≢ at.0 → b ≢ at.1 → occurrence_count_of_number b (at.0 ∷ at.1 ∷ []) ≡ 0
+  no_other : (b : ℕ) → b ≢ at.0 → b ≢ at.1 → number_count b (at.0 ∷ at.1 ∷ []) ≡ 0
   no_other b f g = go (eqb_tells b at.0) (eqb_tells b at.1)
     where
       go : ((nat_eq b at.0 ≡ true) × (b ≡ at.0)) ⊎ ((nat_eq b at.0 ≡ false) × (b ≢ at.0)) → ((nat_eq b at.1 ≡ true) × (b ≡ at.1)) ⊎ ((nat_eq b at.1 ≡ false) × (b ≢ at.1))
-          → occurrence_count_of_number b (at.0 ∷ at.1 ∷ []) ≡ 0
+          → number_count b (at.0 ∷ at.1 ∷ []) ≡ 0
       go (inl k) l = absurd (f k.1)
       go (inr k) (inl l) = absurd (g l.1)
       go (inr k) (inr l) = rw (k.0, l.0) refl
 
-  marked_now : (b : ℕ) → IsBlockMarkedUsedInMap now b ↔ Contains (blocks_of_pairs (pairs_of_headers disk (hs ++ h ∷ []))) b
+  marked_now : (b : ℕ) → IsUsedBlock now b ↔ Contains (blocks_of_pairs (pairs_of_headers disk (hs ++ h ∷ []))) b
   marked_now b = (to, from)
     where
-      to : IsBlockMarkedUsedInMap now b → Contains (blocks_of_pairs (pairs_of_headers disk (hs ++ h ∷ []))) b
+      to : IsUsedBlock now b → Contains (blocks_of_pairs (pairs_of_headers disk (hs ++ h ∷ []))) b
       to u = go (which b)
         where
           go : ((b ≡ at.0) ⊎ (b ≡ at.1)) ⊎ ((b ≢ at.0) × (b ≢ at.1)) → Contains (blocks_of_pairs (pairs_of_headers disk (hs ++ h ∷ []))) b
-          go (inl k) = Contains-occurrence_count_of_number (blocks_of_pairs (pairs_of_headers disk (hs ++ h ∷ []))) b (let e = counts b in let l = (one_of b k).1 in omega arith)
-          go (inr k) = Contains-occurrence_count_of_number (blocks_of_pairs (pairs_of_headers disk (hs ++ h ∷ []))) b
-              (let e = counts b in let l = occurrence_count_of_number-Contains (blocks_of_pairs (pairs_of_headers disk hs)) b ((begun.marked b).0 (sym (other_same b k.0 k.1) ∙ u)) in omega arith)
+          go (inl k) = Contains-number_count (blocks_of_pairs (pairs_of_headers disk (hs ++ h ∷ []))) b (let e = counts b in let l = (one_of b k).1 in omega arith)
+          go (inr k) = Contains-number_count (blocks_of_pairs (pairs_of_headers disk (hs ++ h ∷ []))) b
+              (let e = counts b in let l = number_count-Contains (blocks_of_pairs (pairs_of_headers disk hs)) b ((begun.marked b).0 (sym (other_same b k.0 k.1) ∙ u)) in omega arith)
 
-      from : Contains (blocks_of_pairs (pairs_of_headers disk (hs ++ h ∷ []))) b → IsBlockMarkedUsedInMap now b
+      from : Contains (blocks_of_pairs (pairs_of_headers disk (hs ++ h ∷ []))) b → IsUsedBlock now b
       from c = go (which b)
         where
-          go : ((b ≡ at.0) ⊎ (b ≡ at.1)) ⊎ ((b ≢ at.0) × (b ≢ at.1)) → IsBlockMarkedUsedInMap now b
+          go : ((b ≡ at.0) ⊎ (b ≡ at.1)) ⊎ ((b ≢ at.0) × (b ≢ at.1)) → IsUsedBlock now b
           go (inl k) = (one_of b k).0
-          go (inr k) = other_same b k.0 k.1 ∙ (begun.marked b).1 (Contains-occurrence_count_of_number (blocks_of_pairs (pairs_of_headers disk hs)) b
-              (let e = counts b in let l = occurrence_count_of_number-Contains (blocks_of_pairs (pairs_of_headers disk (hs ++ h ∷ []))) b c in let m = no_other b k.0 k.1 in omega arith))
+          go (inr k) = other_same b k.0 k.1 ∙ (begun.marked b).1 (Contains-number_count (blocks_of_pairs (pairs_of_headers disk hs)) b
+              (let e = counts b in let l = number_count-Contains (blocks_of_pairs (pairs_of_headers disk (hs ++ h ∷ []))) b c in let m = no_other b k.0 k.1 in omega arith))
 
-  others_now : (b : ℕ) → b < length now → IsBlockMarkedUsedInMap now b ⊎ IsBlockFree now b
+  others_now : (b : ℕ) → b < length now → IsUsedBlock now b ⊎ IsFree now b
   others_now b l = go (which b)
     where
       was : b < length sets
       was = let e = length-set (set sets at.0 Used) at.1 Used in let f = length-set sets at.0 Used in omega arith
 
-      go : ((b ≡ at.0) ⊎ (b ≡ at.1)) ⊎ ((b ≢ at.0) × (b ≢ at.1)) → IsBlockMarkedUsedInMap now b ⊎ IsBlockFree now b
+      go : ((b ≡ at.0) ⊎ (b ≡ at.1)) ⊎ ((b ≢ at.0) × (b ≢ at.1)) → IsUsedBlock now b ⊎ IsFree now b
       go (inl k) = inl (one_of b k).0
       go (inr k) = side (begun.others b was)
         where
-          side : IsBlockMarkedUsedInMap sets b ⊎ IsBlockFree sets b → IsBlockMarkedUsedInMap now b ⊎ IsBlockFree now b
+          side : IsUsedBlock sets b ⊎ IsFree sets b → IsUsedBlock now b ⊎ IsFree now b
           side (inl u) = inl (other_same b k.0 k.1 ∙ u)
           side (inr f) = inr (other_same b k.0 k.1 ∙ f)
 
-  pub begun_more : IsBeginningOfThread disk after (hs ++ h ∷ []) now (pair_address_named_by_tail (option_map tail_view h.tail))
+  pub begun_more : IsThreadBeginning disk after (hs ++ h ∷ []) now (tail_address_of (option_map tail_view h.tail))
   begun_more = record {
     each = headers_append disk after hs (h ∷ []) (headers_read disk blocks before after hs reads begun.each) (is, tt);
-    links = subst (λ ps. LeadsByTails (Some anchor_pair_address) ps (pair_address_named_by_tail (option_map tail_view h.tail))) (sym pairs_now)
-        (subst (λ t. LeadsByTails (Some anchor_pair_address) (pairs_of_headers disk hs ++ p ∷ []) (pair_address_named_by_tail t)) tail_is
-        (leads_on (Some anchor_pair_address) (pairs_of_headers disk hs) p (subst (λ a. LeadsByTails (Some anchor_pair_address) (pairs_of_headers disk hs) (Some a)) (sym same) begun.links)));
+    links = subst (λ ps. LeadsByTails (Some anchor_address) ps (tail_address_of (option_map tail_view h.tail))) (sym pairs_now)
+        (subst (λ t. LeadsByTails (Some anchor_address) (pairs_of_headers disk hs ++ p ∷ []) (tail_address_of t)) tail_is
+        (leads_on (Some anchor_address) (pairs_of_headers disk hs) p (subst (λ a. LeadsByTails (Some anchor_address) (pairs_of_headers disk hs) (Some a)) (sym same) begun.links)));
     distinct = distinct_from_once (blocks_of_pairs (pairs_of_headers disk (hs ++ h ∷ []))) (λ b.
         let e = counts b in
         let k = two_unused sets at.0 at.1 (blocks_of_pairs (pairs_of_headers disk hs)) (free_unused sets at.0 stands.first_free) (free_unused sets at.1 stands.second_free) stands.apart (used_now disk before hs sets (Some at) begun) (once_from_distinct (blocks_of_pairs (pairs_of_headers disk hs)) begun.distinct) b in
@@ -215,41 +215,41 @@ module _ (disk : Disk) (blocks : Blocks) (before after : List DeviceCallEvent) (
 
 -- ---- at the end
 
-leads_linked : (at : Option (ℕ × ℕ)) (ps : List Pair) → LeadsByTails at ps None → AreLinkedByTails at ps
+leads_linked : (at : Option (ℕ × ℕ)) (ps : List Pair) → LeadsByTails at ps None → AreLinked at ps
 leads_linked at [] l = l
-leads_linked at (p ∷ ps) l = (l.0, leads_linked (pair_address_named_by_tail p.content.tail) ps l.1)
+leads_linked at (p ∷ ps) l = (l.0, leads_linked (tail_address_of p.content.tail) ps l.1)
 
-pub begun_kept : (disk : Disk) (history : List DeviceCallEvent) (hs : List PairHeader) (sets : BlockStateList) → IsBeginningOfThread disk history hs sets None → IsKeptThreadOnDisk disk history hs sets
+pub begun_kept : (disk : Disk) (history : List CallEvent) (hs : List PairHeader) (sets : BlockStates) → IsThreadBeginning disk history hs sets None → IsKeptOnDisk disk history hs sets
 begun_kept disk history hs sets begun = record {
   each = begun.each;
-  links = leads_linked (Some anchor_pair_address) (pairs_of_headers disk hs) begun.links;
+  links = leads_linked (Some anchor_address) (pairs_of_headers disk hs) begun.links;
   distinct = begun.distinct;
   size = begun.size;
   used = used_now disk history hs sets None begun;
 }
 
-pub begun_none_in_flight : (disk : Disk) (history : List DeviceCallEvent) (hs : List PairHeader) (sets : BlockStateList) (next : Option (ℕ × ℕ)) → IsBeginningOfThread disk history hs sets next → AreExactlyTheInFlightBlocks sets []
+pub begun_none_in_flight : (disk : Disk) (history : List CallEvent) (hs : List PairHeader) (sets : BlockStates) (next : Option (ℕ × ℕ)) → IsThreadBeginning disk history hs sets next → AreInFlight sets []
 begun_none_in_flight disk history hs sets next begun b = (
   λ flies. absurd (go flies (begun.others b (slice_get_within sets b InFlight flies))),
   λ (none : Contains [] b). absurd (let below : none.0 < 0 = none.1 in omega arith),
 )
   where
-    go : IsBlockInFlight sets b → IsBlockMarkedUsedInMap sets b ⊎ IsBlockFree sets b → ⊥
+    go : IsInFlight sets b → IsUsedBlock sets b ⊎ IsFree sets b → ⊥
     go flies (inl used) = absurd (let e : Some InFlight ≡ Some Used = sym flies ∙ used in cc)
     go flies (inr free) = absurd (let e : Some InFlight ≡ Some Free = sym flies ∙ free in cc)
 
-pub begun_before : (disk : Disk) (history : List DeviceCallEvent) (hs : List PairHeader) (sets : BlockStateList) (next : Option (ℕ × ℕ)) (at : ℕ × ℕ) → next ≡ Some at → IsBeginningOfThread disk history hs sets next
-    → ArePairsBeforeAddress disk sets (pairs_of_headers disk hs) at
+pub begun_before : (disk : Disk) (history : List CallEvent) (hs : List PairHeader) (sets : BlockStates) (next : Option (ℕ × ℕ)) (at : ℕ × ℕ) → next ≡ Some at → IsThreadBeginning disk history hs sets next
+    → AreBeforeAddress disk sets (pairs_of_headers disk hs) at
 begun_before disk history hs sets next at is begun = record {
-  begins = record { links = subst (LeadsByTails (Some anchor_pair_address) (pairs_of_headers disk hs)) is begun.links; contents = header_contents disk history hs begun.each };
+  begins = record { links = subst (LeadsByTails (Some anchor_address) (pairs_of_headers disk hs)) is begun.links; contents = header_contents disk history hs begun.each };
   marked = begun.marked;
   others = begun.others;
 }
 
 -- there are at least two blocks for each pair
-pub begun_few : (disk : Disk) (history : List DeviceCallEvent) (hs : List PairHeader) (sets : BlockStateList) (next : Option (ℕ × ℕ)) → IsBeginningOfThread disk history hs sets next → length hs + length hs ≤ block_count disk
+pub begun_few : (disk : Disk) (history : List CallEvent) (hs : List PairHeader) (sets : BlockStates) (next : Option (ℕ × ℕ)) → IsThreadBeginning disk history hs sets next → length hs + length hs ≤ block_count disk
 begun_few disk history hs sets next begun =
-    let u = used_count-AreExactlyTheUsedBlocks sets (blocks_of_pairs (pairs_of_headers disk hs)) begun.distinct begun.marked in
+    let u = used_count-AreUsed sets (blocks_of_pairs (pairs_of_headers disk hs)) begun.distinct begun.marked in
     let c = counts_le sets in
     let s = begun.size in
     let d = doubled hs in
@@ -261,8 +261,8 @@ begun_few disk history hs sets next begun =
 
 -- ---- in the code's words
 
-pub then_reads : {blocks mid_blocks : Blocks} {old mid new : List DeviceCallEvent} → AreCallsSinceOnlyReads blocks old mid → mid_blocks ≡ blocks → AreCallsSinceOnlyReads mid_blocks mid new → AreCallsSinceOnlyReads blocks old new
-then_reads {mid = mid} {new = new} first same second = goes_on_by first (subst (λ b. AreCallsSinceOnlyReads b mid new) same second)
+pub then_reads : {blocks mid_blocks : Blocks} {old mid new : List CallEvent} → OnlyReadsSince blocks old mid → mid_blocks ≡ blocks → OnlyReadsSince mid_blocks mid new → OnlyReadsSince blocks old new
+then_reads {mid = mid} {new = new} first same second = goes_on_by first (subst (λ b. OnlyReadsSince b mid new) same second)
 
 pub read_on : {D : Type 0} {g : Ghosts D} {old mid new : D} → ReadsOnly g old mid → ReadsOnly g mid new → ReadsOnly g old new
 read_on first second = record {
@@ -271,16 +271,16 @@ read_on first second = record {
   reads = then_reads first.reads first.same second.reads;
 }
 
-pub begun_first : (disk : Disk) (history : List DeviceCallEvent) (hs : List PairHeader) (sets : BlockStateList) (n : ℕ) → n ≡ block_count disk → hs ≡ [] → sets ≡ replicate n Free → IsBeginningOfThread disk history hs sets (Some anchor_pair_address)
+pub begun_first : (disk : Disk) (history : List CallEvent) (hs : List PairHeader) (sets : BlockStates) (n : ℕ) → n ≡ block_count disk → hs ≡ [] → sets ≡ replicate n Free → IsThreadBeginning disk history hs sets (Some anchor_address)
 begun_first disk history hs sets n e f g =
-    subst (λ z. IsBeginningOfThread disk history z sets (Some anchor_pair_address)) (sym f) (subst (λ s. IsBeginningOfThread disk history [] s (Some anchor_pair_address)) (sym g) (begun_none disk history n e))
+    subst (λ z. IsThreadBeginning disk history z sets (Some anchor_address)) (sym f) (subst (λ s. IsThreadBeginning disk history [] s (Some anchor_address)) (sym g) (begun_none disk history n e))
 
-pub begun_next : (disk now : Disk) (blocks : Blocks) (before after : List DeviceCallEvent) (hs items : List PairHeader) (sets marked : BlockStateList) (next : Option (ℕ × ℕ)) (at : ℕ × ℕ) (h : PairHeader) (behind : Option (ℕ × ℕ))
-    → now ≡ disk → AreCallsSinceOnlyReads blocks before after → next ≡ Some at → IsBeginningOfThread disk before hs sets next → IsPairHeaderOnDisk disk after h → pair_address_in_header h ≡ at → IsPairWithContentOnFreeBlocks disk sets at
-    → items ≡ hs ++ h ∷ [] → marked ≡ set (set sets at.0 Used) at.1 Used → behind ≡ pair_address_named_by_tail (option_map tail_view h.tail) → IsBeginningOfThread now after items marked behind
+pub begun_next : (disk now : Disk) (blocks : Blocks) (before after : List CallEvent) (hs items : List PairHeader) (sets marked : BlockStates) (next : Option (ℕ × ℕ)) (at : ℕ × ℕ) (h : PairHeader) (behind : Option (ℕ × ℕ))
+    → now ≡ disk → OnlyReadsSince blocks before after → next ≡ Some at → IsThreadBeginning disk before hs sets next → IsHeader disk after h → header_address h ≡ at → IsOnFreeBlocks disk sets at
+    → items ≡ hs ++ h ∷ [] → marked ≡ set (set sets at.0 Used) at.1 Used → behind ≡ tail_address_of (option_map tail_view h.tail) → IsThreadBeginning now after items marked behind
 begun_next disk now blocks before after hs items sets marked next at h behind e reads is begun header same stands items_are marked_is behind_is =
-    subst (λ d. IsBeginningOfThread d after items marked behind) (sym e)
-    (subst (λ z. IsBeginningOfThread disk after z marked behind) (sym items_are)
-    (subst (λ s. IsBeginningOfThread disk after (hs ++ h ∷ []) s behind) (sym marked_is)
-    (subst (λ n. IsBeginningOfThread disk after (hs ++ h ∷ []) (set (set sets at.0 Used) at.1 Used) n) (sym behind_is)
-    (begun_more disk blocks before after hs sets at h reads (subst (IsBeginningOfThread disk before hs sets) is begun) header same stands))))
+    subst (λ d. IsThreadBeginning d after items marked behind) (sym e)
+    (subst (λ z. IsThreadBeginning disk after z marked behind) (sym items_are)
+    (subst (λ s. IsThreadBeginning disk after (hs ++ h ∷ []) s behind) (sym marked_is)
+    (subst (λ n. IsThreadBeginning disk after (hs ++ h ∷ []) (set (set sets at.0 Used) at.1 Used) n) (sym behind_is)
+    (begun_more disk blocks before after hs sets at h reads (subst (IsThreadBeginning disk before hs sets) is begun) header same stands))))

@@ -4,70 +4,70 @@ use Rattle.std.specs.Prelude.{IfNone, IfSome}
 use Rattle.std.proofs.lemmas.Bool.{ne_eqb}
 use Rattle.std.proofs.lemmas.Option.{slice_get_within}
 use Rattle.std.proofs.lemmas.List.{length-set}
-use Rattle.lfs_model.specs.BlockSets.{BlockState, BlockStateList, Free, InFlight, Used, IsBlockFree, IsBlockInFlight, IsBlockMarkedUsedInMap}
-use Rattle.lfs_model.specs.Disk.{Disk}
-use Rattle.lfs_model.specs.History.{DeviceCallEvent}
+use Rattle.lfs_model.specs.layers.BlockSets.{BlockState, BlockStates, Free, InFlight, Used, IsFree, IsInFlight, IsUsedBlock}
+use Rattle.lfs_model.specs.format.Disk.{Disk}
+use Rattle.lfs_model.specs.session.History.{CallEvent}
 use Rattle.lfs_model.proofs.BlockSets.{slice_get-set_same, slice_get-set_other}
-use Rattle.lfs_model.proofs.Counts.{occurrence_count_of_number, count_here}
-use Rattle.lfs_pair.specs.Commit.{IsPairAddressOnDisk}
-use Rattle.lfs_model.specs.Thread.{blocks_of_pairs}
-use Rattle.lfs_thread.specs.Kept.{PairHeader, AreAllBlocksUsed, IsKeptThreadOnDisk, pairs_of_headers}
-use Rattle.lfs_thread.specs.Steps.{AreFreshBlocksInFlight, block_map_with_used_pair}
+use Rattle.lfs_model.proofs.Counts.{number_count, count_here}
+use Rattle.lfs_pair.specs.Commits.{AddressIsOnDisk}
+use Rattle.lfs_model.specs.format.Thread.{blocks_of_pairs}
+use Rattle.lfs_thread.specs.Kept.{PairHeader, AllBlocksUsed, IsKeptOnDisk, pairs_of_headers}
+use Rattle.lfs_thread.specs.ThreadSteps.{FreshInFlight, map_using}
 
 -- ---- blocks that aren't used stand in no pair
 
-pub count_other : (x b : ℕ) (bs : List ℕ) → x ≢ b → occurrence_count_of_number x (b ∷ bs) ≡ occurrence_count_of_number x bs
-count_other x b bs apart = let e : 0 + occurrence_count_of_number x bs ≡ occurrence_count_of_number x bs = omega arith in ap (λ t. cond t 1 0 + occurrence_count_of_number x bs) (ne_eqb x b apart) ∙ e
+pub count_other : (x b : ℕ) (bs : List ℕ) → x ≢ b → number_count x (b ∷ bs) ≡ number_count x bs
+count_other x b bs apart = let e : 0 + number_count x bs ≡ number_count x bs = omega arith in ap (λ t. cond t 1 0 + number_count x bs) (ne_eqb x b apart) ∙ e
 
-pub unused_counts : (sets : BlockStateList) (x : ℕ) (bs : List ℕ) → ¬ IsBlockMarkedUsedInMap sets x → AreAllBlocksUsed sets bs → occurrence_count_of_number x bs ≡ 0
+pub unused_counts : (sets : BlockStates) (x : ℕ) (bs : List ℕ) → ¬ IsUsedBlock sets x → AllBlocksUsed sets bs → number_count x bs ≡ 0
 unused_counts sets x [] unused used = refl
-unused_counts sets x (b ∷ bs) unused used = count_other x b bs (λ e. unused (subst (IsBlockMarkedUsedInMap sets) (sym e) used.0)) ∙ unused_counts sets x bs unused used.1
+unused_counts sets x (b ∷ bs) unused used = count_other x b bs (λ e. unused (subst (IsUsedBlock sets) (sym e) used.0)) ∙ unused_counts sets x bs unused used.1
 
-pub used_at : (sets : BlockStateList) (b : ℕ) (bs : List ℕ) → AreAllBlocksUsed sets bs → 1 ≤ occurrence_count_of_number b bs → IsBlockMarkedUsedInMap sets b
+pub used_at : (sets : BlockStates) (b : ℕ) (bs : List ℕ) → AllBlocksUsed sets bs → 1 ≤ number_count b bs → IsUsedBlock sets b
 used_at sets b [] used k = absurd (omega (arith, k))
 used_at sets b (x ∷ bs) used k = go (nat_eq b x) refl k (used_at sets b bs used.1)
   where
-    go : (t : Bool) → nat_eq b x ≡ t → 1 ≤ cond t 1 0 + occurrence_count_of_number b bs → (1 ≤ occurrence_count_of_number b bs → IsBlockMarkedUsedInMap sets b) → IsBlockMarkedUsedInMap sets b
-    go true e k next = subst (IsBlockMarkedUsedInMap sets) (sym (eqb-true b x e)) used.0
+    go : (t : Bool) → nat_eq b x ≡ t → 1 ≤ cond t 1 0 + number_count b bs → (1 ≤ number_count b bs → IsUsedBlock sets b) → IsUsedBlock sets b
+    go true e k next = subst (IsUsedBlock sets) (sym (eqb-true b x e)) used.0
     go false e k next = next (omega (arith, k))
 
-pub two_unused : (sets : BlockStateList) (f g : ℕ) (bs : List ℕ) → ¬ IsBlockMarkedUsedInMap sets f → ¬ IsBlockMarkedUsedInMap sets g → f ≢ g → AreAllBlocksUsed sets bs → ((b : ℕ) → occurrence_count_of_number b bs ≤ 1) → (b : ℕ) → occurrence_count_of_number b (f ∷ g ∷ []) + occurrence_count_of_number b bs ≤ 1
+pub two_unused : (sets : BlockStates) (f g : ℕ) (bs : List ℕ) → ¬ IsUsedBlock sets f → ¬ IsUsedBlock sets g → f ≢ g → AllBlocksUsed sets bs → ((b : ℕ) → number_count b bs ≤ 1) → (b : ℕ) → number_count b (f ∷ g ∷ []) + number_count b bs ≤ 1
 two_unused sets f g bs ff fg apart used once b = go (nat_eq b f) refl
   where
-    second : (t : Bool) → nat_eq b g ≡ t → occurrence_count_of_number b (g ∷ []) + occurrence_count_of_number b bs ≤ 1
+    second : (t : Bool) → nat_eq b g ≡ t → number_count b (g ∷ []) + number_count b bs ≤ 1
     second true e =
         let same = eqb-true b g e in
-        let none = ap (λ x. occurrence_count_of_number x bs) same ∙ unused_counts sets g bs fg used in
-        let one = ap (λ x. occurrence_count_of_number x (g ∷ [])) same ∙ count_here g [] in
+        let none = ap (λ x. number_count x bs) same ∙ unused_counts sets g bs fg used in
+        let one = ap (λ x. number_count x (g ∷ [])) same ∙ count_here g [] in
         omega arith
-    second false e = let o = once b in let z = ap (λ t. cond t 1 0 + occurrence_count_of_number b []) e in omega arith
+    second false e = let o = once b in let z = ap (λ t. cond t 1 0 + number_count b []) e in omega arith
 
-    go : (t : Bool) → nat_eq b f ≡ t → occurrence_count_of_number b (f ∷ g ∷ []) + occurrence_count_of_number b bs ≤ 1
+    go : (t : Bool) → nat_eq b f ≡ t → number_count b (f ∷ g ∷ []) + number_count b bs ≤ 1
     go true e =
         let same = eqb-true b f e in
-        let none = ap (λ x. occurrence_count_of_number x bs) same ∙ unused_counts sets f bs ff used in
-        let one = ap (λ x. occurrence_count_of_number x (f ∷ g ∷ [])) same ∙ count_here f (g ∷ []) in
+        let none = ap (λ x. number_count x bs) same ∙ unused_counts sets f bs ff used in
+        let one = ap (λ x. number_count x (f ∷ g ∷ [])) same ∙ count_here f (g ∷ []) in
         let other = count_other f g [] apart in
         omega arith
-    go false e = let s = second (nat_eq b g) refl in let z = ap (λ t. cond t 1 0 + occurrence_count_of_number b (g ∷ [])) e in omega arith
+    go false e = let s = second (nat_eq b g) refl in let z = ap (λ t. cond t 1 0 + number_count b (g ∷ [])) e in omega arith
 
-pub in_flight_unused : (sets : BlockStateList) (b : ℕ) → IsBlockInFlight sets b → ¬ IsBlockMarkedUsedInMap sets b
+pub in_flight_unused : (sets : BlockStates) (b : ℕ) → IsInFlight sets b → ¬ IsUsedBlock sets b
 in_flight_unused sets b f u = absurd (let e : Some InFlight ≡ Some Used = sym f ∙ u in cc)
 
-pub free_unused : (sets : BlockStateList) (b : ℕ) → IsBlockFree sets b → ¬ IsBlockMarkedUsedInMap sets b
+pub free_unused : (sets : BlockStates) (b : ℕ) → IsFree sets b → ¬ IsUsedBlock sets b
 free_unused sets b f u = absurd (let e : Some Free ≡ Some Used = sym f ∙ u in cc)
 
 -- two blocks that no pair has, which are in use now
-pub record SettlesTwo (old : BlockStateList) (fresh : ℕ × ℕ) (new : BlockStateList) : Type 0 where
-  pub first_unused : ¬ IsBlockMarkedUsedInMap old fresh.0
-  pub second_unused : ¬ IsBlockMarkedUsedInMap old fresh.1
+pub record SettlesTwo (old : BlockStates) (fresh : ℕ × ℕ) (new : BlockStates) : Type 0 where
+  pub first_unused : ¬ IsUsedBlock old fresh.0
+  pub second_unused : ¬ IsUsedBlock old fresh.1
   pub apart : fresh.0 ≢ fresh.1
-  pub first : IsBlockMarkedUsedInMap new fresh.0
-  pub second : IsBlockMarkedUsedInMap new fresh.1
+  pub first : IsUsedBlock new fresh.0
+  pub second : IsUsedBlock new fresh.1
   pub others : (b : ℕ) → b ≢ fresh.0 → b ≢ fresh.1 → slice_get new b ≡ slice_get old b
   pub size : length new ≡ length old
 
-pub settles_two : (sets : BlockStateList) (fresh : ℕ × ℕ) → AreFreshBlocksInFlight sets fresh → SettlesTwo sets fresh (block_map_with_used_pair sets fresh)
+pub settles_two : (sets : BlockStates) (fresh : ℕ × ℕ) → FreshInFlight sets fresh → SettlesTwo sets fresh (map_using sets fresh)
 settles_two sets fresh t = record {
   first_unused = in_flight_unused sets fresh.0 t.first;
   second_unused = in_flight_unused sets fresh.1 t.second;
@@ -79,18 +79,18 @@ settles_two sets fresh t = record {
 }
 
 -- the second is still in flight, where the first is settled
-pub second_held : (sets : BlockStateList) (fresh : ℕ × ℕ) → AreFreshBlocksInFlight sets fresh → IsBlockInFlight (set sets fresh.0 Used) fresh.1
+pub second_held : (sets : BlockStates) (fresh : ℕ × ℕ) → FreshInFlight sets fresh → IsInFlight (set sets fresh.0 Used) fresh.1
 second_held sets fresh t = slice_get-set_other sets fresh.0 fresh.1 Used (λ e. t.apart (sym e)) ∙ t.second
 
-pub used_still : (sets now : BlockStateList) (fresh : ℕ × ℕ) (bs : List ℕ) → SettlesTwo sets fresh now → AreAllBlocksUsed sets bs → AreAllBlocksUsed now bs
+pub used_still : (sets now : BlockStates) (fresh : ℕ × ℕ) (bs : List ℕ) → SettlesTwo sets fresh now → AllBlocksUsed sets bs → AllBlocksUsed now bs
 used_still sets now fresh [] uses used = tt
 used_still sets now fresh (b ∷ bs) uses used = (
-  uses.others b (λ e. uses.first_unused (subst (IsBlockMarkedUsedInMap sets) e used.0)) (λ e. uses.second_unused (subst (IsBlockMarkedUsedInMap sets) e used.0)) ∙ used.0,
+  uses.others b (λ e. uses.first_unused (subst (IsUsedBlock sets) e used.0)) (λ e. uses.second_unused (subst (IsUsedBlock sets) e used.0)) ∙ used.0,
   used_still sets now fresh bs uses used.1,
 )
 
 -- two blocks in flight are an address of the disk
-pub held_address : (disk : Disk) (history : List DeviceCallEvent) (hs : List PairHeader) (sets : BlockStateList) (fresh : ℕ × ℕ) → IsKeptThreadOnDisk disk history hs sets → AreFreshBlocksInFlight sets fresh → IsPairAddressOnDisk disk fresh
+pub held_address : (disk : Disk) (history : List CallEvent) (hs : List PairHeader) (sets : BlockStates) (fresh : ℕ × ℕ) → IsKeptOnDisk disk history hs sets → FreshInFlight sets fresh → AddressIsOnDisk disk fresh
 held_address disk history hs sets fresh kept held = record {
   apart = held.apart;
   first = let l = slice_get_within sets fresh.0 InFlight held.first in let s = kept.size in omega arith;
@@ -99,12 +99,12 @@ held_address disk history hs sets fresh kept held = record {
 
 -- ---- a block that isn't used comes into another state
 
-used_beside : (sets : BlockStateList) (x : ℕ) (s : BlockState) (bs : List ℕ) → ¬ IsBlockMarkedUsedInMap sets x → AreAllBlocksUsed sets bs → AreAllBlocksUsed (set sets x s) bs
+used_beside : (sets : BlockStates) (x : ℕ) (s : BlockState) (bs : List ℕ) → ¬ IsUsedBlock sets x → AllBlocksUsed sets bs → AllBlocksUsed (set sets x s) bs
 used_beside sets x s [] unused used = tt
-used_beside sets x s (b ∷ bs) unused used = (slice_get-set_other sets x b s (λ e. unused (subst (IsBlockMarkedUsedInMap sets) e used.0)) ∙ used.0, used_beside sets x s bs unused used.1)
+used_beside sets x s (b ∷ bs) unused used = (slice_get-set_other sets x b s (λ e. unused (subst (IsUsedBlock sets) e used.0)) ∙ used.0, used_beside sets x s bs unused used.1)
 
-pub kept_with : (disk : Disk) (history : List DeviceCallEvent) (hs : List PairHeader) (sets now : BlockStateList) (x : ℕ) (s : BlockState) → now ≡ set sets x s → ¬ IsBlockMarkedUsedInMap sets x → IsKeptThreadOnDisk disk history hs sets → IsKeptThreadOnDisk disk history hs now
-kept_with disk history hs sets now x s is unused kept = subst (IsKeptThreadOnDisk disk history hs) (sym is) (record {
+pub kept_with : (disk : Disk) (history : List CallEvent) (hs : List PairHeader) (sets now : BlockStates) (x : ℕ) (s : BlockState) → now ≡ set sets x s → ¬ IsUsedBlock sets x → IsKeptOnDisk disk history hs sets → IsKeptOnDisk disk history hs now
+kept_with disk history hs sets now x s is unused kept = subst (IsKeptOnDisk disk history hs) (sym is) (record {
   each = kept.each;
   links = kept.links;
   distinct = kept.distinct;
@@ -112,7 +112,7 @@ kept_with disk history hs sets now x s is unused kept = subst (IsKeptThreadOnDis
   used = used_beside sets x s (blocks_of_pairs (pairs_of_headers disk hs)) unused kept.used;
 })
 
-pub kept_taken : (disk : Disk) (history : List DeviceCallEvent) (hs : List PairHeader) (sets now : BlockStateList) (o : Option ℕ) → IfSome o (IsBlockFree sets) → IfSome o (λ b. now ≡ set sets b InFlight) → IfNone o (now ≡ sets)
-    → IsKeptThreadOnDisk disk history hs sets → IsKeptThreadOnDisk disk history hs now
-kept_taken disk history hs sets now None free taken same kept = subst (IsKeptThreadOnDisk disk history hs) (sym same) kept
+pub kept_taken : (disk : Disk) (history : List CallEvent) (hs : List PairHeader) (sets now : BlockStates) (o : Option ℕ) → IfSome o (IsFree sets) → IfSome o (λ b. now ≡ set sets b InFlight) → IfNone o (now ≡ sets)
+    → IsKeptOnDisk disk history hs sets → IsKeptOnDisk disk history hs now
+kept_taken disk history hs sets now None free taken same kept = subst (IsKeptOnDisk disk history hs) (sym same) kept
 kept_taken disk history hs sets now (Some b) free taken same kept = kept_with disk history hs sets now b InFlight taken (free_unused sets b free) kept

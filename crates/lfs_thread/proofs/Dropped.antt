@@ -5,23 +5,23 @@ use Rattle.std.proofs.lemmas.List.{map-append, length-map, length-set}
 use Rattle.std.proofs.lemmas.List.Concat.{flat_map-append}
 use Rattle.std.proofs.Math.Seq.{set-append_seam}
 use Rattle.lfs_device.specs.declared.geometry.Geometry.{Geometry}
-use Rattle.lfs_device.specs.Shown.{disk_of_geometry_and_blocks}
-use Rattle.lfs_model.specs.Blocks.{Blocks}
-use Rattle.lfs_model.specs.BlockSets.{Free, BlockStateList}
-use Rattle.lfs_model.specs.Disk.{Disk}
-use Rattle.lfs_model.specs.History.{DeviceCallEvent}
-use Rattle.lfs_model.specs.Changes.{PairContentChange}
-use Rattle.lfs_model.specs.Content.{raw_content_of_pair_at, content_of_pair_at, pair_content_if_slots_complete}
-use Rattle.lfs_model.specs.Thread.{Pair, AreLinkedByTails, pair_address_named_by_tail, blocks_of_pairs}
+use Rattle.lfs_device.specs.DeviceDisk.{disk_of_blocks}
+use Rattle.lfs_model.specs.format.Blocks.{Blocks}
+use Rattle.lfs_model.specs.layers.BlockSets.{Free, BlockStates}
+use Rattle.lfs_model.specs.format.Disk.{Disk}
+use Rattle.lfs_model.specs.session.History.{CallEvent}
+use Rattle.lfs_model.specs.layers.Changes.{PairChange}
+use Rattle.lfs_model.specs.format.Content.{raw_content, content_at, complete_content}
+use Rattle.lfs_model.specs.format.Thread.{Pair, AreLinked, tail_address_of, blocks_of_pairs}
 use Rattle.lfs_model.proofs.Completed.{fits_pair}
 use Rattle.lfs_model.proofs.BlockSets.{slice_get-set_other}
-use Rattle.lfs_model.proofs.Counts.{occurrence_count_of_number, count_here, once_from_distinct}
-use Rattle.lfs_pair.specs.Pair.{pair_address_in_header}
-use Rattle.lfs_pair.specs.Commit.{IsPairAddressOnDisk, CommitsChangesToPair, KeepsBlocksOutsidePair, KeepsUnprogrammedBytesOutsidePair}
-use Rattle.lfs_model.specs.View.{superblock_name_log_entry}
+use Rattle.lfs_model.proofs.Counts.{number_count, count_here, once_from_distinct}
+use Rattle.lfs_pair.specs.Pair.{header_address}
+use Rattle.lfs_pair.specs.Commits.{AddressIsOnDisk, CommitsChanges, KeepsOutsidePair, OutsideStaysUnprogrammed}
+use Rattle.lfs_model.specs.tree.View.{superblock_entry}
 use Rattle.lfs_model.proofs.FirstEntries.{superblock_anew}
-use Rattle.lfs_thread.specs.Kept.{PairHeader, kept_thread_view, pair_on_disk_at, pairs_of_headers, IsPairHeaderOnDisk, AreAllBlocksUsed, IsKeptThreadOnDisk}
-use Rattle.lfs_thread.specs.Steps.{thread_pair_at_index, thread_pairs_with_content_replaced_at_index, CanDropNextPair, IsPairAfterIndexDropped, block_map_with_freed_pair, KeepsSuperblockEntryFirstInLog}
+use Rattle.lfs_thread.specs.Kept.{PairHeader, kept_view, disk_pair_at, pairs_of_headers, IsHeader, AllBlocksUsed, IsKeptOnDisk}
+use Rattle.lfs_thread.specs.ThreadSteps.{thread_pair_at, pairs_with, CanDropNext, IsNextDropped, map_freeing, KeepsSuperblockFirst}
 use Rattle.lfs_thread.proofs.Keeping.{kept_thread, header_content, pair_on_content, used_left, used_right, blocks_append, IsReplaced, pairs_are, kept_replaced}
 use Rattle.lfs_thread.proofs.Changing.{IsAt, at_index, header_at_index, pair_at_index, made_of_header}
 
@@ -69,23 +69,23 @@ gone_is hs index h new gone n value = value ∙ ap₂ (λ (z : List PairHeader) 
 -- the header at the index, with the one behind it
 pub next_there : (disk : Disk) (hs : List PairHeader) (index : ℕ) (h : PairHeader) → index + 1 < length (pairs_of_headers disk hs) → h ≡ get_or hs index h → HasNext hs index h
 next_there disk hs index h below value =
-    let l = length-map hs (λ x. pair_on_disk_at disk (pair_address_in_header x)) in
+    let l = length-map hs (λ x. disk_pair_at disk (header_address x)) in
     next_at hs index h (subst (IsAt hs index) (sym value) (at_index hs index h (omega arith))) (omega arith)
 
 -- ---- the map
 
-released : (sets : BlockStateList) (x : ℕ) (bs : List ℕ) → occurrence_count_of_number x bs ≡ 0 → AreAllBlocksUsed sets bs → AreAllBlocksUsed (set sets x Free) bs
+released : (sets : BlockStates) (x : ℕ) (bs : List ℕ) → number_count x bs ≡ 0 → AllBlocksUsed sets bs → AllBlocksUsed (set sets x Free) bs
 released sets x [] none used = tt
 released sets x (b ∷ bs) none used = (
-  slice_get-set_other sets x b Free (λ e. let k = subst (λ (y : ℕ). occurrence_count_of_number x (y ∷ bs) ≡ 0) e none in let m = count_here x bs in absurd (omega arith)) ∙ used.0,
+  slice_get-set_other sets x b Free (λ e. let k = subst (λ (y : ℕ). number_count x (y ∷ bs) ≡ 0) e none in let m = count_here x bs in absurd (omega arith)) ∙ used.0,
   released sets x bs (let k = none in omega arith) used.1,
 )
 
-pub both_released : (sets : BlockStateList) (at : ℕ × ℕ) (bs : List ℕ) → occurrence_count_of_number at.0 bs ≡ 0 → occurrence_count_of_number at.1 bs ≡ 0 → AreAllBlocksUsed sets bs → AreAllBlocksUsed (block_map_with_freed_pair sets at) bs
+pub both_released : (sets : BlockStates) (at : ℕ × ℕ) (bs : List ℕ) → number_count at.0 bs ≡ 0 → number_count at.1 bs ≡ 0 → AllBlocksUsed sets bs → AllBlocksUsed (map_freeing sets at) bs
 both_released sets at bs f g used = released (set sets at.0 Free) at.1 bs g (released sets at.0 bs f used)
 
-pub next_used : (disk : Disk) (before : List DeviceCallEvent) (hs : List PairHeader) (sets : BlockStateList) (index : ℕ) (h : PairHeader) (n : HasNext hs index h) → IsKeptThreadOnDisk disk before hs sets
-    → ((pair_address_in_header n.next).0 < length sets) × ((pair_address_in_header n.next).1 < length sets)
+pub next_used : (disk : Disk) (before : List CallEvent) (hs : List PairHeader) (sets : BlockStates) (index : ℕ) (h : PairHeader) (n : HasNext hs index h) → IsKeptOnDisk disk before hs sets
+    → ((header_address n.next).0 < length sets) × ((header_address n.next).1 < length sets)
 next_used disk before hs sets index h n kept =
     let on = (header_at_index disk before hs (index + 1) n.next (there_at hs index h n) kept.each).address in
     let s = kept.size in
@@ -93,97 +93,97 @@ next_used disk before hs sets index h n kept =
 
 -- ---- after the commit
 
-module _ (disk : Disk) (before : List DeviceCallEvent) (blocks : Blocks) (after : List DeviceCallEvent) (hs : List PairHeader) (sets : BlockStateList) (index : ℕ) (h new : PairHeader) (changes : List PairContentChange)
-    (n : HasNext hs index h) (kept : IsKeptThreadOnDisk disk before hs sets) (can : CanDropNextPair (kept_thread_view disk before hs sets) index changes)
-    (commits : CommitsChangesToPair disk before changes h (record disk { blocks = blocks }) after new) (others : KeepsBlocksOutsidePair (pair_address_in_header h) disk.blocks blocks) (stay : KeepsUnprogrammedBytesOutsidePair (pair_address_in_header h) before after) where
+module _ (disk : Disk) (before : List CallEvent) (blocks : Blocks) (after : List CallEvent) (hs : List PairHeader) (sets : BlockStates) (index : ℕ) (h new : PairHeader) (changes : List PairChange)
+    (n : HasNext hs index h) (kept : IsKeptOnDisk disk before hs sets) (can : CanDropNext (kept_view disk before hs sets) index changes)
+    (commits : CommitsChanges disk before changes h (record disk { blocks = blocks }) after new) (others : KeepsOutsidePair (header_address h) disk.blocks blocks) (stay : OutsideStaysUnprogrammed (header_address h) before after) where
   abbrev left : Disk
   left = record disk { blocks = blocks }
 
   abbrev two : List PairHeader
   two = h ∷ n.next ∷ []
 
-  abbrev now : BlockStateList
-  now = block_map_with_freed_pair sets (pair_address_in_header n.next)
+  abbrev now : BlockStates
+  now = map_freeing sets (header_address n.next)
 
-  kept_parts : IsKeptThreadOnDisk disk before (n.front ++ (two ++ n.back)) sets
-  kept_parts = subst (λ z. IsKeptThreadOnDisk disk before z sets) n.parts kept
+  kept_parts : IsKeptOnDisk disk before (n.front ++ (two ++ n.back)) sets
+  kept_parts = subst (λ z. IsKeptOnDisk disk before z sets) n.parts kept
 
-  was_pair : thread_pair_at_index (kept_thread_view disk before hs sets) index ≡ pair_on_disk_at disk (pair_address_in_header h)
+  was_pair : thread_pair_at (kept_view disk before hs sets) index ≡ disk_pair_at disk (header_address h)
   was_pair = pair_at_index disk before hs sets index h (here_at hs index h n)
 
-  next_pair : thread_pair_at_index (kept_thread_view disk before hs sets) (index + 1) ≡ pair_on_disk_at disk (pair_address_in_header n.next)
+  next_pair : thread_pair_at (kept_view disk before hs sets) (index + 1) ≡ disk_pair_at disk (header_address n.next)
   next_pair = pair_at_index disk before hs sets (index + 1) n.next (there_at hs index h n)
 
-  whole : pair_content_if_slots_complete commits.new ≡ Some can.content
+  whole : complete_content commits.new ≡ Some can.content
   whole = let m = made_of_header disk before hs sets index h changes can.content (here_at hs index h n) can.made in
-      ap pair_content_if_slots_complete (same_Some commits.new m.raw (sym commits.made ∙ m.is)) ∙ m.complete
+      ap complete_content (same_Some commits.new m.raw (sym commits.made ∙ m.is)) ∙ m.complete
 
-  now_header : IsPairHeaderOnDisk left after new
+  now_header : IsHeader left after new
   now_header =
       let on = (header_at_index disk before hs index h (here_at hs index h n) kept.each).address in
       record {
-        address = subst (IsPairAddressOnDisk left) (sym commits.holds.same) (record {
+        address = subst (AddressIsOnDisk left) (sym commits.holds.same) (record {
           apart = on.apart;
-          first = subst (λ k. (pair_address_in_header h).0 < k) (sym others.count) on.first;
-          second = subst (λ k. (pair_address_in_header h).1 < k) (sym others.count) on.second;
+          first = subst (λ k. (header_address h).0 < k) (sym others.count) on.first;
+          second = subst (λ k. (header_address h).1 < k) (sym others.count) on.second;
         });
         held = commits.new;
         is_pair = commits.holds.is_pair;
-        raw = ap (raw_content_of_pair_at left) commits.holds.same ∙ commits.holds.content;
+        raw = ap (raw_content left) commits.holds.same ∙ commits.holds.content;
         content = can.content;
         complete = whole;
       }
 
-  now_pair : pair_on_disk_at left (pair_address_in_header new) ≡ record { at = pair_address_in_header h; content = can.content }
+  now_pair : disk_pair_at left (header_address new) ≡ record { at = header_address h; content = can.content }
   unfolding now_header
-  now_pair = pair_on_content left (pair_address_in_header new) can.content (header_content left after new now_header) ∙ ap (λ at. record { at = at; content = can.content }) commits.holds.same
+  now_pair = pair_on_content left (header_address new) can.content (header_content left after new now_header) ∙ ap (λ at. record { at = at; content = can.content }) commits.holds.same
 
-  same_next : pair_address_named_by_tail (pair_on_disk_at left (pair_address_in_header new)).content.tail ≡ pair_address_named_by_tail (pair_on_disk_at disk (pair_address_in_header n.next)).content.tail
-  same_next = ap (λ (p : Pair). pair_address_named_by_tail p.content.tail) now_pair ∙ can.next ∙ ap (λ (p : Pair). pair_address_named_by_tail p.content.tail) next_pair
+  same_next : tail_address_of (disk_pair_at left (header_address new)).content.tail ≡ tail_address_of (disk_pair_at disk (header_address n.next)).content.tail
+  same_next = ap (λ (p : Pair). tail_address_of p.content.tail) now_pair ∙ can.next ∙ ap (λ (p : Pair). tail_address_of p.content.tail) next_pair
 
   same_blocks : blocks_of_pairs (pairs_of_headers left (new ∷ [])) ≡ blocks_of_pairs (pairs_of_headers disk (h ∷ []))
   same_blocks = ap (λ (at : ℕ × ℕ). at.0 ∷ at.1 ∷ []) commits.holds.same
 
   -- how often a block stands in each part
-  counts : (b : ℕ) → occurrence_count_of_number b (blocks_of_pairs (pairs_of_headers disk n.front)) + (occurrence_count_of_number b (blocks_of_pairs (pairs_of_headers disk (h ∷ []))) + (occurrence_count_of_number b (blocks_of_pairs (pairs_of_headers disk (n.next ∷ []))) + occurrence_count_of_number b (blocks_of_pairs (pairs_of_headers disk n.back)))) ≤ 1
+  counts : (b : ℕ) → number_count b (blocks_of_pairs (pairs_of_headers disk n.front)) + (number_count b (blocks_of_pairs (pairs_of_headers disk (h ∷ []))) + (number_count b (blocks_of_pairs (pairs_of_headers disk (n.next ∷ []))) + number_count b (blocks_of_pairs (pairs_of_headers disk n.back)))) ≤ 1
   counts b =
       let o = once_from_distinct (blocks_of_pairs (pairs_of_headers disk (n.front ++ (two ++ n.back)))) kept_parts.distinct b in
-      let e = ap (λ ps. occurrence_count_of_number b (blocks_of_pairs ps)) (map-append (λ x. pair_on_disk_at disk (pair_address_in_header x)) n.front (two ++ n.back)) in
+      let e = ap (λ ps. number_count b (blocks_of_pairs ps)) (map-append (λ x. disk_pair_at disk (header_address x)) n.front (two ++ n.back)) in
       let f = blocks_append (pairs_of_headers disk n.front) (pairs_of_headers disk (two ++ n.back)) b in
       let g = blocks_append (pairs_of_headers disk (h ∷ [])) (pairs_of_headers disk (n.next ∷ n.back)) b in
       let k = blocks_append (pairs_of_headers disk (n.next ∷ [])) (pairs_of_headers disk n.back) b in
       omega arith
 
-  first_once : 1 ≤ occurrence_count_of_number (pair_address_in_header n.next).0 (blocks_of_pairs (pairs_of_headers disk (n.next ∷ [])))
-  first_once = let m = count_here (pair_address_in_header n.next).0 ((pair_address_in_header n.next).1 ∷ []) in omega arith
+  first_once : 1 ≤ number_count (header_address n.next).0 (blocks_of_pairs (pairs_of_headers disk (n.next ∷ [])))
+  first_once = let m = count_here (header_address n.next).0 ((header_address n.next).1 ∷ []) in omega arith
 
-  second_once : 1 ≤ occurrence_count_of_number (pair_address_in_header n.next).1 (blocks_of_pairs (pairs_of_headers disk (n.next ∷ [])))
-  second_once = let m = count_here (pair_address_in_header n.next).1 [] in omega arith
+  second_once : 1 ≤ number_count (header_address n.next).1 (blocks_of_pairs (pairs_of_headers disk (n.next ∷ [])))
+  second_once = let m = count_here (header_address n.next).1 [] in omega arith
 
-  stay_used : (bs : List ℕ) → ((b : ℕ) → 1 ≤ occurrence_count_of_number b (blocks_of_pairs (pairs_of_headers disk (n.next ∷ []))) → occurrence_count_of_number b bs ≡ 0) → AreAllBlocksUsed sets bs → AreAllBlocksUsed now bs
-  stay_used bs f used = both_released sets (pair_address_in_header n.next) bs (f (pair_address_in_header n.next).0 first_once) (f (pair_address_in_header n.next).1 second_once) used
+  stay_used : (bs : List ℕ) → ((b : ℕ) → 1 ≤ number_count b (blocks_of_pairs (pairs_of_headers disk (n.next ∷ []))) → number_count b bs ≡ 0) → AllBlocksUsed sets bs → AllBlocksUsed now bs
+  stay_used bs f used = both_released sets (header_address n.next) bs (f (header_address n.next).0 first_once) (f (header_address n.next).1 second_once) used
 
-  used_parts : AreAllBlocksUsed sets (blocks_of_pairs (pairs_of_headers disk n.front)) × (AreAllBlocksUsed sets (blocks_of_pairs (pairs_of_headers disk (h ∷ []))) × AreAllBlocksUsed sets (blocks_of_pairs (pairs_of_headers disk n.back)))
+  used_parts : AllBlocksUsed sets (blocks_of_pairs (pairs_of_headers disk n.front)) × (AllBlocksUsed sets (blocks_of_pairs (pairs_of_headers disk (h ∷ []))) × AllBlocksUsed sets (blocks_of_pairs (pairs_of_headers disk n.back)))
   used_parts =
-      let all = subst (λ ps. AreAllBlocksUsed sets (blocks_of_pairs ps)) (map-append (λ x. pair_on_disk_at disk (pair_address_in_header x)) n.front (two ++ n.back)) kept_parts.used in
-      let cut = subst (AreAllBlocksUsed sets) (flat_map-append (λ (s : Pair). s.at.0 ∷ s.at.1 ∷ []) (pairs_of_headers disk n.front) (pairs_of_headers disk (two ++ n.back))) all in
+      let all = subst (λ ps. AllBlocksUsed sets (blocks_of_pairs ps)) (map-append (λ x. disk_pair_at disk (header_address x)) n.front (two ++ n.back)) kept_parts.used in
+      let cut = subst (AllBlocksUsed sets) (flat_map-append (λ (s : Pair). s.at.0 ∷ s.at.1 ∷ []) (pairs_of_headers disk n.front) (pairs_of_headers disk (two ++ n.back))) all in
       let right = used_right sets (blocks_of_pairs (pairs_of_headers disk n.front)) (blocks_of_pairs (pairs_of_headers disk (two ++ n.back))) cut in
       (used_left sets (blocks_of_pairs (pairs_of_headers disk n.front)) (blocks_of_pairs (pairs_of_headers disk (two ++ n.back))) cut, ((right.0, (right.1.0, tt)), right.1.1.1.1))
 
-  replaced : IsReplaced disk before blocks after n.front two (new ∷ []) n.back ((pair_address_in_header h).0 ∷ (pair_address_in_header h).1 ∷ []) [] now
+  replaced : IsReplaced disk before blocks after n.front two (new ∷ []) n.back ((header_address h).0 ∷ (header_address h).1 ∷ []) [] now
   replaced = record {
     same = others;
     stay = stay;
     touched = λ b k. omega arith;
     free = λ b. let o = once_from_distinct (blocks_of_pairs (pairs_of_headers disk (n.front ++ (two ++ n.back)))) kept_parts.distinct b in omega arith;
     each = (now_header, tt);
-    no_more = λ b. let e = ap (occurrence_count_of_number b) same_blocks in omega arith;
-    links = λ ys from l. (l.0 ∙ ap Some (sym commits.holds.same), subst (λ x. AreLinkedByTails x ys) (sym same_next) l.1.1);
-    size = length-set (set sets (pair_address_in_header n.next).0 Free) (pair_address_in_header n.next).1 Free ∙ length-set sets (pair_address_in_header n.next).0 Free ∙ kept_parts.size;
+    no_more = λ b. let e = ap (number_count b) same_blocks in omega arith;
+    links = λ ys from l. (l.0 ∙ ap Some (sym commits.holds.same), subst (λ x. AreLinked x ys) (sym same_next) l.1.1);
+    size = length-set (set sets (header_address n.next).0 Free) (header_address n.next).1 Free ∙ length-set sets (header_address n.next).0 Free ∙ kept_parts.size;
     used = (
       stay_used (blocks_of_pairs (pairs_of_headers disk n.front)) (λ b k. let c = counts b in omega arith) used_parts.0,
       (
-        subst (AreAllBlocksUsed now) (sym same_blocks) (stay_used (blocks_of_pairs (pairs_of_headers disk (h ∷ []))) (λ b k. let c = counts b in omega arith) used_parts.1.0),
+        subst (AllBlocksUsed now) (sym same_blocks) (stay_used (blocks_of_pairs (pairs_of_headers disk (h ∷ []))) (λ b k. let c = counts b in omega arith) used_parts.1.0),
         stay_used (blocks_of_pairs (pairs_of_headers disk n.back)) (λ b k. let c = counts b in omega arith) used_parts.1.1,
       ),
     );
@@ -195,54 +195,54 @@ module _ (disk : Disk) (before : List DeviceCallEvent) (blocks : Blocks) (after 
   headers_are : headers ≡ n.front ++ new ∷ n.back
   headers_are = ap₂ (λ (z : List PairHeader) (i : ℕ). remove z (i + 1)) (set_next hs index h new n) n.place ∙ remove_behind n.front new n.next n.back
 
-  pub dropped_kept : IsKeptThreadOnDisk left after headers now
-  dropped_kept = subst (λ z. IsKeptThreadOnDisk left after z now) (sym headers_are)
-      (kept_replaced disk before blocks after n.front two (new ∷ []) n.back ((pair_address_in_header h).0 ∷ (pair_address_in_header h).1 ∷ []) [] sets now kept_parts replaced)
+  pub dropped_kept : IsKeptOnDisk left after headers now
+  dropped_kept = subst (λ z. IsKeptOnDisk left after z now) (sym headers_are)
+      (kept_replaced disk before blocks after n.front two (new ∷ []) n.back ((header_address h).0 ∷ (header_address h).1 ∷ []) [] sets now kept_parts replaced)
 
   abbrev p : Pair
-  p = record { at = (thread_pair_at_index (kept_thread_view disk before hs sets) index).at; content = can.content }
+  p = record { at = (thread_pair_at (kept_view disk before hs sets) index).at; content = can.content }
 
-  dropped_pairs : pairs_of_headers left headers ≡ remove (thread_pairs_with_content_replaced_at_index (kept_thread_view disk before hs sets) index can.content) (index + 1)
+  dropped_pairs : pairs_of_headers left headers ≡ remove (pairs_with (kept_view disk before hs sets) index can.content) (index + 1)
   dropped_pairs = ap (pairs_of_headers left) headers_are
-      ∙ pairs_are disk before blocks after n.front two (new ∷ []) n.back ((pair_address_in_header h).0 ∷ (pair_address_in_header h).1 ∷ []) [] sets now kept_parts replaced
+      ∙ pairs_are disk before blocks after n.front two (new ∷ []) n.back ((header_address h).0 ∷ (header_address h).1 ∷ []) [] sets now kept_parts replaced
       ∙ ap (λ q. pairs_of_headers disk n.front ++ q ∷ pairs_of_headers disk n.back) (now_pair ∙ ap (λ (q : Pair). record { at = q.at; content = can.content }) (sym was_pair))
       ∙ sym (ap₂ (λ (z : List Pair) (i : ℕ). remove (set z i p) (i + 1))
-      (ap (pairs_of_headers disk) n.parts ∙ map-append (λ x. pair_on_disk_at disk (pair_address_in_header x)) n.front (h ∷ n.next ∷ n.back)) (n.place ∙ sym (length-map n.front (λ x. pair_on_disk_at disk (pair_address_in_header x))))
-      ∙ ap (λ z. remove z (length (pairs_of_headers disk n.front) + 1)) (set-append_seam (pairs_of_headers disk n.front) (pair_on_disk_at disk (pair_address_in_header h)) (pairs_of_headers disk (n.next ∷ n.back)) p)
-      ∙ remove_behind (pairs_of_headers disk n.front) p (pair_on_disk_at disk (pair_address_in_header n.next)) (pairs_of_headers disk n.back))
+      (ap (pairs_of_headers disk) n.parts ∙ map-append (λ x. disk_pair_at disk (header_address x)) n.front (h ∷ n.next ∷ n.back)) (n.place ∙ sym (length-map n.front (λ x. disk_pair_at disk (header_address x))))
+      ∙ ap (λ z. remove z (length (pairs_of_headers disk n.front) + 1)) (set-append_seam (pairs_of_headers disk n.front) (disk_pair_at disk (header_address h)) (pairs_of_headers disk (n.next ∷ n.back)) p)
+      ∙ remove_behind (pairs_of_headers disk n.front) p (disk_pair_at disk (header_address n.next)) (pairs_of_headers disk n.back))
 
-  pub is_dropped : IsPairAfterIndexDropped (kept_thread_view disk before hs sets) index changes (kept_thread_view left after headers now)
+  pub is_dropped : IsNextDropped (kept_view disk before hs sets) index changes (kept_view left after headers now)
   unfolding now_header
   is_dropped = record {
     content = can.content;
     made = can.made;
     fits = fits_pair disk.block_size disk.page commits.new can.content commits.logged whole commits.fits;
     written = record {
-      holds = ap (content_of_pair_at left) (ap (λ (q : Pair). q.at) was_pair ∙ sym commits.holds.same) ∙ header_content left after new now_header;
-      others = subst (λ (q : Pair). KeepsBlocksOutsidePair q.at disk.blocks blocks) (sym was_pair) others;
+      holds = ap (content_at left) (ap (λ (q : Pair). q.at) was_pair ∙ sym commits.holds.same) ∙ header_content left after new now_header;
+      others = subst (λ (q : Pair). KeepsOutsidePair q.at disk.blocks blocks) (sym was_pair) others;
       shape = record { block_size = refl; page = refl; order = refl; profile = refl; count = others.count };
-      first = subst (λ (q : Pair). KeepsSuperblockEntryFirstInLog disk q.at can.content left) (sym was_pair) (λ begins has. commits.first superblock_name_log_entry begins (superblock_anew commits.new can.content commits.logged.slots whole has.0 has.1));
+      first = subst (λ (q : Pair). KeepsSuperblockFirst disk q.at can.content left) (sym was_pair) (λ begins has. commits.first superblock_entry begins (superblock_anew commits.new can.content commits.logged.slots whole has.0 has.1));
     };
     pairs = dropped_pairs;
-    map = ap (λ (q : Pair). block_map_with_freed_pair sets q.at) (sym next_pair);
+    map = ap (λ (q : Pair). map_freeing sets q.at) (sym next_pair);
     thread = kept_thread left after headers now dropped_kept;
   }
 
 -- ---- in the code's words
 
-module _ (geometry later : Geometry) (old blocks : Blocks) (before after : List DeviceCallEvent) (hs : List PairHeader) (sets : BlockStateList) (index : ℕ) (h new : PairHeader) (changes : List PairContentChange)
-    (same : later ≡ geometry) (n : HasNext hs index h) (kept : IsKeptThreadOnDisk (disk_of_geometry_and_blocks geometry old) before hs sets) (can : CanDropNextPair (kept_thread_view (disk_of_geometry_and_blocks geometry old) before hs sets) index changes)
-    (commits : CommitsChangesToPair (disk_of_geometry_and_blocks geometry old) before changes h (disk_of_geometry_and_blocks later blocks) after new) (others : KeepsBlocksOutsidePair (pair_address_in_header h) old blocks) (stay : KeepsUnprogrammedBytesOutsidePair (pair_address_in_header h) before after)
-    (items : List PairHeader) (are : items ≡ remove (set hs index new) (index + 1)) (now : BlockStateList) (is_now : now ≡ block_map_with_freed_pair sets (pair_address_in_header n.next)) where
-  commits_there : CommitsChangesToPair (disk_of_geometry_and_blocks geometry old) before changes h (disk_of_geometry_and_blocks geometry blocks) after new
-  commits_there = subst (λ k. CommitsChangesToPair (disk_of_geometry_and_blocks geometry old) before changes h (disk_of_geometry_and_blocks k blocks) after new) same commits
+module _ (geometry later : Geometry) (old blocks : Blocks) (before after : List CallEvent) (hs : List PairHeader) (sets : BlockStates) (index : ℕ) (h new : PairHeader) (changes : List PairChange)
+    (same : later ≡ geometry) (n : HasNext hs index h) (kept : IsKeptOnDisk (disk_of_blocks geometry old) before hs sets) (can : CanDropNext (kept_view (disk_of_blocks geometry old) before hs sets) index changes)
+    (commits : CommitsChanges (disk_of_blocks geometry old) before changes h (disk_of_blocks later blocks) after new) (others : KeepsOutsidePair (header_address h) old blocks) (stay : OutsideStaysUnprogrammed (header_address h) before after)
+    (items : List PairHeader) (are : items ≡ remove (set hs index new) (index + 1)) (now : BlockStates) (is_now : now ≡ map_freeing sets (header_address n.next)) where
+  commits_there : CommitsChanges (disk_of_blocks geometry old) before changes h (disk_of_blocks geometry blocks) after new
+  commits_there = subst (λ k. CommitsChanges (disk_of_blocks geometry old) before changes h (disk_of_blocks k blocks) after new) same commits
 
-  pub device_dropped : IsKeptThreadOnDisk (disk_of_geometry_and_blocks later blocks) after items now
-  device_dropped = subst (λ k. IsKeptThreadOnDisk (disk_of_geometry_and_blocks k blocks) after items now) (sym same) (subst (λ z. IsKeptThreadOnDisk (disk_of_geometry_and_blocks geometry blocks) after z now) (sym are) (subst (λ m. IsKeptThreadOnDisk (disk_of_geometry_and_blocks geometry blocks) after (remove (set hs index new) (index + 1)) m) (sym is_now)
-      (dropped_kept (disk_of_geometry_and_blocks geometry old) before blocks after hs sets index h new changes n kept can commits_there others stay)))
+  pub device_dropped : IsKeptOnDisk (disk_of_blocks later blocks) after items now
+  device_dropped = subst (λ k. IsKeptOnDisk (disk_of_blocks k blocks) after items now) (sym same) (subst (λ z. IsKeptOnDisk (disk_of_blocks geometry blocks) after z now) (sym are) (subst (λ m. IsKeptOnDisk (disk_of_blocks geometry blocks) after (remove (set hs index new) (index + 1)) m) (sym is_now)
+      (dropped_kept (disk_of_blocks geometry old) before blocks after hs sets index h new changes n kept can commits_there others stay)))
 
-  pub device_is_dropped : IsPairAfterIndexDropped (kept_thread_view (disk_of_geometry_and_blocks geometry old) before hs sets) index changes (kept_thread_view (disk_of_geometry_and_blocks later blocks) after items now)
-  device_is_dropped = subst (λ k. IsPairAfterIndexDropped (kept_thread_view (disk_of_geometry_and_blocks geometry old) before hs sets) index changes (kept_thread_view (disk_of_geometry_and_blocks k blocks) after items now)) (sym same)
-      (subst (λ z. IsPairAfterIndexDropped (kept_thread_view (disk_of_geometry_and_blocks geometry old) before hs sets) index changes (kept_thread_view (disk_of_geometry_and_blocks geometry blocks) after z now)) (sym are)
-      (subst (λ m. IsPairAfterIndexDropped (kept_thread_view (disk_of_geometry_and_blocks geometry old) before hs sets) index changes (kept_thread_view (disk_of_geometry_and_blocks geometry blocks) after (remove (set hs index new) (index + 1)) m)) (sym is_now)
-      (is_dropped (disk_of_geometry_and_blocks geometry old) before blocks after hs sets index h new changes n kept can commits_there others stay)))
+  pub device_is_dropped : IsNextDropped (kept_view (disk_of_blocks geometry old) before hs sets) index changes (kept_view (disk_of_blocks later blocks) after items now)
+  device_is_dropped = subst (λ k. IsNextDropped (kept_view (disk_of_blocks geometry old) before hs sets) index changes (kept_view (disk_of_blocks k blocks) after items now)) (sym same)
+      (subst (λ z. IsNextDropped (kept_view (disk_of_blocks geometry old) before hs sets) index changes (kept_view (disk_of_blocks geometry blocks) after z now)) (sym are)
+      (subst (λ m. IsNextDropped (kept_view (disk_of_blocks geometry old) before hs sets) index changes (kept_view (disk_of_blocks geometry blocks) after (remove (set hs index new) (index + 1)) m)) (sym is_now)
+      (is_dropped (disk_of_blocks geometry old) before blocks after hs sets index h new changes n kept can commits_there others stay)))

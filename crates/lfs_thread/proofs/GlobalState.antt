@@ -4,14 +4,14 @@ use Rattle.std.specs.List.{fold}
 use Rattle.std.proofs.Math.Seq.{take-suc}
 use Rattle.std.proofs.lemmas.List.{map-append}
 use Rattle.std.proofs.lemmas.List.Sums.{fold-append}
-use Rattle.lfs_model.specs.Disk.{Disk}
-use Rattle.lfs_model.specs.History.{DeviceCallEvent}
-use Rattle.lfs_model.specs.Slots.{Gstate, gstate_xor, zero_gstate}
-use Rattle.lfs_model.specs.Thread.{Pair, gstate_of_pairs}
+use Rattle.lfs_model.specs.format.Disk.{Disk}
+use Rattle.lfs_model.specs.session.History.{CallEvent}
+use Rattle.lfs_model.specs.format.Slots.{Gstate, gstate_xor, zero_gstate}
+use Rattle.lfs_model.specs.format.Thread.{Pair, pairs_gstate}
 use Rattle.lfs_model.proofs.Completed.{completed_parts}
 use Rattle.lfs_tag.specs.FieldsView.{move_view}
-use Rattle.lfs_pair.specs.Pair.{pair_address_in_header}
-use Rattle.lfs_thread.specs.Kept.{PairHeader, ArePairHeadersOnDisk, IsPairHeaderOnDisk, pair_on_disk_at, pairs_of_headers}
+use Rattle.lfs_pair.specs.Pair.{header_address}
+use Rattle.lfs_thread.specs.Kept.{PairHeader, AreHeaders, IsHeader, disk_pair_at, pairs_of_headers}
 use Rattle.lfs_thread.proofs.Keeping.{header_content, pair_on_content}
 
 abbrev delta_of : PairHeader → Gstate
@@ -26,15 +26,15 @@ joined_more hs k h below is =
     ∙ ap (fold gstate_xor zero_gstate) (map-append delta_of (take k hs) (h ∷ []))
     ∙ fold-append gstate_xor zero_gstate (map delta_of (take k hs)) (delta_of h ∷ [])
 
-delta_is : (disk : Disk) (history : List DeviceCallEvent) (h : PairHeader) → IsPairHeaderOnDisk disk history h → delta_of h ≡ (pair_on_disk_at disk (pair_address_in_header h)).content.move
+delta_is : (disk : Disk) (history : List CallEvent) (h : PairHeader) → IsHeader disk history h → delta_of h ≡ (disk_pair_at disk (header_address h)).content.move
 delta_is disk history h is =
     is.is_pair.describes.sums.move ∙ sym (completed_parts is.held is.content is.complete).move
-    ∙ sym (ap (λ (p : Pair). p.content.move) (pair_on_content disk (pair_address_in_header h) is.content (header_content disk history h is)))
+    ∙ sym (ap (λ (p : Pair). p.content.move) (pair_on_content disk (header_address h) is.content (header_content disk history h is)))
 
-deltas_are : (disk : Disk) (history : List DeviceCallEvent) (hs : List PairHeader) → ArePairHeadersOnDisk disk history hs → map delta_of hs ≡ map (λ (p : Pair). p.content.move) (pairs_of_headers disk hs)
+deltas_are : (disk : Disk) (history : List CallEvent) (hs : List PairHeader) → AreHeaders disk history hs → map delta_of hs ≡ map (λ (p : Pair). p.content.move) (pairs_of_headers disk hs)
 deltas_are disk history [] are = refl
 deltas_are disk history (h ∷ hs) are = ap₂ (λ (g : Gstate) (gs : List Gstate). g ∷ gs) (delta_is disk history h are.0) (deltas_are disk history hs are.1)
 
 -- the deltas in the headers come to the global state of the pairs
-pub state_is : (disk : Disk) (history : List DeviceCallEvent) (hs : List PairHeader) → ArePairHeadersOnDisk disk history hs → fold gstate_xor zero_gstate (map (λ (p : PairHeader). move_view p.move_state) hs) ≡ gstate_of_pairs (pairs_of_headers disk hs)
+pub state_is : (disk : Disk) (history : List CallEvent) (hs : List PairHeader) → AreHeaders disk history hs → fold gstate_xor zero_gstate (map (λ (p : PairHeader). move_view p.move_state) hs) ≡ pairs_gstate (pairs_of_headers disk hs)
 state_is disk history hs are = ap (fold gstate_xor zero_gstate) (deltas_are disk history hs are)

@@ -2,25 +2,25 @@
 use Rattle.std.proofs.Common.{ℕ, ◌≡◌, ◌+◌, ◌++◌, ◌∙◌, List, [], ◌∷◌, refl, sym, ap, ap₂, arith}
 use Rattle.std.specs.Prelude.{sum_by}
 use Rattle.std.proofs.lemmas.List.Sums.{sum_by-cons, sum_by_push}
-use Rattle.lfs_model.specs.Disk.{Disk}
-use Rattle.lfs_model.specs.Thread.{Pair}
-use Rattle.lfs_pair.specs.Pair.{pair_address_in_header, read_count_of_pair_fetch}
-use Rattle.lfs_thread.specs.Kept.{PairHeader, pair_on_disk_at, pairs_of_headers}
-use Rattle.lfs_thread.specs.Reading.{read_count_of_thread_headers}
+use Rattle.lfs_model.specs.format.Disk.{Disk}
+use Rattle.lfs_model.specs.format.Thread.{Pair}
+use Rattle.lfs_pair.specs.Pair.{header_address, fetch_reads}
+use Rattle.lfs_thread.specs.Kept.{PairHeader, disk_pair_at, pairs_of_headers}
+use Rattle.lfs_thread.specs.HeaderReading.{thread_reads}
 
 -- the same, counted for headers
-pub header_reads_of : (on disk : Disk) (hs : List PairHeader) → read_count_of_thread_headers disk (pairs_of_headers on hs) ≡ sum_by (λ h. read_count_of_pair_fetch disk (pair_address_in_header h)) hs
+pub header_reads_of : (on disk : Disk) (hs : List PairHeader) → thread_reads disk (pairs_of_headers on hs) ≡ sum_by (λ h. fetch_reads disk (header_address h)) hs
 header_reads_of on disk [] = refl
 header_reads_of on disk (h ∷ hs) =
-    sum_by-cons (λ (p : Pair). read_count_of_pair_fetch disk p.at) (pair_on_disk_at on (pair_address_in_header h)) (pairs_of_headers on hs)
-    ∙ ap (λ n. read_count_of_pair_fetch disk (pair_address_in_header h) + n) (header_reads_of on disk hs)
-    ∙ sym (sum_by-cons (λ (x : PairHeader). read_count_of_pair_fetch disk (pair_address_in_header x)) h hs)
+    sum_by-cons (λ (p : Pair). fetch_reads disk p.at) (disk_pair_at on (header_address h)) (pairs_of_headers on hs)
+    ∙ ap (λ n. fetch_reads disk (header_address h) + n) (header_reads_of on disk hs)
+    ∙ sym (sum_by-cons (λ (x : PairHeader). fetch_reads disk (header_address x)) h hs)
 
 -- the reads of one more header
-pub more_reads : (now disk : Disk) (hs : List PairHeader) (h : PairHeader) (all : List PairHeader) (at : ℕ × ℕ) (first mid last : ℕ) → now ≡ disk → pair_address_in_header h ≡ at → all ≡ hs ++ h ∷ []
-    → mid ≡ first + sum_by (λ x. read_count_of_pair_fetch disk (pair_address_in_header x)) hs → last ≡ mid + read_count_of_pair_fetch now at
-    → last ≡ first + sum_by (λ x. read_count_of_pair_fetch disk (pair_address_in_header x)) all
+pub more_reads : (now disk : Disk) (hs : List PairHeader) (h : PairHeader) (all : List PairHeader) (at : ℕ × ℕ) (first mid last : ℕ) → now ≡ disk → header_address h ≡ at → all ≡ hs ++ h ∷ []
+    → mid ≡ first + sum_by (λ x. fetch_reads disk (header_address x)) hs → last ≡ mid + fetch_reads now at
+    → last ≡ first + sum_by (λ x. fetch_reads disk (header_address x)) all
 more_reads now disk hs h all at first mid last same here is before read =
-    let more = ap (sum_by (λ (x : PairHeader). read_count_of_pair_fetch disk (pair_address_in_header x))) is ∙ sum_by_push (λ (x : PairHeader). read_count_of_pair_fetch disk (pair_address_in_header x)) hs h in
-    let one = ap₂ read_count_of_pair_fetch same (sym here) in
+    let more = ap (sum_by (λ (x : PairHeader). fetch_reads disk (header_address x))) is ∙ sum_by_push (λ (x : PairHeader). fetch_reads disk (header_address x)) hs h in
+    let one = ap₂ fetch_reads same (sym here) in
     omega (arith, before, read, more, one)

@@ -2,14 +2,14 @@
 use Rattle.std.proofs.Common.{ℕ, ◌≡◌, ◌≢◌, ◌⊎◌, inl, inr, ◌<◌, List, length, refl, sym, subst, ◌∙◌, set}
 use Rattle.lfs_device.specs.declared.error.Error.{Error}
 use Rattle.lfs_device.specs.declared.error.Error.TheVariants as error
-use Rattle.lfs_model.specs.BlockSets.{BlockStateList, IsBlockFree, IsBlockMarkedUsedInMap, Used}
-use Rattle.lfs_model.specs.Disk.{Disk}
-use Rattle.lfs_model.specs.Thread.{Pair}
-use Rattle.lfs_model.specs.Violations.{BreaksThread, HasBlock, IsBlockInTwoPairs}
+use Rattle.lfs_model.specs.layers.BlockSets.{BlockStates, IsFree, IsUsedBlock, Used}
+use Rattle.lfs_model.specs.format.Disk.{Disk}
+use Rattle.lfs_model.specs.format.Thread.{Pair}
+use Rattle.lfs_model.specs.layers.Violations.{BreaksThread, HasBlock, IsInTwoPairs}
 use Rattle.lfs_model.specs.declared.violations.Violation.{Violation}
 use Rattle.lfs_model.proofs.BlockSets.{slice_get-set_other}
-use Rattle.lfs_thread.specs.Begun.{ArePairsBeforeAddress}
-use Rattle.lfs_thread.specs.MountErrors.{HasTrueThreadViolation, mount_error_of}
+use Rattle.lfs_thread.specs.Begun.{AreBeforeAddress}
+use Rattle.lfs_thread.specs.MountErrors.{IsViolationTrue, mount_error_for}
 
 -- ---- an error below
 
@@ -17,14 +17,14 @@ abbrev pub IsReadingError : Error → Type 0
 IsReadingError e = (e ≡ error.Corrupt) ⊎ (e ≡ error.NoMemory) ⊎ (e ≡ error.Io)
 
 -- a violation is true where each `Corrupt` below means it
-pub true_of : (disk : Disk) (e : Error) (v : Violation) → IsReadingError e → (e ≡ error.Corrupt → BreaksThread disk v) → HasTrueThreadViolation disk (mount_error_of e v)
-true_of disk e v (inl is) breaks = subst (λ x. HasTrueThreadViolation disk (mount_error_of x v)) (sym is) (breaks is)
-true_of disk e v (inr (inl is)) breaks = subst (λ x. HasTrueThreadViolation disk (mount_error_of x v)) (sym is) tt
-true_of disk e v (inr (inr is)) breaks = subst (λ x. HasTrueThreadViolation disk (mount_error_of x v)) (sym is) tt
+pub true_of : (disk : Disk) (e : Error) (v : Violation) → IsReadingError e → (e ≡ error.Corrupt → BreaksThread disk v) → IsViolationTrue disk (mount_error_for e v)
+true_of disk e v (inl is) breaks = subst (λ x. IsViolationTrue disk (mount_error_for x v)) (sym is) (breaks is)
+true_of disk e v (inr (inl is)) breaks = subst (λ x. IsViolationTrue disk (mount_error_for x v)) (sym is) tt
+true_of disk e v (inr (inr is)) breaks = subst (λ x. IsViolationTrue disk (mount_error_for x v)) (sym is) tt
 
 -- ---- a block of the pair isn't free
 
-in_two : (disk : Disk) (sets : BlockStateList) (before : List Pair) (at : ℕ × ℕ) (block : ℕ) → ArePairsBeforeAddress disk sets before at → HasBlock at block → block < length sets → ¬ IsBlockFree sets block → IsBlockInTwoPairs disk at block
+in_two : (disk : Disk) (sets : BlockStates) (before : List Pair) (at : ℕ × ℕ) (block : ℕ) → AreBeforeAddress disk sets before at → HasBlock at block → block < length sets → ¬ IsFree sets block → IsInTwoPairs disk at block
 in_two disk sets before at block is own below taken = record {
   before = before;
   begins = is.begins;
@@ -32,11 +32,11 @@ in_two disk sets before at block is own below taken = record {
   earlier = (is.marked block).0 (side (is.others block below));
 }
   where
-    side : IsBlockMarkedUsedInMap sets block ⊎ IsBlockFree sets block → IsBlockMarkedUsedInMap sets block
+    side : IsUsedBlock sets block ⊎ IsFree sets block → IsUsedBlock sets block
     side (inl used) = used
     side (inr free) = absurd (taken free)
 
 -- the second block isn't free once the first one is marked
-pub second_in_two : (disk : Disk) (sets : BlockStateList) (before : List Pair) (at : ℕ × ℕ) → ArePairsBeforeAddress disk sets before at → at.0 ≢ at.1 → at.1 < length sets → ¬ IsBlockFree (set sets at.0 Used) at.1 → IsBlockInTwoPairs disk at at.1
+pub second_in_two : (disk : Disk) (sets : BlockStates) (before : List Pair) (at : ℕ × ℕ) → AreBeforeAddress disk sets before at → at.0 ≢ at.1 → at.1 < length sets → ¬ IsFree (set sets at.0 Used) at.1 → IsInTwoPairs disk at at.1
 second_in_two disk sets before at is apart below taken =
     in_two disk sets before at at.1 is (inr refl) below (λ free. taken (slice_get-set_other sets at.0 at.1 Used (λ e. apart (sym e)) ∙ free))

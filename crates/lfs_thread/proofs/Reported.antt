@@ -6,27 +6,27 @@ use Rattle.lfs_device.specs.declared.device.BlockDevice.{Ghosts}
 use Rattle.lfs_device.specs.declared.error.Error.{Error}
 use Rattle.lfs_device.specs.declared.error.Error.TheVariants.{Io, NoMemory}
 use Rattle.lfs_device.specs.declared.geometry.Geometry.{Geometry}
-use Rattle.lfs_device.specs.Calls.{ChangesOnlyTheseBlocks, ReadsOnly}
-use Rattle.lfs_device.specs.Shown.{disk_of_geometry_and_blocks}
-use Rattle.lfs_model.specs.Blocks.{Blocks, AreBlocksEqualExceptThese}
-use Rattle.lfs_model.specs.BlockSets.{BlockStateList}
-use Rattle.lfs_model.specs.Disk.{disk_in_order}
+use Rattle.lfs_device.specs.DeviceCalls.{ChangesOnlyTheseBlocks, ReadsOnly}
+use Rattle.lfs_device.specs.DeviceDisk.{disk_of_blocks}
+use Rattle.lfs_model.specs.format.Blocks.{Blocks, SameExceptThese}
+use Rattle.lfs_model.specs.layers.BlockSets.{BlockStates}
+use Rattle.lfs_model.specs.format.Disk.{ordered_disk}
 use Rattle.lfs_model.specs.declared.order.NameOrder.{NameOrder}
-use Rattle.lfs_model.proofs.Histories.{IsTrueAfterAnyPowerLossSince-weaker, AreBytesStillUnprogrammed-trans, AreBytesStillUnprogrammed-wider, goes_on_by}
-use Rattle.lfs_model.proofs.Overwrites.{AreBlocksEqualExceptThese-trans, AreBlocksEqualExceptThese-wider}
+use Rattle.lfs_model.proofs.Histories.{HoldsAtLosses-weaker, StayUnprogrammed-trans, StayUnprogrammed-wider, goes_on_by}
+use Rattle.lfs_model.proofs.Overwrites.{SameExceptThese-trans, SameExceptThese-wider}
 use Rattle.lfs_pair.specs.declared.pair.Pair.{Pair}
-use Rattle.lfs_pair.specs.Commit.{CommitFailsKeepingHeader}
+use Rattle.lfs_pair.specs.Commits.{CommitFailsKeepingHeader}
 use Rattle.lfs_pair.specs.Writing.{ChangesOnlyBlocksWithinReadLimit}
-use Rattle.lfs_thread.specs.Device.{IoMeansFaultNoMemoryWritesNothing, IoMeansFaultNoMemoryKeepsOtherBlocks}
-use Rattle.lfs_thread.specs.Kept.{PairHeader, kept_thread_in_order}
-use Rattle.lfs_thread.specs.Steps.{IoMeantFaultNoMemoryWroteNothing, IoMeantFaultNoMemoryKeptOtherBlocks, IsDeviceOnlyRead, ThreadChangesOnlyTheseBlocks, ThreadChangesOnlyBlocksWithinReadLimit}
-use Rattle.lfs_model.specs.Thread.{blocks_of_pair_address, blocks_of_two_pair_addresses}
+use Rattle.lfs_thread.specs.ThreadDevice.{IoMeansFaultNoMemoryWritesNothing, IoMeansFaultNoMemoryKeepsOtherBlocks}
+use Rattle.lfs_thread.specs.Kept.{PairHeader, kept_in_order}
+use Rattle.lfs_thread.specs.ThreadSteps.{IoMeantFaultNoMemoryWroteNothing, IoMeantFaultNoMemoryKeptOtherBlocks, OnlyReadsDevice, ChangesThreadBlocks, ChangesWithinReads}
+use Rattle.lfs_model.specs.format.Thread.{address_blocks, addresses_blocks}
 
-module _ {D : Type 0} (g : Ghosts D) (order : NameOrder) (old new : D) (hs now_hs : List PairHeader) (sets now_sets : BlockStateList) where
-  pub unwritten_from : ReadsOnly g old new → IsDeviceOnlyRead (kept_thread_in_order g order old hs sets) (kept_thread_in_order g order new now_hs now_sets)
-  unwritten_from r = record { disk = ap₂ (λ k bs. disk_in_order order (disk_of_geometry_and_blocks k bs)) r.geometry r.same; reads = r.reads }
+module _ {D : Type 0} (g : Ghosts D) (order : NameOrder) (old new : D) (hs now_hs : List PairHeader) (sets now_sets : BlockStates) where
+  pub unwritten_from : ReadsOnly g old new → OnlyReadsDevice (kept_in_order g order old hs sets) (kept_in_order g order new now_hs now_sets)
+  unwritten_from r = record { disk = ap₂ (λ k bs. ordered_disk order (disk_of_blocks k bs)) r.geometry r.same; reads = r.reads }
 
-  pub reported_from : {X : Type 0} (result : Result X Error) → IoMeansFaultNoMemoryWritesNothing g old new result → IoMeantFaultNoMemoryWroteNothing (kept_thread_in_order g order old hs sets) (kept_thread_in_order g order new now_hs now_sets) result
+  pub reported_from : {X : Type 0} (result : Result X Error) → IoMeansFaultNoMemoryWritesNothing g old new result → IoMeantFaultNoMemoryWroteNothing (kept_in_order g order old hs sets) (kept_in_order g order new now_hs now_sets) result
   reported_from result t = record {
     errors = t.errors;
     fault = t.faults.fault;
@@ -34,10 +34,10 @@ module _ {D : Type 0} (g : Ghosts D) (order : NameOrder) (old new : D) (hs now_h
     unwritten = λ (e : result ≡ Err NoMemory). unwritten_from (t.unwritten e);
   }
 
-  pub reported_beside_from : {X : Type 0} (bs : List ℕ) (result : Result X Error) → IoMeansFaultNoMemoryKeepsOtherBlocks g bs old new result → IoMeantFaultNoMemoryKeptOtherBlocks bs (kept_thread_in_order g order old hs sets) (kept_thread_in_order g order new now_hs now_sets) result
+  pub reported_beside_from : {X : Type 0} (bs : List ℕ) (result : Result X Error) → IoMeansFaultNoMemoryKeepsOtherBlocks g bs old new result → IoMeantFaultNoMemoryKeptOtherBlocks bs (kept_in_order g order old hs sets) (kept_in_order g order new now_hs now_sets) result
   reported_beside_from bs result t = record { errors = t.errors; fault = t.faults.fault; no_fault = t.faults.no_fault; beside = t.beside }
 
-  pub writes_from : (bs : List ℕ) → ChangesOnlyTheseBlocks g bs old new → ThreadChangesOnlyTheseBlocks bs (kept_thread_in_order g order old hs sets) (kept_thread_in_order g order new now_hs now_sets)
+  pub writes_from : (bs : List ℕ) → ChangesOnlyTheseBlocks g bs old new → ChangesThreadBlocks bs (kept_in_order g order old hs sets) (kept_in_order g order new now_hs now_sets)
   writes_from bs w = record {
     others = w.others;
     elsewhere = w.elsewhere;
@@ -51,41 +51,41 @@ module _ {D : Type 0} (g : Ghosts D) (order : NameOrder) (old new : D) (hs now_h
     at_worst = w.at_worst;
   }
 
-module _ {D : Type 0} (g : Ghosts D) (order : NameOrder) (old new : D) (hs now_hs : List PairHeader) (sets now_sets : BlockStateList) where
-  pub reading_from : {most : ℕ} (bs : List ℕ) → ChangesOnlyBlocksWithinReadLimit g most bs old new → ThreadChangesOnlyBlocksWithinReadLimit most bs (kept_thread_in_order g order old hs sets) (kept_thread_in_order g order new now_hs now_sets)
+module _ {D : Type 0} (g : Ghosts D) (order : NameOrder) (old new : D) (hs now_hs : List PairHeader) (sets now_sets : BlockStates) where
+  pub reading_from : {most : ℕ} (bs : List ℕ) → ChangesOnlyBlocksWithinReadLimit g most bs old new → ChangesWithinReads most bs (kept_in_order g order old hs sets) (kept_in_order g order new now_hs now_sets)
   reading_from bs w = record { only = writes_from g order old new hs now_hs sets now_sets bs w.only; few = w.few }
 
 -- ---- two calls, of which the first writes a fresh pair
 
 -- a block that is none of four is none of the first two, and none of the others
-among_first : (at fresh : ℕ × ℕ) (other : ℕ) → All (λ c. c ≢ other) (blocks_of_two_pair_addresses at fresh) → All (λ c. c ≢ other) (blocks_of_pair_address at)
-among_first at fresh other apart = All-take (λ c. c ≢ other) 2 (blocks_of_two_pair_addresses at fresh) apart
+among_first : (at fresh : ℕ × ℕ) (other : ℕ) → All (λ c. c ≢ other) (addresses_blocks at fresh) → All (λ c. c ≢ other) (address_blocks at)
+among_first at fresh other apart = All-take (λ c. c ≢ other) 2 (addresses_blocks at fresh) apart
 
-among_second : (at fresh : ℕ × ℕ) (other : ℕ) → All (λ c. c ≢ other) (blocks_of_two_pair_addresses at fresh) → All (λ c. c ≢ other) (blocks_of_pair_address fresh)
-among_second at fresh other apart = All-drop (λ c. c ≢ other) 2 (blocks_of_two_pair_addresses at fresh) apart
+among_second : (at fresh : ℕ × ℕ) (other : ℕ) → All (λ c. c ≢ other) (addresses_blocks at fresh) → All (λ c. c ≢ other) (address_blocks fresh)
+among_second at fresh other apart = All-drop (λ c. c ≢ other) 2 (addresses_blocks at fresh) apart
 
-pub keeps_by_fresh : (at fresh : ℕ × ℕ) {old new : Blocks} → AreBlocksEqualExceptThese (blocks_of_pair_address fresh) old new → AreBlocksEqualExceptThese (blocks_of_two_pair_addresses at fresh) old new
-keeps_by_fresh at fresh same = AreBlocksEqualExceptThese-wider (blocks_of_two_pair_addresses at fresh) (among_second at fresh) same
+pub keeps_by_fresh : (at fresh : ℕ × ℕ) {old new : Blocks} → SameExceptThese (address_blocks fresh) old new → SameExceptThese (addresses_blocks at fresh) old new
+keeps_by_fresh at fresh same = SameExceptThese-wider (addresses_blocks at fresh) (among_second at fresh) same
 
-pub keeps_by_both : (at fresh : ℕ × ℕ) {old mid new : Blocks} → AreBlocksEqualExceptThese (blocks_of_pair_address fresh) old mid → AreBlocksEqualExceptThese (blocks_of_pair_address at) mid new → AreBlocksEqualExceptThese (blocks_of_two_pair_addresses at fresh) old new
-keeps_by_both at fresh first second = AreBlocksEqualExceptThese-trans (keeps_by_fresh at fresh first) (AreBlocksEqualExceptThese-wider (blocks_of_two_pair_addresses at fresh) (among_first at fresh) second)
+pub keeps_by_both : (at fresh : ℕ × ℕ) {old mid new : Blocks} → SameExceptThese (address_blocks fresh) old mid → SameExceptThese (address_blocks at) mid new → SameExceptThese (addresses_blocks at fresh) old new
+keeps_by_both at fresh first second = SameExceptThese-trans (keeps_by_fresh at fresh first) (SameExceptThese-wider (addresses_blocks at fresh) (among_first at fresh) second)
 
 module _ {D : Type 0} (g : Ghosts D) (at fresh : ℕ × ℕ) where
-  pub changes_by_fresh : {old new : D} → ChangesOnlyTheseBlocks g (blocks_of_pair_address fresh) old new → ChangesOnlyTheseBlocks g (blocks_of_two_pair_addresses at fresh) old new
+  pub changes_by_fresh : {old new : D} → ChangesOnlyTheseBlocks g (address_blocks fresh) old new → ChangesOnlyTheseBlocks g (addresses_blocks at fresh) old new
   changes_by_fresh w = record {
     others = keeps_by_fresh at fresh w.others;
-    elsewhere = AreBytesStillUnprogrammed-wider (blocks_of_two_pair_addresses at fresh) (among_second at fresh) w.elsewhere;
+    elsewhere = StayUnprogrammed-wider (addresses_blocks at fresh) (among_second at fresh) w.elsewhere;
     geometry = w.geometry;
-    at_worst = IsTrueAfterAnyPowerLossSince-weaker (λ disk left. keeps_by_fresh at fresh left) w.at_worst;
+    at_worst = HoldsAtLosses-weaker (λ disk left. keeps_by_fresh at fresh left) w.at_worst;
   }
 
-  pub changes_by_both : {old mid new : D} → ChangesOnlyTheseBlocks g (blocks_of_pair_address fresh) old mid → ChangesOnlyTheseBlocks g (blocks_of_pair_address at) mid new → ChangesOnlyTheseBlocks g (blocks_of_two_pair_addresses at fresh) old new
+  pub changes_by_both : {old mid new : D} → ChangesOnlyTheseBlocks g (address_blocks fresh) old mid → ChangesOnlyTheseBlocks g (address_blocks at) mid new → ChangesOnlyTheseBlocks g (addresses_blocks at fresh) old new
   changes_by_both w v = record {
     others = keeps_by_both at fresh w.others v.others;
-    elsewhere = AreBytesStillUnprogrammed-trans (AreBytesStillUnprogrammed-wider (blocks_of_two_pair_addresses at fresh) (among_second at fresh) w.elsewhere) (AreBytesStillUnprogrammed-wider (blocks_of_two_pair_addresses at fresh) (among_first at fresh) v.elsewhere);
+    elsewhere = StayUnprogrammed-trans (StayUnprogrammed-wider (addresses_blocks at fresh) (among_second at fresh) w.elsewhere) (StayUnprogrammed-wider (addresses_blocks at fresh) (among_first at fresh) v.elsewhere);
     geometry = v.geometry ∙ w.geometry;
-    at_worst = goes_on_by (IsTrueAfterAnyPowerLossSince-weaker (λ disk left. keeps_by_fresh at fresh left) w.at_worst)
-        (IsTrueAfterAnyPowerLossSince-weaker (λ disk left. keeps_by_both at fresh w.others left) v.at_worst);
+    at_worst = goes_on_by (HoldsAtLosses-weaker (λ disk left. keeps_by_fresh at fresh left) w.at_worst)
+        (HoldsAtLosses-weaker (λ disk left. keeps_by_both at fresh w.others left) v.at_worst);
   }
 
 -- ---- what a call of lfs_pair says of its error

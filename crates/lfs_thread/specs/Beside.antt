@@ -4,62 +4,62 @@ use Rattle.std.specs.Fn.{Once}
 use Rattle.std.specs.Borrow.{MutBor}
 use Rattle.lfs_device.specs.declared.device.BlockDevice.{Ghosts}
 use Rattle.lfs_device.specs.declared.geometry.Geometry.{Geometry}
-use Rattle.lfs_model.specs.Blocks.{block_bytes_by_number}
-use Rattle.lfs_model.specs.BlockSets.{BlockStateList, IsBlockMarkedUsedInMap}
-use Rattle.lfs_model.specs.Disk.{Disk, block_count, disk_in_order}
-use Rattle.lfs_model.specs.History.{is_byte_unprogrammed}
-use Rattle.lfs_model.specs.Thread.{blocks_of_pairs}
+use Rattle.lfs_model.specs.format.Blocks.{block_bytes}
+use Rattle.lfs_model.specs.layers.BlockSets.{BlockStates, IsUsedBlock}
+use Rattle.lfs_model.specs.format.Disk.{Disk, block_count, ordered_disk}
+use Rattle.lfs_model.specs.session.History.{is_unprogrammed_byte}
+use Rattle.lfs_model.specs.format.Thread.{blocks_of_pairs}
 use Rattle.lfs_thread.specs.Kept.{KeptThread, disk_of_device}
 
 -- the disk has this geometry
-pub record DiskHasGeometry (geometry : Geometry) (disk : Disk) : Type 0 where
+pub record HasGeometryOf (geometry : Geometry) (disk : Disk) : Type 0 where
   pub block_size : geometry.block_size ≡ disk.block_size
   pub page : geometry.page ≡ disk.page
   pub profile : geometry.profile ≡ disk.profile
   pub count : geometry.block_count ≡ block_count disk
 
 -- work that is called with a device and a map, and returns an X
-abbrev pub ClosureOnDeviceAndMap : Type 0 → Type 0 → Type 0 → Type 1
-ClosureOnDeviceAndMap F D X = Once F (MutBor D × (MutBor BlockStateList × Unit {0})) (X × (MutBor D × (MutBor BlockStateList × Unit {0})))
+abbrev pub DeviceWork : Type 0 → Type 0 → Type 0 → Type 1
+DeviceWork F D X = Once F (MutBor D × (MutBor BlockStates × Unit {0})) (X × (MutBor D × (MutBor BlockStates × Unit {0})))
 
 -- the device and the map are the thread's
-pub record AreDeviceAndMapOfThread {D : Type 0} (g : Ghosts D) (t : KeptThread) (device : D) (sets : BlockStateList) : Type 0 where
-  pub disk : disk_in_order t.disk.order (disk_of_device g device) ≡ t.disk
+pub record AreDeviceAndMapOfThread {D : Type 0} (g : Ghosts D) (t : KeptThread) (device : D) (sets : BlockStates) : Type 0 where
+  pub disk : ordered_disk t.disk.order (disk_of_device g device) ≡ t.disk
   pub history : g.history device ≡ t.history
   pub map : sets ≡ t.map
 
 -- the work may be called with this device and this map
-pub record CanCallClosureOnDeviceAndMap {F D X : Type 0} (call : ClosureOnDeviceAndMap F D X) (work : F) (device : D) (map : BlockStateList) : Type 0 where
-  pub can : (p : MutBor D) (q : MutBor BlockStateList) → p.now ≡ device → q.now ≡ map → call.pre work (p, (q, tt))
+pub record CanCallClosureOnDeviceAndMap {F D X : Type 0} (call : DeviceWork F D X) (work : F) (device : D) (map : BlockStates) : Type 0 where
+  pub can : (p : MutBor D) (q : MutBor BlockStates) → p.now ≡ device → q.now ≡ map → call.pre work (p, (q, tt))
 
 -- a call of the work with this device and this map may return x, and leave `later` and `later_map`
-pub record MayClosureOnDeviceAndMapReturn {F D X : Type 0} (call : ClosureOnDeviceAndMap F D X) (work : F) (device : D) (map : BlockStateList) (x : X) (later : D) (later_map : BlockStateList) : Type 0 where
+pub record MayClosureOnDeviceAndMapReturn {F D X : Type 0} (call : DeviceWork F D X) (work : F) (device : D) (map : BlockStates) (x : X) (later : D) (later_map : BlockStates) : Type 0 where
   pub shown : MutBor D
   pub shows : shown.now ≡ device
-  pub shown_map : MutBor BlockStateList
+  pub shown_map : MutBor BlockStates
   pub shows_map : shown_map.now ≡ map
   pub left : MutBor D
-  pub left_map : MutBor BlockStateList
+  pub left_map : MutBor BlockStates
   pub met : call.post work (shown, (shown_map, tt)) (x, (left, (left_map, tt)))
   pub leaves : left.now ≡ later
   pub leaves_map : left_map.now ≡ later_map
 
 -- No used block of the thread's pairs changes, its unprogrammed bytes stay so, and it stays used.
-pub record LeavesUsedBlocksOfPairsUnchangedAndUsed {D : Type 0} (g : Ghosts D) (t : KeptThread) (device : D) (map : BlockStateList) (later : D) (later_map : BlockStateList) : Type 0 where
+pub record LeavesUsedBlocksOfPairsUnchangedAndUsed {D : Type 0} (g : Ghosts D) (t : KeptThread) (device : D) (map : BlockStates) (later : D) (later_map : BlockStates) : Type 0 where
   pub geometry : g.geometry later ≡ g.geometry device
   pub count : length (g.blocks later) ≡ length (g.blocks device)
-  pub same : (b : ℕ) → Contains (blocks_of_pairs t.pairs) b → IsBlockMarkedUsedInMap map b → block_bytes_by_number (g.blocks later) b ≡ block_bytes_by_number (g.blocks device) b
-  pub stays : (b k : ℕ) → Contains (blocks_of_pairs t.pairs) b → IsBlockMarkedUsedInMap map b → is_byte_unprogrammed (g.history device) b k ≡ true → is_byte_unprogrammed (g.history later) b k ≡ true
+  pub same : (b : ℕ) → Contains (blocks_of_pairs t.pairs) b → IsUsedBlock map b → block_bytes (g.blocks later) b ≡ block_bytes (g.blocks device) b
+  pub stays : (b k : ℕ) → Contains (blocks_of_pairs t.pairs) b → IsUsedBlock map b → is_unprogrammed_byte (g.history device) b k ≡ true → is_unprogrammed_byte (g.history later) b k ≡ true
   pub size : length later_map ≡ length map
-  pub used : (b : ℕ) → Contains (blocks_of_pairs t.pairs) b → IsBlockMarkedUsedInMap map b → IsBlockMarkedUsedInMap later_map b
+  pub used : (b : ℕ) → Contains (blocks_of_pairs t.pairs) b → IsUsedBlock map b → IsUsedBlock later_map b
 
 -- The work was called with the thread's device and map, and returned x. The thread has the device and the map that it left, and
 -- its names are in the same order.
-pub record HasRunWorkOnDeviceAndMap {F D X : Type 0} (g : Ghosts D) (call : ClosureOnDeviceAndMap F D X) (work : F) (old : KeptThread) (x : X) (new : KeptThread) : Type 0 where
+pub record HasRunWorkOnDeviceAndMap {F D X : Type 0} (g : Ghosts D) (call : DeviceWork F D X) (work : F) (old : KeptThread) (x : X) (new : KeptThread) : Type 0 where
   pub device : D
-  pub map : BlockStateList
+  pub map : BlockStates
   pub later : D
-  pub later_map : BlockStateList
+  pub later_map : BlockStates
   pub before : AreDeviceAndMapOfThread g old device map
   pub after : AreDeviceAndMapOfThread g new later later_map
   pub order : new.disk.order ≡ old.disk.order

@@ -1,9 +1,9 @@
 pub mod Kept
-pub mod Device
-pub mod Steps
+pub mod ThreadDevice
+pub mod ThreadSteps
 pub mod CachedLog
 pub mod Begun
-pub mod Reading
+pub mod HeaderReading
 pub mod MountErrors
 pub mod Beside
-pub mod Places
+pub mod PairPlaces

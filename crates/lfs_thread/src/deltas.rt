@@ -2,7 +2,7 @@
 
 ghost use Rattle.std.specs.Prelude.{◌≡◌, map};
 ghost use Rattle.std.specs.List.{fold};
-ghost use Rattle.lfs_model.specs.Slots.{bool_xor, gstate_xor, zero_gstate};
+ghost use Rattle.lfs_model.specs.format.Slots.{bool_xor, gstate_xor, zero_gstate};
 ghost use Rattle.lfs_tag.specs.FieldsView.{move_view};
 
 use lfs_pair::Pair;
@@ -10,7 +10,7 @@ use lfs_tag::MoveState;
 
 // Returns the exclusive or of the pairs' deltas, which is the global state (DESIGN.md of littlefs,
 // "The move problem").
-pub(crate) fn global_state_of_pairs(pairs: &[Pair]) -> MoveState
+pub(crate) fn headers_gstate(pairs: &[Pair]) -> MoveState
     ensures { move_view result ≡ fold gstate_xor zero_gstate (map (λ p. move_view p.move_state) pairs.now) }
 {
     let mut state = MoveState::none();
@@ -26,14 +26,14 @@ pub fn gstate_xor_delta(state: &MoveState, delta: &MoveState) -> MoveState
     ensures { move_view result ≡ gstate_xor (move_view state.now) (move_view delta.now) }
 {
     MoveState {
-        sync: is_exactly_one_true(state.sync, delta.sync),
+        sync: is_one_true(state.sync, delta.sync),
         kind: state.kind ^ delta.kind,
         id: state.id ^ delta.id,
         pair: [state.pair[0] ^ delta.pair[0], state.pair[1] ^ delta.pair[1]],
     }
 }
 
-fn is_exactly_one_true(one: bool, other: bool) -> bool
+fn is_one_true(one: bool, other: bool) -> bool
     ensures { result ≡ bool_xor one other }
 {
     one != other

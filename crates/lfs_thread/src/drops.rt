@@ -3,11 +3,11 @@
 ghost use Rattle.std.specs.Prelude.{◌≡◌, ◌+◌, OnOk};
 ghost use Rattle.lfs_pair.specs.Writing.{ChangesOnlyBlocksWithinReadLimit};
 ghost use Rattle.lfs_pair.specs.ChangeView.{changes_view};
-ghost use Rattle.lfs_thread.specs.Device.{PowerLossLeavesSuchBlocksAfterCleanErases, IoMeansFaultNoMemoryWritesNothing};
-ghost use Rattle.lfs_thread.specs.Kept.{IsCacheCurrent, IsKeptThreadOnDevice, kept_thread_of_device};
-ghost use Rattle.lfs_thread.specs.CachedLog.{log_among_cached_blocks, read_count_unless_cached};
-ghost use Rattle.lfs_thread.specs.Steps.{CanDropNextPair, IsPairAfterIndexDropped, PowerLossLeavesPairOldOrChanged, IsCommitRefused, thread_pair_at_index};
-ghost use Rattle.lfs_model.specs.Thread.{blocks_of_pair_address};
+ghost use Rattle.lfs_thread.specs.ThreadDevice.{LossLeavesCleanly, IoMeansFaultNoMemoryWritesNothing};
+ghost use Rattle.lfs_thread.specs.Kept.{IsCacheCurrent, IsKept, kept_of_device};
+ghost use Rattle.lfs_thread.specs.CachedLog.{cached_block_log, reads_unless_cached};
+ghost use Rattle.lfs_thread.specs.ThreadSteps.{CanDropNext, IsNextDropped, LossLeavesPairChanged, RefusesCommit, thread_pair_at};
+ghost use Rattle.lfs_model.specs.format.Thread.{address_blocks};
 
 use crate::commits::commit_with_cache;
 use lfs_blocks::{BlockMap, Cache};
@@ -27,19 +27,19 @@ pub(crate) fn drop_next_pair<D: BlockDevice>(
     index: usize,
     changes: &[Change<'_>],
 ) -> Result<Outcome, Error>
-    requires kept { IsKeptThreadOnDevice D.BlockDevice device.old pairs.old.items map.old }
+    requires kept { IsKept D.BlockDevice device.old pairs.old.items map.old }
     requires current { IsCacheCurrent (D.blocks device.old) cache.old }
-    requires can { CanDropNextPair (kept_thread_of_device D.BlockDevice device.old pairs.old.items map.old) index (changes_view changes.now) }
-    ensures kept { OnOk result (IsKeptThreadOnDevice D.BlockDevice device.new pairs.new.items map.new) }
+    requires can { CanDropNext (kept_of_device D.BlockDevice device.old pairs.old.items map.old) index (changes_view changes.now) }
+    ensures kept { OnOk result (IsKept D.BlockDevice device.new pairs.new.items map.new) }
     ensures current { IsCacheCurrent (D.blocks device.new) cache.new }
-    ensures is_dropped { result ≡ Ok Outcome.Done → IsPairAfterIndexDropped (kept_thread_of_device D.BlockDevice device.old pairs.old.items map.old) index (changes_view changes.now)
-        (kept_thread_of_device D.BlockDevice device.new pairs.new.items map.new) }
-    ensures full { result ≡ Ok Outcome.Full → IsCommitRefused (kept_thread_of_device D.BlockDevice device.old pairs.old.items map.old) index (changes_view changes.now)
-        (kept_thread_of_device D.BlockDevice device.new pairs.new.items map.new) }
-    ensures device { ChangesOnlyBlocksWithinReadLimit D.BlockDevice (1 + read_count_unless_cached (log_among_cached_blocks (kept_thread_of_device D.BlockDevice device.old pairs.old.items map.old) cache.old index)) (blocks_of_pair_address (thread_pair_at_index (kept_thread_of_device D.BlockDevice device.old pairs.old.items map.old) index).at) device.old device.new }
+    ensures is_dropped { result ≡ Ok Outcome.Done → IsNextDropped (kept_of_device D.BlockDevice device.old pairs.old.items map.old) index (changes_view changes.now)
+        (kept_of_device D.BlockDevice device.new pairs.new.items map.new) }
+    ensures full { result ≡ Ok Outcome.Full → RefusesCommit (kept_of_device D.BlockDevice device.old pairs.old.items map.old) index (changes_view changes.now)
+        (kept_of_device D.BlockDevice device.new pairs.new.items map.new) }
+    ensures device { ChangesOnlyBlocksWithinReadLimit D.BlockDevice (1 + reads_unless_cached (cached_block_log (kept_of_device D.BlockDevice device.old pairs.old.items map.old) cache.old index)) (address_blocks (thread_pair_at (kept_of_device D.BlockDevice device.old pairs.old.items map.old) index).at) device.old device.new }
     ensures errors { IoMeansFaultNoMemoryWritesNothing D.BlockDevice device.old device.new result }
-    ensures stops { PowerLossLeavesSuchBlocksAfterCleanErases (D.history device.old) (D.history device.new)
-        (PowerLossLeavesPairOldOrChanged (kept_thread_of_device D.BlockDevice device.old pairs.old.items map.old) index (changes_view changes.now)) }
+    ensures stops { LossLeavesCleanly (D.history device.old) (D.history device.new)
+        (LossLeavesPairChanged (kept_of_device D.BlockDevice device.old pairs.old.items map.old) index (changes_view changes.now)) }
 {
     let outcome = commit_with_cache(alloc, device, cache, &mut pairs[index], changes)?;
     if let Outcome::Full = outcome {

@@ -2,17 +2,17 @@
 
 ghost use Rattle.std.specs.Prelude.{◌≡◌, ◌+◌, [], length, replicate, sum_by, IfErr, IfOk, List, OnOk};
 ghost use Rattle.std.specs.Option.{option_map};
-ghost use Rattle.lfs_model.specs.Slots.{pair_address_of_array};
+ghost use Rattle.lfs_model.specs.format.Slots.{array_address};
 ghost use Rattle.lfs_tag.specs.ContentView.{tail_view};
-ghost use Rattle.lfs_model.specs.BlockSets.{AreExactlyTheInFlightBlocks, AreExactlyTheUsedBlocks};
-ghost use Rattle.lfs_model.specs.BlockSets.BlockState.{Free};
-ghost use Rattle.lfs_model.specs.History.{read_count_of_history};
-ghost use Rattle.lfs_model.specs.Thread.{Pair as ThreadPair, blocks_of_pairs, pair_address_named_by_tail};
-ghost use Rattle.lfs_pair.specs.Pair.{pair_address_in_header, read_count_of_pair_fetch};
-ghost use Rattle.lfs_thread.specs.Begun.{ArePairsBeforeAddress};
-ghost use Rattle.lfs_thread.specs.Kept.{IsKeptThreadOnDevice, disk_of_device, pairs_of_headers};
-ghost use Rattle.lfs_thread.specs.MountErrors.{HasTrueThreadViolation, OnlyReadsUnlessFault};
-ghost use Rattle.lfs_thread.specs.Reading.{IsPairHeaderReadAndBlocksMarkedUsed};
+ghost use Rattle.lfs_model.specs.layers.BlockSets.{AreInFlight, AreUsed};
+ghost use Rattle.lfs_model.specs.layers.BlockSets.BlockState.{Free};
+ghost use Rattle.lfs_model.specs.session.History.{read_count};
+ghost use Rattle.lfs_model.specs.format.Thread.{Pair as ThreadPair, blocks_of_pairs, tail_address_of};
+ghost use Rattle.lfs_pair.specs.Pair.{header_address, fetch_reads};
+ghost use Rattle.lfs_thread.specs.Begun.{AreBeforeAddress};
+ghost use Rattle.lfs_thread.specs.Kept.{IsKept, disk_of_device, pairs_of_headers};
+ghost use Rattle.lfs_thread.specs.MountErrors.{IsViolationTrue, OnlyReadsUnlessFault};
+ghost use Rattle.lfs_thread.specs.HeaderReading.{IsReadAndMarked};
 
 use crate::mount_error::MountError;
 use lfs_blocks::BlockMap;
@@ -31,11 +31,11 @@ pub(crate) fn read_thread_headers<D: BlockDevice>(
 ) -> Result<(), MountError>
     requires none { pairs.old.items ≡ [] }
     requires free { map.old ≡ replicate (D.geometry device.old).block_count Free }
-    ensures kept { OnOk result (IsKeptThreadOnDevice D.BlockDevice device.new pairs.new.items map.new) }
-    ensures marked { OnOk result (AreExactlyTheUsedBlocks map.new (blocks_of_pairs (pairs_of_headers (disk_of_device D.BlockDevice device.new) pairs.new.items)) × AreExactlyTheInFlightBlocks map.new []) }
-    ensures broken { IfErr result (λ e. HasTrueThreadViolation (disk_of_device D.BlockDevice device.old) e) }
+    ensures kept { OnOk result (IsKept D.BlockDevice device.new pairs.new.items map.new) }
+    ensures marked { OnOk result (AreUsed map.new (blocks_of_pairs (pairs_of_headers (disk_of_device D.BlockDevice device.new) pairs.new.items)) × AreInFlight map.new []) }
+    ensures broken { IfErr result (λ e. IsViolationTrue (disk_of_device D.BlockDevice device.old) e) }
     ensures reported { OnlyReadsUnlessFault D.BlockDevice device.old device.new result }
-    ensures few { OnOk result (read_count_of_history (D.history device.new) ≡ read_count_of_history (D.history device.old) + sum_by (λ h. read_count_of_pair_fetch (disk_of_device D.BlockDevice device.old) (pair_address_in_header h)) pairs.new.items) }
+    ensures few { OnOk result (read_count (D.history device.new) ≡ read_count (D.history device.old) + sum_by (λ h. fetch_reads (disk_of_device D.BlockDevice device.old) (header_address h)) pairs.new.items) }
 {
     let block_count = device.geometry().block_count;
     let mut next = Some([0, 1]);
@@ -44,8 +44,8 @@ pub(crate) fn read_thread_headers<D: BlockDevice>(
         match next {
             None => return Ok(()),
             Some(at) => {
-                let pair = read_header_and_mark_pair_used(alloc, device, map, at)?;
-                next = address_named_by_header_tail(&pair);
+                let pair = read_and_mark(alloc, device, map, at)?;
+                next = tail_address(&pair);
                 pairs.push(pair)?;
             }
         }
@@ -54,8 +54,8 @@ pub(crate) fn read_thread_headers<D: BlockDevice>(
 }
 
 // Returns the address that a pair's tail names.
-fn address_named_by_header_tail(pair: &Pair) -> Option<[u32; 2]>
-    ensures { option_map pair_address_of_array result ≡ pair_address_named_by_tail (option_map tail_view pair.now.tail) }
+fn tail_address(pair: &Pair) -> Option<[u32; 2]>
+    ensures { option_map array_address result ≡ tail_address_of (option_map tail_view pair.now.tail) }
 {
     match pair.tail {
         None => None,
@@ -65,18 +65,18 @@ fn address_named_by_header_tail(pair: &Pair) -> Option<[u32; 2]>
 
 // Reads the header of the pair at an address, and marks its blocks as used. `Corrupt` where a block
 // is out of range, comes twice or is marked already, or where the pair holds no content.
-fn read_header_and_mark_pair_used<D: BlockDevice>(
+fn read_and_mark<D: BlockDevice>(
     alloc: Global,
     device: &mut D,
     map: &mut BlockMap,
     at: [u32; 2],
 ) -> Result<Pair, MountError>
     requires { length map.old ≡ (D.geometry device.old).block_count }
-    ensures read { IfOk result (IsPairHeaderReadAndBlocksMarkedUsed (disk_of_device D.BlockDevice device.old) (D.history device.new) (pair_address_of_array at) map.old map.new) }
-    ensures broken { (before : List ThreadPair) → ArePairsBeforeAddress (disk_of_device D.BlockDevice device.old) map.old before (pair_address_of_array at)
-        → IfErr result (λ e. HasTrueThreadViolation (disk_of_device D.BlockDevice device.old) e) }
+    ensures read { IfOk result (IsReadAndMarked (disk_of_device D.BlockDevice device.old) (D.history device.new) (array_address at) map.old map.new) }
+    ensures broken { (before : List ThreadPair) → AreBeforeAddress (disk_of_device D.BlockDevice device.old) map.old before (array_address at)
+        → IfErr result (λ e. IsViolationTrue (disk_of_device D.BlockDevice device.old) e) }
     ensures reported { OnlyReadsUnlessFault D.BlockDevice device.old device.new result }
-    ensures few { OnOk result (read_count_of_history (D.history device.new) ≡ read_count_of_history (D.history device.old) + read_count_of_pair_fetch (disk_of_device D.BlockDevice device.old) (pair_address_of_array at)) }
+    ensures few { OnOk result (read_count (D.history device.new) ≡ read_count (D.history device.old) + fetch_reads (disk_of_device D.BlockDevice device.old) (array_address at)) }
 {
     let [first, second] = at;
     let block_count = device.geometry().block_count;

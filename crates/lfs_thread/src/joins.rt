@@ -2,15 +2,15 @@
 
 ghost use Rattle.std.specs.Prelude.{◌≡◌, ◌+◌, OnOk};
 ghost use Rattle.std.specs.Option.{option_map};
-ghost use Rattle.lfs_model.specs.Slots.{pair_address_of_array};
+ghost use Rattle.lfs_model.specs.format.Slots.{array_address};
 ghost use Rattle.lfs_tag.specs.ContentView.{tail_view};
 ghost use Rattle.lfs_pair.specs.Writing.{ChangesOnlyBlocksWithinReadLimit};
 ghost use Rattle.lfs_pair.specs.ChangeView.{change_view, changes_view};
-ghost use Rattle.lfs_thread.specs.Device.{PowerLossLeavesSuchBlocksAfterCleanErases, IoMeansFaultNoMemoryKeepsOtherBlocks};
-ghost use Rattle.lfs_thread.specs.Kept.{IsCacheCurrent, IsKeptThreadOnDevice, kept_thread_of_device};
-ghost use Rattle.lfs_thread.specs.CachedLog.{log_among_cached_blocks, read_count_unless_cached};
-ghost use Rattle.lfs_thread.specs.Steps.{CanThreadInFreshPair, IsThreadingInRefused, IsFreshPairThreadedIn, PowerLossLeavesPairOldOrThreadedIn, change_that_sets_tail, thread_pair_at_index};
-ghost use Rattle.lfs_model.specs.Thread.{blocks_of_pair_address, blocks_of_two_pair_addresses};
+ghost use Rattle.lfs_thread.specs.ThreadDevice.{LossLeavesCleanly, IoMeansFaultNoMemoryKeepsOtherBlocks};
+ghost use Rattle.lfs_thread.specs.Kept.{IsCacheCurrent, IsKept, kept_of_device};
+ghost use Rattle.lfs_thread.specs.CachedLog.{cached_block_log, reads_unless_cached};
+ghost use Rattle.lfs_thread.specs.ThreadSteps.{CanThreadIn, RefusesThreadingIn, IsThreadedIn, LossLeavesThreadedIn, tail_setting_change, thread_pair_at};
+ghost use Rattle.lfs_model.specs.format.Thread.{address_blocks, addresses_blocks};
 
 use crate::commits::{commit_with_cache, forget_cached_pair};
 use lfs_blocks::{BlockMap, Cache};
@@ -23,7 +23,7 @@ use std::alloc::Global;
 // index. Then the changes are committed to the pair at the index, whose tail then names the fresh
 // pair. Where the changes don't fit, no tail names the fresh pair, and its blocks stay in flight.
 // After an error nothing is known of the headers and the map.
-pub(crate) fn thread_in_fresh_pair<D: BlockDevice>(
+pub(crate) fn thread_in_pair<D: BlockDevice>(
     alloc: Global,
     device: &mut D,
     cache: &mut Cache,
@@ -33,19 +33,19 @@ pub(crate) fn thread_in_fresh_pair<D: BlockDevice>(
     fresh: [u32; 2],
     changes: &[Change<'_>],
 ) -> Result<Outcome, Error>
-    requires kept { IsKeptThreadOnDevice D.BlockDevice device.old pairs.old.items map.old }
+    requires kept { IsKept D.BlockDevice device.old pairs.old.items map.old }
     requires current { IsCacheCurrent (D.blocks device.old) cache.old }
-    requires can { CanThreadInFreshPair (kept_thread_of_device D.BlockDevice device.old pairs.old.items map.old) index (pair_address_of_array fresh) (changes_view changes.now) }
-    ensures kept { OnOk result (IsKeptThreadOnDevice D.BlockDevice device.new pairs.new.items map.new) }
+    requires can { CanThreadIn (kept_of_device D.BlockDevice device.old pairs.old.items map.old) index (array_address fresh) (changes_view changes.now) }
+    ensures kept { OnOk result (IsKept D.BlockDevice device.new pairs.new.items map.new) }
     ensures current { IsCacheCurrent (D.blocks device.new) cache.new }
-    ensures is_joined { result ≡ Ok Outcome.Done → IsFreshPairThreadedIn (kept_thread_of_device D.BlockDevice device.old pairs.old.items map.old) index (pair_address_of_array fresh) (changes_view changes.now)
-        (kept_thread_of_device D.BlockDevice device.new pairs.new.items map.new) }
-    ensures full { result ≡ Ok Outcome.Full → IsThreadingInRefused (kept_thread_of_device D.BlockDevice device.old pairs.old.items map.old) index (pair_address_of_array fresh) (changes_view changes.now)
-        (kept_thread_of_device D.BlockDevice device.new pairs.new.items map.new) }
-    ensures device { ChangesOnlyBlocksWithinReadLimit D.BlockDevice (3 + read_count_unless_cached (log_among_cached_blocks (kept_thread_of_device D.BlockDevice device.old pairs.old.items map.old) cache.old index)) (blocks_of_two_pair_addresses (thread_pair_at_index (kept_thread_of_device D.BlockDevice device.old pairs.old.items map.old) index).at (pair_address_of_array fresh)) device.old device.new }
-    ensures errors { IoMeansFaultNoMemoryKeepsOtherBlocks D.BlockDevice (blocks_of_pair_address (pair_address_of_array fresh)) device.old device.new result }
-    ensures stops { PowerLossLeavesSuchBlocksAfterCleanErases (D.history device.old) (D.history device.new)
-        (PowerLossLeavesPairOldOrThreadedIn (kept_thread_of_device D.BlockDevice device.old pairs.old.items map.old) index (pair_address_of_array fresh) (changes_view changes.now)) }
+    ensures is_joined { result ≡ Ok Outcome.Done → IsThreadedIn (kept_of_device D.BlockDevice device.old pairs.old.items map.old) index (array_address fresh) (changes_view changes.now)
+        (kept_of_device D.BlockDevice device.new pairs.new.items map.new) }
+    ensures full { result ≡ Ok Outcome.Full → RefusesThreadingIn (kept_of_device D.BlockDevice device.old pairs.old.items map.old) index (array_address fresh) (changes_view changes.now)
+        (kept_of_device D.BlockDevice device.new pairs.new.items map.new) }
+    ensures device { ChangesOnlyBlocksWithinReadLimit D.BlockDevice (3 + reads_unless_cached (cached_block_log (kept_of_device D.BlockDevice device.old pairs.old.items map.old) cache.old index)) (addresses_blocks (thread_pair_at (kept_of_device D.BlockDevice device.old pairs.old.items map.old) index).at (array_address fresh)) device.old device.new }
+    ensures errors { IoMeansFaultNoMemoryKeepsOtherBlocks D.BlockDevice (address_blocks (array_address fresh)) device.old device.new result }
+    ensures stops { LossLeavesCleanly (D.history device.old) (D.history device.new)
+        (LossLeavesThreadedIn (kept_of_device D.BlockDevice device.old pairs.old.items map.old) index (array_address fresh) (changes_view changes.now)) }
 {
     let mut pair = pairs[index];
     // This takes the memory for the fresh pair's header, before anything is written.
@@ -67,7 +67,7 @@ pub(crate) fn thread_in_fresh_pair<D: BlockDevice>(
 
 // Returns the change that sets this tail.
 fn change_setting_tail<'a>(tail: &Option<Tail>) -> Change<'a>
-    ensures { change_view result ≡ change_that_sets_tail (option_map tail_view tail.now) }
+    ensures { change_view result ≡ tail_setting_change (option_map tail_view tail.now) }
 {
     match tail {
         None => Change::Tail {

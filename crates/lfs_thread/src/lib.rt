@@ -18,7 +18,7 @@ mod thread;
 
 pub use deltas::gstate_xor_delta;
 pub use mount_error::MountError;
-pub use pair_numbers::pair_number_at_address;
+pub use pair_numbers::number_at_address;
 pub use parts::ThreadParts;
 pub use places::PairAddressList;
 pub use thread::Thread;

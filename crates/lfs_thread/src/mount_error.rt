@@ -1,7 +1,7 @@
 // Why the image of a device isn't mounted.
 
 ghost use Rattle.std.specs.Prelude.{◌≡◌};
-ghost use Rattle.lfs_thread.specs.MountErrors.{mount_error_of};
+ghost use Rattle.lfs_thread.specs.MountErrors.{mount_error_for};
 
 use lfs_device::Error;
 use lfs_model::Violation;
@@ -22,7 +22,7 @@ impl MountError {
     /// Returns the cause for an error of a call that reads an image. `Corrupt` means there that the image
     /// breaks this rule. The call has no error but `Corrupt`, `Io` and `NoMemory`.
     pub fn of(error: Error, violation: Violation) -> MountError
-        ensures { result ≡ mount_error_of error violation }
+        ensures { result ≡ mount_error_for error violation }
     {
         match error {
             Error::Corrupt => MountError::Corrupt(violation),

@@ -2,8 +2,8 @@
 
 ghost use Rattle.std.specs.Prelude.{◌≡◌, IfNone, IfSome, false};
 ghost use Rattle.std.specs.List.{AllByRecursion};
-ghost use Rattle.lfs_model.specs.InDirectory.{IsPairAtAddress};
-ghost use Rattle.lfs_model.specs.Slots.{pair_address_of_array, same_pair};
+ghost use Rattle.lfs_model.specs.session.InDirectory.{IsPairAt};
+ghost use Rattle.lfs_model.specs.format.Slots.{array_address, same_pair};
 
 use crate::thread::Thread;
 use lfs_device::BlockDevice;
@@ -12,9 +12,9 @@ use lfs_pair::is_same_pair;
 /// Returns the number of the pair at an address, from 0 on in the thread's order. The address may
 /// have its two blocks in either order. Returns None where no pair of the thread has these two
 /// blocks.
-pub fn pair_number_at_address<D: BlockDevice>(thread: &Thread<D>, at: [u32; 2]) -> Option<usize>
-    ensures there { IfSome result (IsPairAtAddress thread.now.kept.pairs (pair_address_of_array at)) }
-    ensures nowhere { IfNone result (AllByRecursion (λ p. same_pair p.at (pair_address_of_array at) ≡ false) thread.now.kept.pairs) }
+pub fn number_at_address<D: BlockDevice>(thread: &Thread<D>, at: [u32; 2]) -> Option<usize>
+    ensures there { IfSome result (IsPairAt thread.now.kept.pairs (array_address at)) }
+    ensures nowhere { IfNone result (AllByRecursion (λ p. same_pair p.at (array_address at) ≡ false) thread.now.kept.pairs) }
 {
     for index in 0..thread.len() {
         if is_same_pair(thread.blocks_of_pair(index), at) {

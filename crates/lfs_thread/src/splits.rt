@@ -1,14 +1,14 @@
 // Splits of pairs of the thread.
 
 ghost use Rattle.std.specs.Prelude.{◌≡◌, ◌+◌, OnOk};
-ghost use Rattle.lfs_model.specs.Slots.{pair_address_of_array};
+ghost use Rattle.lfs_model.specs.format.Slots.{array_address};
 ghost use Rattle.lfs_pair.specs.Writing.{ChangesOnlyBlocksWithinReadLimit};
 ghost use Rattle.lfs_pair.specs.ChangeView.{changes_view};
-ghost use Rattle.lfs_thread.specs.Device.{PowerLossLeavesSuchBlocksAfterCleanErases, IoMeansFaultNoMemoryWritesNothing};
-ghost use Rattle.lfs_thread.specs.Kept.{IsCacheCurrent, IsKeptThreadOnDevice, kept_thread_of_device};
-ghost use Rattle.lfs_thread.specs.CachedLog.{log_among_cached_blocks, read_count_unless_cached};
-ghost use Rattle.lfs_thread.specs.Steps.{CanSplitPairAtIndex, PowerLossLeavesPairOldOrSplit, IsPairSplitInTwo, thread_pair_at_index};
-ghost use Rattle.lfs_model.specs.Thread.{blocks_of_two_pair_addresses};
+ghost use Rattle.lfs_thread.specs.ThreadDevice.{LossLeavesCleanly, IoMeansFaultNoMemoryWritesNothing};
+ghost use Rattle.lfs_thread.specs.Kept.{IsCacheCurrent, IsKept, kept_of_device};
+ghost use Rattle.lfs_thread.specs.CachedLog.{cached_block_log, reads_unless_cached};
+ghost use Rattle.lfs_thread.specs.ThreadSteps.{CanSplitAt, LossLeavesPairSplit, IsSplitInTwo, thread_pair_at};
+ghost use Rattle.lfs_model.specs.format.Thread.{addresses_blocks};
 
 use crate::commits::split_with_cache;
 use lfs_blocks::{BlockMap, Cache};
@@ -28,17 +28,17 @@ pub(crate) fn split_pair<D: BlockDevice>(
     fresh: [u32; 2],
     changes: &[Change<'_>],
 ) -> Result<(), Error>
-    requires kept { IsKeptThreadOnDevice D.BlockDevice device.old pairs.old.items map.old }
+    requires kept { IsKept D.BlockDevice device.old pairs.old.items map.old }
     requires current { IsCacheCurrent (D.blocks device.old) cache.old }
-    requires can { CanSplitPairAtIndex (kept_thread_of_device D.BlockDevice device.old pairs.old.items map.old) index (pair_address_of_array fresh) (changes_view changes.now) }
-    ensures kept { OnOk result (IsKeptThreadOnDevice D.BlockDevice device.new pairs.new.items map.new) }
+    requires can { CanSplitAt (kept_of_device D.BlockDevice device.old pairs.old.items map.old) index (array_address fresh) (changes_view changes.now) }
+    ensures kept { OnOk result (IsKept D.BlockDevice device.new pairs.new.items map.new) }
     ensures current { IsCacheCurrent (D.blocks device.new) cache.new }
-    ensures is_split { OnOk result (IsPairSplitInTwo (kept_thread_of_device D.BlockDevice device.old pairs.old.items map.old) index (pair_address_of_array fresh) (changes_view changes.now)
-        (kept_thread_of_device D.BlockDevice device.new pairs.new.items map.new)) }
-    ensures device { ChangesOnlyBlocksWithinReadLimit D.BlockDevice (3 + read_count_unless_cached (log_among_cached_blocks (kept_thread_of_device D.BlockDevice device.old pairs.old.items map.old) cache.old index)) (blocks_of_two_pair_addresses (thread_pair_at_index (kept_thread_of_device D.BlockDevice device.old pairs.old.items map.old) index).at (pair_address_of_array fresh)) device.old device.new }
+    ensures is_split { OnOk result (IsSplitInTwo (kept_of_device D.BlockDevice device.old pairs.old.items map.old) index (array_address fresh) (changes_view changes.now)
+        (kept_of_device D.BlockDevice device.new pairs.new.items map.new)) }
+    ensures device { ChangesOnlyBlocksWithinReadLimit D.BlockDevice (3 + reads_unless_cached (cached_block_log (kept_of_device D.BlockDevice device.old pairs.old.items map.old) cache.old index)) (addresses_blocks (thread_pair_at (kept_of_device D.BlockDevice device.old pairs.old.items map.old) index).at (array_address fresh)) device.old device.new }
     ensures errors { IoMeansFaultNoMemoryWritesNothing D.BlockDevice device.old device.new result }
-    ensures stops { PowerLossLeavesSuchBlocksAfterCleanErases (D.history device.old) (D.history device.new)
-        (PowerLossLeavesPairOldOrSplit (kept_thread_of_device D.BlockDevice device.old pairs.old.items map.old) index (pair_address_of_array fresh) (changes_view changes.now)) }
+    ensures stops { LossLeavesCleanly (D.history device.old) (D.history device.new)
+        (LossLeavesPairSplit (kept_of_device D.BlockDevice device.old pairs.old.items map.old) index (array_address fresh) (changes_view changes.now)) }
 {
     let mut pair = pairs[index];
     // This takes the memory for the fresh pair's header, before anything is written.

@@ -1,32 +1,32 @@
 ghost use Rattle.std.specs.Prelude.{ℕ, ◌+◌, ◌*◌, ◌≤◌, if◌then◌else◌, None, Some, List, ◌↔◌, IfOk, ◌≡◌, IsTrue, true, ◌<◌, length, false, is_err, [], replicate, slice_set, IfErr, IfNone, IfSome, IsSome, OnOk, ◌-◌, min, take, drop, slice_range};
 ghost use Rattle.std.specs.Option.{option_map};
-ghost use Rattle.lfs_model.specs.Content.{current_block_of_pair_at};
-ghost use Rattle.lfs_model.specs.Disk.{disk_in_order};
-ghost use Rattle.lfs_model.specs.BlockSets.{IsBlockFree, IsBlockInFlight, IsBlockMarkedUsedInMap, used_count};
-ghost use Rattle.lfs_model.specs.BlockSets.BlockState.{Free, InFlight};
-ghost use Rattle.lfs_file.specs.Known.{AreKnownListBlocks, ReadsKnownList};
-ghost use Rattle.lfs_model.specs.Shown.{skip_list_blocks_of_struct};
-ghost use Rattle.lfs_model.specs.SkipLists.{IsSkipList, bytes_of_skip_list};
-ghost use Rattle.lfs_model.specs.History.{read_count_of_history};
-ghost use Rattle.lfs_model.specs.Slots.{Ctz, pair_address_of_array};
-ghost use Rattle.lfs_model.specs.Thread.{gstate_of_pairs, is_hard_tail, blocks_of_pair_address, blocks_of_two_pair_addresses};
+ghost use Rattle.lfs_model.specs.format.Content.{current_block};
+ghost use Rattle.lfs_model.specs.format.Disk.{ordered_disk};
+ghost use Rattle.lfs_model.specs.layers.BlockSets.{IsFree, IsInFlight, IsUsedBlock, used_count};
+ghost use Rattle.lfs_model.specs.layers.BlockSets.BlockState.{Free, InFlight};
+ghost use Rattle.lfs_file.specs.Known.{AreKnownBlocks, ReadsKnownList};
+ghost use Rattle.lfs_model.specs.tree.Shown.{struct_blocks};
+ghost use Rattle.lfs_model.specs.format.SkipLists.{IsSkipList, list_bytes};
+ghost use Rattle.lfs_model.specs.session.History.{read_count};
+ghost use Rattle.lfs_model.specs.format.Slots.{Ctz, array_address};
+ghost use Rattle.lfs_model.specs.format.Thread.{pairs_gstate, is_hard_tail, address_blocks, addresses_blocks};
 ghost use Rattle.lfs_tag.specs.ContentView.{tail_view};
 ghost use Rattle.lfs_tag.specs.FieldsView.{move_view};
 ghost use Rattle.lfs_pair.specs.ChangeView.{changes_view};
-ghost use Rattle.lfs_thread.specs.Beside.{CanCallClosureOnDeviceAndMap, HasRunWorkOnDeviceAndMap, DiskHasGeometry, LeavesUsedBlocksOfPairsUnchangedAndUsed, MayClosureOnDeviceAndMapReturn, AreDeviceAndMapOfThread};
-ghost use Rattle.lfs_thread.specs.Device.{GivesDeviceBackOnlyReadWithError, PowerLossLeavesSuchBlocksAfterCleanErases};
-ghost use Rattle.lfs_thread.specs.Kept.{IsCacheCurrent, IsKeptThreadOnDevice, WasKeptThreadOnDevice, disk_of_device, kept_thread_in_order};
-ghost use Rattle.lfs_thread.specs.CachedLog.{IsLogBlockOfContent, cached_log, cache_after_load, read_count_unless_cached};
-ghost use Rattle.lfs_thread.specs.MountErrors.{HasTrueThreadViolation, error_of_mount};
-ghost use Rattle.lfs_thread.specs.Reading.{IsThreadReadFromDevice};
-ghost use Rattle.lfs_thread.specs.Steps.{CanSplitPairAtIndex, CanChangePair, CanDropNextPair, CanThreadInFreshPair, IoMeantFaultNoMemoryWroteNothing, IoMeantFaultNoMemoryKeptOtherBlocks, IsThreadingInRefused, IsFreshPairThreadedIn, PowerLossLeavesPairOldOrThreadedIn, IsPairChanged, IsPairAfterIndexDropped, PowerLossLeavesPairOldOrChanged, PowerLossLeavesPairOldOrSplit, IsThreadOnlyRead, IsCommitRefused, IsPairSplitInTwo, ThreadChangesOnlyBlocksWithinReadLimit, thread_pair_at_index};
+ghost use Rattle.lfs_thread.specs.Beside.{CanCallClosureOnDeviceAndMap, HasRunWorkOnDeviceAndMap, HasGeometryOf, LeavesUsedBlocksOfPairsUnchangedAndUsed, MayClosureOnDeviceAndMapReturn, AreDeviceAndMapOfThread};
+ghost use Rattle.lfs_thread.specs.ThreadDevice.{GivesDeviceBackOnlyReadWithError, LossLeavesCleanly};
+ghost use Rattle.lfs_thread.specs.Kept.{IsCacheCurrent, IsKept, WasKeptOnDevice, disk_of_device, kept_in_order};
+ghost use Rattle.lfs_thread.specs.CachedLog.{IsContentLog, cached_log, loaded_cache, reads_unless_cached};
+ghost use Rattle.lfs_thread.specs.MountErrors.{IsViolationTrue, error_of_mount};
+ghost use Rattle.lfs_thread.specs.HeaderReading.{IsThreadReadFromDevice};
+ghost use Rattle.lfs_thread.specs.ThreadSteps.{CanSplitAt, CanChangePair, CanDropNext, CanThreadIn, IoMeantFaultNoMemoryWroteNothing, IoMeantFaultNoMemoryKeptOtherBlocks, RefusesThreadingIn, IsThreadedIn, LossLeavesThreadedIn, IsPairCommitted, IsNextDropped, LossLeavesPairChanged, LossLeavesPairSplit, OnlyReadsThread, RefusesCommit, IsSplitInTwo, ChangesWithinReads, thread_pair_at};
 
 use crate::commits::commit_with_cache;
-use crate::deltas::global_state_of_pairs;
+use crate::deltas::headers_gstate;
 use crate::drops::drop_next_pair;
 use crate::headers::read_thread_headers;
-use crate::joins::thread_in_fresh_pair;
-use crate::list_reads::read_part_through_cache;
+use crate::joins::thread_in_pair;
+use crate::list_reads::read_part_cached;
 use crate::mount_error::MountError;
 use crate::parts::ThreadParts;
 use crate::splits::split_pair;
@@ -58,18 +58,18 @@ pub struct Thread<D: BlockDevice> {
 
 impl<D: BlockDevice> Model for Thread<D> {
     ghost use Rattle.std.specs.Prelude.{◌≡◌, false};
-    ghost use Rattle.lfs_thread.specs.Kept.{IsCacheCurrent, IsKeptThreadOnDevice, ThreadView, kept_thread_in_order};
+    ghost use Rattle.lfs_thread.specs.Kept.{IsCacheCurrent, IsKept, ThreadView, kept_in_order};
 
     ghost Value = { ThreadView };
 
     ghost view = { λ t. record {
-      kept = kept_thread_in_order D.BlockDevice t.order t.device t.pairs.items t.map;
+      kept = kept_in_order D.BlockDevice t.order t.device t.pairs.items t.map;
       cache = t.cache;
       failed = t.has_failed;
     } };
 
     ghost invariant = { λ t. t.has_failed ≡ false
-        → IsKeptThreadOnDevice D.BlockDevice t.device t.pairs.items t.map × IsCacheCurrent (D.blocks t.device) t.cache };
+        → IsKept D.BlockDevice t.device t.pairs.items t.map × IsCacheCurrent (D.blocks t.device) t.cache };
 }
 
 impl<D: BlockDevice> Thread<D> {
@@ -88,12 +88,12 @@ impl<D: BlockDevice> Thread<D> {
     /// isn't granted. The device comes back with an error.
     pub fn read(alloc: Global, mut device: D) -> Result<Thread<D>, (D, MountError)>
         ensures read { IfOk result (IsThreadReadFromDevice D.BlockDevice device) }
-        ensures broken { IfErr result (λ e. HasTrueThreadViolation (disk_of_device D.BlockDevice device) e.1) }
+        ensures broken { IfErr result (λ e. IsViolationTrue (disk_of_device D.BlockDevice device) e.1) }
         ensures back { IfErr result (λ e. GivesDeviceBackOnlyReadWithError D.BlockDevice device e.0 (error_of_mount e.1)) }
     {
         let block_count = device.geometry().block_count;
         let mut pairs = Vec::new(alloc);
-        let (cache, mut map) = match make_empty_cache_and_map(alloc, block_count) {
+        let (cache, mut map) = match new_cache_map(alloc, block_count) {
             Ok(parts) => parts,
             Err(_) => return Err((device, MountError::NoMemory)),
         };
@@ -114,8 +114,8 @@ impl<D: BlockDevice> Thread<D> {
     /// them a thread again.
     pub fn into_parts(self) -> ThreadParts<D>
         requires works { self.failed ≡ false }
-        ensures kept { IsKeptThreadOnDevice D.BlockDevice result.device result.pairs.items result.map }
-        ensures same { kept_thread_in_order D.BlockDevice result.order result.device result.pairs.items result.map ≡ self.kept }
+        ensures kept { IsKept D.BlockDevice result.device result.pairs.items result.map }
+        ensures same { kept_in_order D.BlockDevice result.order result.device result.pairs.items result.map ≡ self.kept }
         ensures current { IsCacheCurrent (D.blocks result.device) result.cache }
         ensures cache { result.cache ≡ self.cache }
     {
@@ -132,10 +132,10 @@ impl<D: BlockDevice> Thread<D> {
     /// at some time, and the device was only read since then. The map has the blocks of the pairs
     /// as used. Each block of the cache has the bytes that the device has.
     pub fn from_parts(parts: ThreadParts<D>) -> Thread<D>
-        requires kept { WasKeptThreadOnDevice D.BlockDevice parts.device parts.pairs.items parts.map }
+        requires kept { WasKeptOnDevice D.BlockDevice parts.device parts.pairs.items parts.map }
         requires current { IsCacheCurrent (D.blocks parts.device) parts.cache }
         ensures works { result.failed ≡ false }
-        ensures kept { result.kept ≡ kept_thread_in_order D.BlockDevice parts.order parts.device parts.pairs.items parts.map }
+        ensures kept { result.kept ≡ kept_in_order D.BlockDevice parts.order parts.device parts.pairs.items parts.map }
         ensures cache { result.cache ≡ parts.cache }
     {
         Thread {
@@ -150,7 +150,7 @@ impl<D: BlockDevice> Thread<D> {
 
     /// Returns the device, as the last call left it. A failed thread returns it, too.
     pub fn device(&self) -> &D
-        ensures disk { disk_in_order self.now.kept.disk.order (disk_of_device D.BlockDevice result.now) ≡ self.now.kept.disk }
+        ensures disk { ordered_disk self.now.kept.disk.order (disk_of_device D.BlockDevice result.now) ≡ self.now.kept.disk }
         ensures history { D.history result.now ≡ self.now.kept.history }
     {
         &self.device
@@ -165,7 +165,7 @@ impl<D: BlockDevice> Thread<D> {
 
     /// Says in which order the names are. Nothing else of the thread depends on it.
     pub fn set_order(&mut self, order: NameOrder)
-        ensures { self.new ≡ record self.old { kept = record self.old.kept { disk = disk_in_order order self.old.kept.disk } } }
+        ensures { self.new ≡ record self.old { kept = record self.old.kept { disk = ordered_disk order self.old.kept.disk } } }
     {
         self.order = order;
     }
@@ -173,7 +173,7 @@ impl<D: BlockDevice> Thread<D> {
     /// Ends the thread, and returns the device as the last call left it. A failed thread returns
     /// it, too.
     pub fn into_device(self) -> D
-        ensures disk { disk_in_order self.kept.disk.order (disk_of_device D.BlockDevice result) ≡ self.kept.disk }
+        ensures disk { ordered_disk self.kept.disk.order (disk_of_device D.BlockDevice result) ≡ self.kept.disk }
         ensures history { D.history result ≡ self.kept.history }
     {
         self.device
@@ -183,9 +183,9 @@ impl<D: BlockDevice> Thread<D> {
     /// move problem").
     pub fn state(&self) -> MoveState
         requires works { self.now.failed ≡ false }
-        ensures { move_view result ≡ gstate_of_pairs self.now.kept.pairs }
+        ensures { move_view result ≡ pairs_gstate self.now.kept.pairs }
     {
-        global_state_of_pairs(&self.pairs)
+        headers_gstate(&self.pairs)
     }
 
     /// Returns how many pairs there are.
@@ -199,7 +199,7 @@ impl<D: BlockDevice> Thread<D> {
     /// the pair's number in the thread, from 0 on.
     pub fn blocks_of_pair(&self, index: usize) -> [u32; 2]
         requires { index < length self.now.kept.pairs }
-        ensures { pair_address_of_array result ≡ (thread_pair_at_index self.now.kept index).at }
+        ensures { array_address result ≡ (thread_pair_at self.now.kept index).at }
     {
         self.pairs[index].blocks
     }
@@ -208,7 +208,7 @@ impl<D: BlockDevice> Thread<D> {
     pub fn slot_count(&self, index: usize) -> usize
         requires works { self.now.failed ≡ false }
         requires below { index < length self.now.kept.pairs }
-        ensures { result ≡ length (thread_pair_at_index self.now.kept index).content.slots }
+        ensures { result ≡ length (thread_pair_at self.now.kept index).content.slots }
     {
         self.pairs[index].slot_count
     }
@@ -219,7 +219,7 @@ impl<D: BlockDevice> Thread<D> {
     pub fn next(&self, index: usize) -> Option<usize>
         requires works { self.now.failed ≡ false }
         requires below { index < length self.now.kept.pairs }
-        ensures next { result ≡ (if is_hard_tail (thread_pair_at_index self.now.kept index).content.tail then Some (index + 1) else None) }
+        ensures next { result ≡ (if is_hard_tail (thread_pair_at self.now.kept index).content.tail then Some (index + 1) else None) }
         ensures below { IfSome result (λ next. next < length self.now.kept.pairs) }
     {
         if has_hard_tail(self.pairs[index].tail) {
@@ -234,7 +234,7 @@ impl<D: BlockDevice> Thread<D> {
     pub fn tail_of_pair(&self, index: usize) -> Option<Tail>
         requires works { self.now.failed ≡ false }
         requires below { index < length self.now.kept.pairs }
-        ensures { option_map tail_view result ≡ (thread_pair_at_index self.now.kept index).content.tail }
+        ensures { option_map tail_view result ≡ (thread_pair_at self.now.kept index).content.tail }
     {
         self.pairs[index].tail
     }
@@ -243,7 +243,7 @@ impl<D: BlockDevice> Thread<D> {
     pub fn delta(&self, index: usize) -> MoveState
         requires works { self.now.failed ≡ false }
         requires below { index < length self.now.kept.pairs }
-        ensures { move_view result ≡ (thread_pair_at_index self.now.kept index).content.move }
+        ensures { move_view result ≡ (thread_pair_at self.now.kept index).content.move }
     {
         self.pairs[index].move_state
     }
@@ -258,12 +258,12 @@ impl<D: BlockDevice> Thread<D> {
         requires below { index < length self.old.kept.pairs }
         ensures cached_log { OnOk result (IsSome (cached_log self.new index)) }
         ensures no_call { IsSome (cached_log self.old index) → self.new.kept ≡ self.old.kept }
-        ensures only { IsThreadOnlyRead self.old.kept self.new.kept }
-        ensures few { read_count_of_history self.new.kept.history ≤ read_count_of_history self.old.kept.history + 1 }
+        ensures only { OnlyReadsThread self.old.kept self.new.kept }
+        ensures few { read_count self.new.kept.history ≤ read_count self.old.kept.history + 1 }
         ensures works { self.new.failed ≡ false }
         ensures errors { IoMeantFaultNoMemoryWroteNothing self.old.kept self.new.kept result }
         // The eight blocks that were loaded last stay cached.
-        ensures recent { OnOk result (self.new.cache ≡ cache_after_load self.old index) }
+        ensures recent { OnOk result (self.new.cache ≡ loaded_cache self.old index) }
     {
         let block = self.pairs[index].active;
         self.cache.fill(&mut self.device, block)
@@ -275,8 +275,8 @@ impl<D: BlockDevice> Thread<D> {
         requires works { self.now.failed ≡ false }
         requires below { index < length self.now.kept.pairs }
         ensures lent { result ≡ cached_log self.now index }
-        ensures holds { IfSome result (λ log. IsLogBlockOfContent log (thread_pair_at_index self.now.kept index).content) }
-        ensures holder { IfSome result (λ log. current_block_of_pair_at self.now.kept.disk (thread_pair_at_index self.now.kept index).at ≡ Some log) }
+        ensures holds { IfSome result (λ log. IsContentLog log (thread_pair_at self.now.kept index).content) }
+        ensures holder { IfSome result (λ log. current_block self.now.kept.disk (thread_pair_at self.now.kept index).at ≡ Some log) }
     {
         let pair = &self.pairs[index];
         match self.cache.lend(pair.active) {
@@ -301,8 +301,8 @@ impl<D: BlockDevice> Thread<D> {
         requires works { self.old.failed ≡ false }
         requires list { IsSkipList self.old.kept.disk.blocks self.old.kept.disk.block_size head size }
         ensures count { IfOk result (λ n. (n ≡ min (length buf.old) (size - pos)) × (drop n buf.new ≡ drop n buf.old)) }
-        ensures bytes { IfOk result (λ n. take n buf.new ≡ slice_range (bytes_of_skip_list self.old.kept.disk.blocks self.old.kept.disk.block_size head size) pos (pos + n)) }
-        ensures only { IsThreadOnlyRead self.old.kept self.new.kept }
+        ensures bytes { IfOk result (λ n. take n buf.new ≡ slice_range (list_bytes self.old.kept.disk.blocks self.old.kept.disk.block_size head size) pos (pos + n)) }
+        ensures only { OnlyReadsThread self.old.kept self.new.kept }
         ensures same { (self.new.failed ≡ false) × (self.new.cache ≡ self.old.cache) }
         ensures errors { IoMeantFaultNoMemoryWroteNothing self.old.kept self.new.kept result }
     {
@@ -328,10 +328,10 @@ impl<D: BlockDevice> Thread<D> {
     ) -> Result<usize, Error>
         requires works { self.old.failed ≡ false }
         requires list { IsSkipList self.old.kept.disk.blocks self.old.kept.disk.block_size head size }
-        requires blocks { AreKnownListBlocks (skip_list_blocks_of_struct self.old.kept.disk (Ctz head size)) known.old }
-        ensures read { IfOk result (λ n. (n ≡ min (length buf.old) (size - pos)) × (take n buf.new ≡ slice_range (bytes_of_skip_list self.old.kept.disk.blocks self.old.kept.disk.block_size head size) pos (pos + n))) }
-        ensures blocks { AreKnownListBlocks (skip_list_blocks_of_struct self.old.kept.disk (Ctz head size)) known.new }
-        ensures only { IsThreadOnlyRead self.old.kept self.new.kept }
+        requires blocks { AreKnownBlocks (struct_blocks self.old.kept.disk (Ctz head size)) known.old }
+        ensures read { IfOk result (λ n. (n ≡ min (length buf.old) (size - pos)) × (take n buf.new ≡ slice_range (list_bytes self.old.kept.disk.blocks self.old.kept.disk.block_size head size) pos (pos + n))) }
+        ensures blocks { AreKnownBlocks (struct_blocks self.old.kept.disk (Ctz head size)) known.new }
+        ensures only { OnlyReadsThread self.old.kept self.new.kept }
         ensures works { self.new.failed ≡ false }
         ensures errors { IoMeantFaultNoMemoryWroteNothing self.old.kept self.new.kept result }
         ensures few { OnOk result (ReadsKnownList self.old.kept.disk.block_size size pos (length buf.old) known.old known.new self.old.kept.history self.new.kept.history) }
@@ -341,7 +341,7 @@ impl<D: BlockDevice> Thread<D> {
         if let Some(part) = known.find_part(&self.device, size, pos, buf.len()) {
             let is_cached = self.cache.lend(part.block).is_some();
             if goes_on || is_cached {
-                return read_part_through_cache(&mut self.device, &mut self.cache, part, buf);
+                return read_part_cached(&mut self.device, &mut self.cache, part, buf);
             }
         }
         known.read_at(&mut self.device, head, size, pos, buf)
@@ -350,9 +350,9 @@ impl<D: BlockDevice> Thread<D> {
     /// Takes a free block, which is in flight then, and returns its number. Returns None exactly
     /// where no block is free.
     pub fn take(&mut self) -> Option<u32>
-        ensures was_free { IfSome result (IsBlockFree self.old.kept.map) }
+        ensures was_free { IfSome result (IsFree self.old.kept.map) }
         ensures taken { IfSome result (λ block. self.new ≡ record self.old { kept = record self.old.kept { map = slice_set self.old.kept.map block InFlight } }) }
-        ensures none { IfNone result ((block : ℕ) → ¬ IsBlockFree self.old.kept.map block) }
+        ensures none { IfNone result ((block : ℕ) → ¬ IsFree self.old.kept.map block) }
         ensures same { IfNone result (self.new ≡ self.old) }
     {
         match self.map.take() {
@@ -363,7 +363,7 @@ impl<D: BlockDevice> Thread<D> {
 
     /// Makes a block in flight free again, which no commit names.
     pub fn release(&mut self, block: u32)
-        requires { IsBlockInFlight self.old.kept.map block }
+        requires { IsInFlight self.old.kept.map block }
         ensures { self.new ≡ record self.old { kept = record self.old.kept { map = slice_set self.old.kept.map block Free } } }
     {
         self.map.release(block);
@@ -386,12 +386,12 @@ impl<D: BlockDevice> Thread<D> {
     ) -> Result<Outcome, Error>
         requires works { self.old.failed ≡ false }
         requires can { CanChangePair self.old.kept index (changes_view changes.now) }
-        ensures done { result ≡ Ok Outcome.Done → IsPairChanged self.old.kept index (changes_view changes.now) self.new.kept }
-        ensures full { result ≡ Ok Outcome.Full → IsCommitRefused self.old.kept index (changes_view changes.now) self.new.kept }
+        ensures done { result ≡ Ok Outcome.Done → IsPairCommitted self.old.kept index (changes_view changes.now) self.new.kept }
+        ensures full { result ≡ Ok Outcome.Full → RefusesCommit self.old.kept index (changes_view changes.now) self.new.kept }
         ensures failed { self.new.failed ≡ is_err result }
         ensures errors { IoMeantFaultNoMemoryWroteNothing self.old.kept self.new.kept result }
-        ensures device { ThreadChangesOnlyBlocksWithinReadLimit (1 + read_count_unless_cached (cached_log self.old index)) (blocks_of_pair_address (thread_pair_at_index self.old.kept index).at) self.old.kept self.new.kept }
-        ensures stops { PowerLossLeavesSuchBlocksAfterCleanErases self.old.kept.history self.new.kept.history (PowerLossLeavesPairOldOrChanged self.old.kept index (changes_view changes.now)) }
+        ensures device { ChangesWithinReads (1 + reads_unless_cached (cached_log self.old index)) (address_blocks (thread_pair_at self.old.kept index).at) self.old.kept self.new.kept }
+        ensures stops { LossLeavesCleanly self.old.kept.history self.new.kept.history (LossLeavesPairChanged self.old.kept index (changes_view changes.now)) }
     {
         let outcome = commit_with_cache(
             alloc,
@@ -418,12 +418,12 @@ impl<D: BlockDevice> Thread<D> {
         changes: &[Change<'_>],
     ) -> Result<(), Error>
         requires works { self.old.failed ≡ false }
-        requires can { CanSplitPairAtIndex self.old.kept index (pair_address_of_array fresh) (changes_view changes.now) }
-        ensures done { OnOk result (IsPairSplitInTwo self.old.kept index (pair_address_of_array fresh) (changes_view changes.now) self.new.kept) }
+        requires can { CanSplitAt self.old.kept index (array_address fresh) (changes_view changes.now) }
+        ensures done { OnOk result (IsSplitInTwo self.old.kept index (array_address fresh) (changes_view changes.now) self.new.kept) }
         ensures failed { self.new.failed ≡ is_err result }
         ensures errors { IoMeantFaultNoMemoryWroteNothing self.old.kept self.new.kept result }
-        ensures device { ThreadChangesOnlyBlocksWithinReadLimit (3 + read_count_unless_cached (cached_log self.old index)) (blocks_of_two_pair_addresses (thread_pair_at_index self.old.kept index).at (pair_address_of_array fresh)) self.old.kept self.new.kept }
-        ensures stops { PowerLossLeavesSuchBlocksAfterCleanErases self.old.kept.history self.new.kept.history (PowerLossLeavesPairOldOrSplit self.old.kept index (pair_address_of_array fresh) (changes_view changes.now)) }
+        ensures device { ChangesWithinReads (3 + reads_unless_cached (cached_log self.old index)) (addresses_blocks (thread_pair_at self.old.kept index).at (array_address fresh)) self.old.kept self.new.kept }
+        ensures stops { LossLeavesCleanly self.old.kept.history self.new.kept.history (LossLeavesPairSplit self.old.kept index (array_address fresh) (changes_view changes.now)) }
     {
         let result = split_pair(
             alloc,
@@ -456,15 +456,15 @@ impl<D: BlockDevice> Thread<D> {
         changes: &[Change<'_>],
     ) -> Result<Outcome, Error>
         requires works { self.old.failed ≡ false }
-        requires can { CanThreadInFreshPair self.old.kept index (pair_address_of_array fresh) (changes_view changes.now) }
-        ensures done { result ≡ Ok Outcome.Done → IsFreshPairThreadedIn self.old.kept index (pair_address_of_array fresh) (changes_view changes.now) self.new.kept }
-        ensures full { result ≡ Ok Outcome.Full → IsThreadingInRefused self.old.kept index (pair_address_of_array fresh) (changes_view changes.now) self.new.kept }
+        requires can { CanThreadIn self.old.kept index (array_address fresh) (changes_view changes.now) }
+        ensures done { result ≡ Ok Outcome.Done → IsThreadedIn self.old.kept index (array_address fresh) (changes_view changes.now) self.new.kept }
+        ensures full { result ≡ Ok Outcome.Full → RefusesThreadingIn self.old.kept index (array_address fresh) (changes_view changes.now) self.new.kept }
         ensures failed { self.new.failed ≡ is_err result }
-        ensures errors { IoMeantFaultNoMemoryKeptOtherBlocks (blocks_of_pair_address (pair_address_of_array fresh)) self.old.kept self.new.kept result }
-        ensures device { ThreadChangesOnlyBlocksWithinReadLimit (3 + read_count_unless_cached (cached_log self.old index)) (blocks_of_two_pair_addresses (thread_pair_at_index self.old.kept index).at (pair_address_of_array fresh)) self.old.kept self.new.kept }
-        ensures stops { PowerLossLeavesSuchBlocksAfterCleanErases self.old.kept.history self.new.kept.history (PowerLossLeavesPairOldOrThreadedIn self.old.kept index (pair_address_of_array fresh) (changes_view changes.now)) }
+        ensures errors { IoMeantFaultNoMemoryKeptOtherBlocks (address_blocks (array_address fresh)) self.old.kept self.new.kept result }
+        ensures device { ChangesWithinReads (3 + reads_unless_cached (cached_log self.old index)) (addresses_blocks (thread_pair_at self.old.kept index).at (array_address fresh)) self.old.kept self.new.kept }
+        ensures stops { LossLeavesCleanly self.old.kept.history self.new.kept.history (LossLeavesThreadedIn self.old.kept index (array_address fresh) (changes_view changes.now)) }
     {
-        let outcome = thread_in_fresh_pair(
+        let outcome = thread_in_pair(
             alloc,
             &mut self.device,
             &mut self.cache,
@@ -490,13 +490,13 @@ impl<D: BlockDevice> Thread<D> {
         changes: &[Change<'_>],
     ) -> Result<Outcome, Error>
         requires works { self.old.failed ≡ false }
-        requires can { CanDropNextPair self.old.kept index (changes_view changes.now) }
-        ensures done { result ≡ Ok Outcome.Done → IsPairAfterIndexDropped self.old.kept index (changes_view changes.now) self.new.kept }
-        ensures full { result ≡ Ok Outcome.Full → IsCommitRefused self.old.kept index (changes_view changes.now) self.new.kept }
+        requires can { CanDropNext self.old.kept index (changes_view changes.now) }
+        ensures done { result ≡ Ok Outcome.Done → IsNextDropped self.old.kept index (changes_view changes.now) self.new.kept }
+        ensures full { result ≡ Ok Outcome.Full → RefusesCommit self.old.kept index (changes_view changes.now) self.new.kept }
         ensures failed { self.new.failed ≡ is_err result }
         ensures errors { IoMeantFaultNoMemoryWroteNothing self.old.kept self.new.kept result }
-        ensures device { ThreadChangesOnlyBlocksWithinReadLimit (1 + read_count_unless_cached (cached_log self.old index)) (blocks_of_pair_address (thread_pair_at_index self.old.kept index).at) self.old.kept self.new.kept }
-        ensures stops { PowerLossLeavesSuchBlocksAfterCleanErases self.old.kept.history self.new.kept.history (PowerLossLeavesPairOldOrChanged self.old.kept index (changes_view changes.now)) }
+        ensures device { ChangesWithinReads (1 + reads_unless_cached (cached_log self.old index)) (address_blocks (thread_pair_at self.old.kept index).at) self.old.kept self.new.kept }
+        ensures stops { LossLeavesCleanly self.old.kept.history self.new.kept.history (LossLeavesPairChanged self.old.kept index (changes_view changes.now)) }
     {
         let outcome = drop_next_pair(
             alloc,
@@ -514,7 +514,7 @@ impl<D: BlockDevice> Thread<D> {
     /// Lends the device and the map to `work`, which leaves the blocks of the pairs as they are,
     /// and used. Such work writes a file's list into free blocks or blocks in flight, or settles it
     /// in the map. The cache is empty afterwards.
-    pub fn run_work_on_device_and_map<X, F: FnOnce(&mut D, &mut BlockMap) -> X>(
+    pub fn run_on_device<X, F: FnOnce(&mut D, &mut BlockMap) -> X>(
         &mut self,
         work: F,
     ) -> X
@@ -546,9 +546,9 @@ impl<D: BlockDevice> Thread<D> {
     }
 
     /// Makes a failed thread of its parts. Nothing is known of what its device holds.
-    pub fn failed_thread_of_parts(parts: ThreadParts<D>) -> Thread<D>
+    pub fn failed_thread_of(parts: ThreadParts<D>) -> Thread<D>
         ensures failed { result.failed ≡ true }
-        ensures kept { result.kept ≡ kept_thread_in_order D.BlockDevice parts.order parts.device parts.pairs.items parts.map }
+        ensures kept { result.kept ≡ kept_in_order D.BlockDevice parts.order parts.device parts.pairs.items parts.map }
     {
         Thread {
             device: parts.device,
@@ -562,7 +562,7 @@ impl<D: BlockDevice> Thread<D> {
 
     /// Returns the geometry of the device.
     pub fn geometry(&self) -> Geometry
-        ensures { DiskHasGeometry result self.now.kept.disk }
+        ensures { HasGeometryOf result self.now.kept.disk }
     {
         self.device.geometry()
     }
@@ -577,14 +577,14 @@ impl<D: BlockDevice> Thread<D> {
     /// Returns whether a block is used. A block in flight isn't.
     pub fn is_used(&self, block: u32) -> bool
         requires { block < length self.now.kept.map }
-        ensures { IsTrue result ↔ IsBlockMarkedUsedInMap self.now.kept.map block }
+        ensures { IsTrue result ↔ IsUsedBlock self.now.kept.map block }
     {
         self.map.is_used(block)
     }
 }
 
 // Makes an empty cache, and a map of so many free blocks.
-fn make_empty_cache_and_map(alloc: Global, block_count: u32) -> Result<(Cache, BlockMap), Error>
+fn new_cache_map(alloc: Global, block_count: u32) -> Result<(Cache, BlockMap), Error>
     ensures empty { IfOk result (λ parts. parts.0 ≡ []) }
     ensures free { IfOk result (λ parts. parts.1 ≡ replicate block_count Free) }
     ensures error { IfErr result (λ e. e ≡ Error.NoMemory) }

@@ -3,9 +3,9 @@ use Rattle.std.proofs.Common.{◌≡◌, ◌∙◌, ◌<◌, ◌≤◌, ℕ, Lis
 use Rattle.std.specs.Prelude.{IfSome}
 use Rattle.std.proofs.lemmas.List.{length-take, take_all}
 use Rattle.lfs_tool.specs.declared.image_layout.ImageLayout.{ImageLayout}
-use Rattle.lfs_model.specs.Disk.{IsImageOfWholeBlocks}
-use Rattle.lfs_tool.specs.CheckResults.{AreReportedSizesThoseGivenToCheck, IsCheckResultOfBytes, IsWrongNumberIfAny, IsShortEnoughForImage}
-use Rattle.lfs_tool.specs.WrongNumbers.{HasNoWrongNumberInImageBytes, IsWrongNumberInImageBytes}
+use Rattle.lfs_model.specs.format.Disk.{IsWhole}
+use Rattle.lfs_tool.specs.CheckResults.{AreGivenSizes, IsCheckResult, IsWrongNumber, IsShortEnough}
+use Rattle.lfs_tool.specs.WrongNumbers.{NoWrongNumberIn, IsWrongNumberIn}
 use Rattle.lfs_tool.specs.declared.check_result.CheckResult.{CheckResult}
 use Rattle.lfs_tool.specs.declared.check_result.GivenSizes.{GivenSizes}
 use Rattle.lfs_tool.specs.declared.wrong_number.WrongNumber.{WrongNumber}
@@ -14,7 +14,7 @@ use Rattle.lfs_tool.proofs.Images.{image_fits, most}
 -- ---- the reason that comes first
 
 -- a number that was looked for
-pub number_or_none : (layout : ImageLayout) (image : List ℕ) (stated : Option WrongNumber) → IfSome stated (IsWrongNumberInImageBytes image layout.block_size layout.profile.versions) → (stated ≡ None → HasNoWrongNumberInImageBytes image layout.block_size layout.profile.versions) → IsShortEnoughForImage image → IsWrongNumberIfAny layout image stated
+pub number_or_none : (layout : ImageLayout) (image : List ℕ) (stated : Option WrongNumber) → IfSome stated (IsWrongNumberIn image layout.block_size layout.profile.versions) → (stated ≡ None → NoWrongNumberIn image layout.block_size layout.profile.versions) → IsShortEnough image → IsWrongNumber layout image stated
 number_or_none layout image None found none fits = λ short. none refl
 number_or_none layout image (Some number) found none fits = (fits, found)
 
@@ -24,21 +24,21 @@ all_there : (bytes items : List ℕ) → items ≡ take most bytes → length it
 all_there bytes items read short = read ∙ take_all most bytes (omega (arith, ap length read, length-take most bytes))
 
 pub checked_read : (known : Option (List ℕ)) (layout : ImageLayout) (items : List ℕ) (c : CheckResult) → IfSome known (λ bytes. items ≡ take most bytes) → length items ≤ 268435456
-    → IsCheckResultOfBytes layout items c → IfSome known (λ bytes. IsCheckResultOfBytes layout bytes c)
+    → IsCheckResult layout items c → IfSome known (λ bytes. IsCheckResult layout bytes c)
 checked_read None layout items c read short h = tt
-checked_read (Some bytes) layout items c read short h = subst (λ (i : List ℕ). IsCheckResultOfBytes layout i c) (all_there bytes items read short) h
+checked_read (Some bytes) layout items c read short h = subst (λ (i : List ℕ). IsCheckResult layout i c) (all_there bytes items read short) h
 
 too_long : (bytes items : List ℕ) → items ≡ take most bytes → 268435456 < length items → 268435456 < length bytes
 too_long bytes items read long = omega (arith, ap length read, length-take most bytes)
 
-no_image : (block_size page : ℕ) (bytes : List ℕ) → 268435456 < length bytes → IsImageOfWholeBlocks block_size page bytes → ⊥
+no_image : (block_size page : ℕ) (bytes : List ℕ) → 268435456 < length bytes → IsWhole block_size page bytes → ⊥
 no_image block_size page bytes long is = let short = image_fits block_size page bytes is in omega arith
 
 -- where there are more bytes than an image may have
 pub refused_read : (known : Option (List ℕ)) (layout : ImageLayout) (items : List ℕ) (given : GivenSizes) (c : CheckResult) → IfSome known (λ bytes. items ≡ take most bytes) → 268435456 < length items
-    → AreReportedSizesThoseGivenToCheck layout items given
-    → ((bytes : List ℕ) → 268435456 < length bytes → (IsImageOfWholeBlocks layout.block_size layout.page bytes → ⊥) → AreReportedSizesThoseGivenToCheck layout bytes given → IsCheckResultOfBytes layout bytes c)
-    → IfSome known (λ bytes. IsCheckResultOfBytes layout bytes c)
+    → AreGivenSizes layout items given
+    → ((bytes : List ℕ) → 268435456 < length bytes → (IsWhole layout.block_size layout.page bytes → ⊥) → AreGivenSizes layout bytes given → IsCheckResult layout bytes c)
+    → IfSome known (λ bytes. IsCheckResult layout bytes c)
 refused_read None layout items given c read long is refused = tt
 refused_read (Some bytes) layout items given c read long is refused =
     let more = too_long bytes items read long in

@@ -4,26 +4,26 @@ use Rattle.std.proofs.lemmas.List.Sorted.{IsPermutation-map}
 use Rattle.std.proofs.lemmas.List.Elements.{recursion_from_All}
 use Rattle.std.specs.declared.cmp.Ordering.TheVariants.{Less}
 use Rattle.lfs_model.specs.declared.order.NameOrder.TheVariants.{ShorterFirst}
-use Rattle.lfs_model.specs.Names.{Name, is_path_component, name_cmp}
-use Rattle.lfs_model.specs.Tree.{Path, FileNode, DirectoryNode, Tree}
-use Rattle.lfs_model.specs.TreeEdits.{tree_after_creation, names_with_added_name, node_after_change_of_names}
-use Rattle.lfs_model.specs.Fresh.{empty_tree}
-use Rattle.lfs_model.specs.Operations.{path_bytes}
-use Rattle.lfs_model.specs.Source.{AFile, AFolder, IsTreeMadeFromSource, IsTreeNodeMadeFromSourceNode, TreeSource, SourceNode, source_file_if_no_path_remains, is_source_entry_folder_if_present, names_of_source_entries, source_path_in_folder, source_node_at_path_from_folder}
-use Rattle.lfs_model.specs.Refusals.{path_of_bytes_or_root}
+use Rattle.lfs_model.specs.format.Names.{Name, is_component, name_cmp}
+use Rattle.lfs_model.specs.tree.Tree.{Path, FileNode, DirectoryNode, Tree}
+use Rattle.lfs_model.specs.session.TreeEdits.{tree_creating, names_with, node_with_names}
+use Rattle.lfs_model.specs.tree.Fresh.{empty_tree}
+use Rattle.lfs_model.specs.session.Operations.{path_bytes}
+use Rattle.lfs_model.specs.layers.Source.{AFile, AFolder, IsSourceTree, IsSourceNode, TreeSource, SourceNode, file_at_end, is_some_folder, source_names, path_in_folder, node_at}
+use Rattle.lfs_model.specs.session.Refusals.{path_or_root}
 use Rattle.lfs_model.proofs.Counts.{Each, each_append, each_both, each_weaker}
 use Rattle.lfs_model.proofs.Paths.{append_step, cancel, not_longer}
-use Rattle.lfs_tool_folders.specs.MemorySources.{optional_bytes_view}
-use Rattle.lfs_tool_folders.specs.Entries.{AreAllEntriesOfSource, AreEntriesDepthFirst, AreNamesInFolder, HasContentsInSource, PathAndIsFolder, paths_of_names_in_folder}
+use Rattle.lfs_tool_folders.specs.MemorySources.{optional_view}
+use Rattle.lfs_tool_folders.specs.SourceEntries.{AreSourceEntries, AreDepthFirst, AreFolderNames, HasSourceContents, PathKind, paths_in_folder}
 use Rattle.lfs_tool_folders.specs.declared.entries.SourceEntry.{SourceEntry}
-use Rattle.lfs_tool.specs.AppliedOperations.{file_or_directory_node_of_optional_bytes}
+use Rattle.lfs_tool.specs.AppliedOperations.{node_of_bytes}
 use Rattle.lfs_tool.proofs.NamesGiven.{Rising, before_it, each_given, each_names, kind_moved, less_unlike, name_at_end, none_given, rising_from, rising_right}
 use Rattle.lfs_tool.proofs.PathPlaces.{AreComponents, added_above, added_aside, added_there, path_more, read_back}
 
 -- ---- entries that come
 
 abbrev pub grown : SourceEntry → Tree → Tree
-grown e t = tree_after_creation (path_of_bytes_or_root e.path.items) (file_or_directory_node_of_optional_bytes (optional_bytes_view e.bytes)) t
+grown e t = tree_creating (path_or_root e.path.items) (node_of_bytes (optional_view e.bytes)) t
 
 abbrev pub tree_after : List SourceEntry → Tree → Tree
 tree_after [] t = t
@@ -32,7 +32,7 @@ tree_after (e ∷ es) t = tree_after es (grown e t)
 -- nothing is at the path at which each comes
 abbrev pub AreNew : List SourceEntry → Tree → Type 0
 AreNew [] t = Unit {0}
-AreNew (e ∷ es) t = (t (path_of_bytes_or_root e.path.items) ≡ None) × AreNew es (grown e t)
+AreNew (e ∷ es) t = (t (path_or_root e.path.items) ≡ None) × AreNew es (grown e t)
 
 tree_append : (xs ys : List SourceEntry) (t : Tree) → tree_after (xs ++ ys) t ≡ tree_after ys (tree_after xs t)
 tree_append [] ys t = refl
@@ -44,21 +44,21 @@ new_append (e ∷ xs) ys t h k = (h.0, new_append xs ys (grown e t) h.1 k)
 
 -- ---- what was read, in two parts
 
-record Parted (known : Option TreeSource) (ps qs : List PathAndIsFolder) (es : List SourceEntry) : Type 0 where
+record Parted (known : Option TreeSource) (ps qs : List PathKind) (es : List SourceEntry) : Type 0 where
   front : List SourceEntry
   back : List SourceEntry
   joined : es ≡ front ++ back
-  first : AreEntriesDepthFirst known ps front
-  second : AreEntriesDepthFirst known qs back
+  first : AreDepthFirst known ps front
+  second : AreDepthFirst known qs back
 
-parted : (known : Option TreeSource) (ps qs : List PathAndIsFolder) (es : List SourceEntry) → AreEntriesDepthFirst known (ps ++ qs) es → Parted known ps qs es
+parted : (known : Option TreeSource) (ps qs : List PathKind) (es : List SourceEntry) → AreDepthFirst known (ps ++ qs) es → Parted known ps qs es
 parted known [] qs es h = record { front = []; back = es; joined = refl; first = tt; second = h }
 parted known (p ∷ ps) qs [] h = absurd h
 parted known (p ∷ ps) qs (e ∷ es) (path, (within, (holds, rest))) =
-    let k = parted known (paths_of_names_in_folder p.0 within ++ ps) qs es (subst (λ xs. AreEntriesDepthFirst known xs es) (sym (append_assoc (paths_of_names_in_folder p.0 within) ps qs)) rest) in
+    let k = parted known (paths_in_folder p.0 within ++ ps) qs es (subst (λ xs. AreDepthFirst known xs es) (sym (append_assoc (paths_in_folder p.0 within) ps qs)) rest) in
     record { front = e ∷ k.front; back = k.back; joined = ap (λ z. e ∷ z) k.joined; first = (path, (within, (holds, k.first))); second = k.second }
 
-none_read : (known : Option TreeSource) (ps : List PathAndIsFolder) (es : List SourceEntry) → ps ≡ [] → AreEntriesDepthFirst known ps es → es ≡ []
+none_read : (known : Option TreeSource) (ps : List PathKind) (es : List SourceEntry) → ps ≡ [] → AreDepthFirst known ps es → es ≡ []
 none_read known [] [] e h = refl
 none_read known [] (x ∷ es) e h = absurd h
 none_read known (p ∷ ps) es e h = absurd (cc)
@@ -66,48 +66,48 @@ none_read known (p ∷ ps) es e h = absurd (cc)
 -- ---- a folder
 
 abbrev pub beneath : TreeSource → List ℕ → Path → Bool → Option SourceNode
-beneath s path rest is_folder = cond is_folder (source_node_at_path_from_folder s path rest) (source_file_if_no_path_remains s path rest)
+beneath s path rest is_folder = cond is_folder (node_at s path rest) (file_at_end s path rest)
 
 -- what stands at a name of a folder and beneath it
 abbrev ShowsName : TreeSource → Path → Tree → Name × Bool → Type 0
-ShowsName s f new g = (rest : Path) → IsTreeNodeMadeFromSourceNode (beneath s (source_path_in_folder (path_bytes f) g.0) rest g.1) (new (f ++ g.0 ∷ rest))
+ShowsName s f new g = (rest : Path) → IsSourceNode (beneath s (path_in_folder (path_bytes f) g.0) rest g.1) (new (f ++ g.0 ∷ rest))
 
 -- the folder has these names, and nothing else stands in it
 record IsWhole (s : TreeSource) (f : Path) (within : List (Name × Bool)) (new : Tree) : Type 0 where
-  folder : new f ≡ Some (DirectoryNode [] (names_of_source_entries within))
+  folder : new f ≡ Some (DirectoryNode [] (source_names within))
   below : Each (ShowsName s f new) within
   nothing : (m : Name) (rest : Path) → Each (λ g. m ≡ g.0 → ⊥) within → new (f ++ m ∷ rest) ≡ None
 
-whole_shows : (s : TreeSource) (f : Path) (within : List (Name × Bool)) (new : Tree) → AreNamesInFolder (Some s) (path_bytes f) within → IsWhole s f within new → (rest : Path) → IsTreeNodeMadeFromSourceNode (source_node_at_path_from_folder s (path_bytes f) rest) (new (f ++ rest))
-whole_shows s f within new w h [] = subst (IsTreeNodeMadeFromSourceNode (Some (AFolder (names_of_source_entries (s.names (path_bytes f)))))) (sym (ap new (append-nil f) ∙ h.folder))
+whole_shows : (s : TreeSource) (f : Path) (within : List (Name × Bool)) (new : Tree) → AreFolderNames (Some s) (path_bytes f) within → IsWhole s f within new → (rest : Path) → IsSourceNode (node_at s (path_bytes f) rest) (new (f ++ rest))
+whole_shows s f within new w h [] = subst (IsSourceNode (Some (AFolder (source_names (s.names (path_bytes f)))))) (sym (ap new (append-nil f) ∙ h.folder))
     (refl, IsPermutation-map (λ (g : Name × Bool). g.0) (s.names (path_bytes f)) within w.names, w.order.rise)
 whole_shows s f within new w h (m ∷ rest) =
-    subst (λ k. IsTreeNodeMadeFromSourceNode (option_and_then (beneath s (source_path_in_folder (path_bytes f) m) rest) k) (new (f ++ m ∷ rest))) (sym (kind_moved (s.names (path_bytes f)) within w.names (rising_from (names_of_source_entries within) w.order.rise) m)) (go (is_source_entry_folder_if_present m within) refl)
+    subst (λ k. IsSourceNode (option_and_then (beneath s (path_in_folder (path_bytes f) m) rest) k) (new (f ++ m ∷ rest))) (sym (kind_moved (s.names (path_bytes f)) within w.names (rising_from (source_names within) w.order.rise) m)) (go (is_some_folder m within) refl)
   where
-    go : (o : Option Bool) → is_source_entry_folder_if_present m within ≡ o → IsTreeNodeMadeFromSourceNode (option_and_then (beneath s (source_path_in_folder (path_bytes f) m) rest) o) (new (f ++ m ∷ rest))
-    go None e = subst (IsTreeNodeMadeFromSourceNode None) (sym (h.nothing m rest (none_given m within e))) tt
+    go : (o : Option Bool) → is_some_folder m within ≡ o → IsSourceNode (option_and_then (beneath s (path_in_folder (path_bytes f) m) rest) o) (new (f ++ m ∷ rest))
+    go None e = subst (IsSourceNode None) (sym (h.nothing m rest (none_given m within e))) tt
     go (Some k) e = each_given (ShowsName s f new) m within k e h.below rest
 
 -- ---- what comes into a folder
 
 -- The folder has the names so far, the names that come are greater, and nothing is there yet.
 record IsSourceBegun (s : TreeSource) (f : Path) (ns : List Name) (gs : List (Name × Bool)) (es : List SourceEntry) (t : Tree) : Type 0 where
-  read : AreEntriesDepthFirst (Some s) (paths_of_names_in_folder (path_bytes f) gs) es
+  read : AreDepthFirst (Some s) (paths_in_folder (path_bytes f) gs) es
   folder : t f ≡ Some (DirectoryNode [] ns)
-  rising : Rising (ns ++ names_of_source_entries gs)
+  rising : Rising (ns ++ source_names gs)
   path : AreComponents f
-  components : Each (λ g. is_path_component g.0 ≡ true) gs
+  components : Each (λ g. is_component g.0 ≡ true) gs
   empty : Each (λ g. (rest : Path) → t (f ++ g.0 ∷ rest) ≡ None) gs
 
 record HasGrown (s : TreeSource) (f : Path) (ns : List Name) (gs : List (Name × Bool)) (es : List SourceEntry) (t : Tree) : Type 0 where
-  folder : tree_after es t f ≡ Some (DirectoryNode [] (ns ++ names_of_source_entries gs))
+  folder : tree_after es t f ≡ Some (DirectoryNode [] (ns ++ source_names gs))
   below : Each (ShowsName s f (tree_after es t)) gs
   others : (q : Path) → (q ≡ f → ⊥) → Each (λ g. (rest : Path) → q ≡ f ++ g.0 ∷ rest → ⊥) gs → tree_after es t q ≡ t q
   new : AreNew es t
 
 -- What comes at a path and beneath it.
 record HasCome (s : TreeSource) (p : Path) (is_folder : Bool) (es : List SourceEntry) (t : Tree) : Type 0 where
-  below : (rest : Path) → IsTreeNodeMadeFromSourceNode (beneath s (path_bytes p) rest is_folder) (tree_after es t (p ++ rest))
+  below : (rest : Path) → IsSourceNode (beneath s (path_bytes p) rest is_folder) (tree_after es t (p ++ rest))
   others : (q : Path) → ((rest : Path) → q ≡ p ++ rest → ⊥) → tree_after es t q ≡ t q
   new : AreNew es t
 
@@ -115,23 +115,23 @@ abbrev Grows : ℕ → Type 0
 Grows n = (s : TreeSource) (f : Path) (ns : List Name) (gs : List (Name × Bool)) (es : List SourceEntry) (t : Tree) → length es ≤ n → IsSourceBegun s f ns gs es t → HasGrown s f ns gs es t
 
 a_file : (s : TreeSource) (p : Path) (bytes : List ℕ) (t : Tree) → bytes ≡ s.bytes (path_bytes p) → t p ≡ Some (FileNode [] bytes) → ((m : Name) (rest : Path) → t (p ++ m ∷ rest) ≡ None)
-    → (rest : Path) → IsTreeNodeMadeFromSourceNode (source_file_if_no_path_remains s (path_bytes p) rest) (t (p ++ rest))
-a_file s p bytes t is there none [] = subst (IsTreeNodeMadeFromSourceNode (Some (AFile (s.bytes (path_bytes p))))) (sym (ap t (append-nil p) ∙ there)) (refl, is)
-a_file s p bytes t is there none (m ∷ rest) = subst (IsTreeNodeMadeFromSourceNode None) (sym (none m rest)) tt
+    → (rest : Path) → IsSourceNode (file_at_end s (path_bytes p) rest) (t (p ++ rest))
+a_file s p bytes t is there none [] = subst (IsSourceNode (Some (AFile (s.bytes (path_bytes p))))) (sym (ap t (append-nil p) ∙ there)) (refl, is)
+a_file s p bytes t is there none (m ∷ rest) = subst (IsSourceNode None) (sym (none m rest)) tt
 
-come : (n : ℕ) → Grows n → (s : TreeSource) (p : Path) (is_folder : Bool) (o : Option (List ℕ)) (within : List (Name × Bool)) (es : List SourceEntry) (t : Tree) → length es ≤ n → HasContentsInSource (Some s) (path_bytes p) is_folder o within
-    → AreEntriesDepthFirst (Some s) (paths_of_names_in_folder (path_bytes p) within) es → AreComponents p → t p ≡ Some (file_or_directory_node_of_optional_bytes o) → ((m : Name) (rest : Path) → t (p ++ m ∷ rest) ≡ None) → HasCome s p is_folder es t
+come : (n : ℕ) → Grows n → (s : TreeSource) (p : Path) (is_folder : Bool) (o : Option (List ℕ)) (within : List (Name × Bool)) (es : List SourceEntry) (t : Tree) → length es ≤ n → HasSourceContents (Some s) (path_bytes p) is_folder o within
+    → AreDepthFirst (Some s) (paths_in_folder (path_bytes p) within) es → AreComponents p → t p ≡ Some (node_of_bytes o) → ((m : Name) (rest : Path) → t (p ++ m ∷ rest) ≡ None) → HasCome s p is_folder es t
 come n ih s p false None within es t few holds read path there none = absurd holds
 come n ih s p false (Some bytes) within es t few holds read path there none =
-    let nothing : es ≡ [] = none_read (Some s) (paths_of_names_in_folder (path_bytes p) within) es (ap (paths_of_names_in_folder (path_bytes p)) holds.1) read in
+    let nothing : es ≡ [] = none_read (Some s) (paths_in_folder (path_bytes p) within) es (ap (paths_in_folder (path_bytes p)) holds.1) read in
     subst (λ xs. HasCome s p false xs t) (sym nothing) (record { below = a_file s p bytes t holds.0 there none; others = λ q h. refl; new = tt })
 come n ih s p true None within es t few holds read path there none =
     let k = ih s p [] within es t few (record {
       read = read;
       folder = there;
-      rising = rising_from (names_of_source_entries within) holds.order.rise;
+      rising = rising_from (source_names within) holds.order.rise;
       path = path;
-      components = each_names (λ m. is_path_component m ≡ true) within (recursion_from_All (λ m. is_path_component m ≡ true) (names_of_source_entries within) holds.order.components);
+      components = each_names (λ m. is_component m ≡ true) within (recursion_from_All (λ m. is_component m ≡ true) (source_names within) holds.order.components);
       empty = each_none within;
     }) in
     record {
@@ -166,33 +166,33 @@ module _ (n : ℕ) (ih : Grows n) (s : TreeSource) (f : Path) (ns : List Name) (
   abbrev within : List (Name × Bool)
   within = b.read.1.0
 
-  abbrev k : Parted (Some s) (paths_of_names_in_folder (source_path_in_folder (path_bytes f) g.0) within) (paths_of_names_in_folder (path_bytes f) gs) es
-  k = parted (Some s) (paths_of_names_in_folder (source_path_in_folder (path_bytes f) g.0) within) (paths_of_names_in_folder (path_bytes f) gs) es b.read.1.1.1
+  abbrev k : Parted (Some s) (paths_in_folder (path_in_folder (path_bytes f) g.0) within) (paths_in_folder (path_bytes f) gs) es
+  k = parted (Some s) (paths_in_folder (path_in_folder (path_bytes f) g.0) within) (paths_in_folder (path_bytes f) gs) es b.read.1.1.1
 
-  spelled_path : source_path_in_folder (path_bytes f) g.0 ≡ path_bytes p
+  spelled_path : path_in_folder (path_bytes f) g.0 ≡ path_bytes p
   spelled_path = sym (path_more f g.0)
 
   components : AreComponents p
-  components = each_append (λ m. is_path_component m ≡ true) f (g.0 ∷ []) b.path (b.components.0, tt)
+  components = each_append (λ m. is_component m ≡ true) f (g.0 ∷ []) b.path (b.components.0, tt)
 
-  at : path_of_bytes_or_root e.path.items ≡ p
-  at = ap path_of_bytes_or_root (b.read.0 ∙ spelled_path) ∙ read_back f g.0 components
+  at : path_or_root e.path.items ≡ p
+  at = ap path_or_root (b.read.0 ∙ spelled_path) ∙ read_back f g.0 components
 
   abbrev one : Tree
   one = grown e t
 
-  one_is : one ≡ tree_after_creation p (file_or_directory_node_of_optional_bytes (optional_bytes_view e.bytes)) t
-  one_is = ap (λ q. tree_after_creation q (file_or_directory_node_of_optional_bytes (optional_bytes_view e.bytes)) t) at
+  one_is : one ≡ tree_creating p (node_of_bytes (optional_view e.bytes)) t
+  one_is = ap (λ q. tree_creating q (node_of_bytes (optional_view e.bytes)) t) at
 
-  there : one p ≡ Some (file_or_directory_node_of_optional_bytes (optional_bytes_view e.bytes))
-  there = ap (λ (u : Tree). u p) one_is ∙ added_there p (file_or_directory_node_of_optional_bytes (optional_bytes_view e.bytes)) t
+  there : one p ≡ Some (node_of_bytes (optional_view e.bytes))
+  there = ap (λ (u : Tree). u p) one_is ∙ added_there p (node_of_bytes (optional_view e.bytes)) t
 
   above : one f ≡ Some (DirectoryNode [] (ns ++ g.0 ∷ []))
-  above = ap (λ (u : Tree). u f) one_is ∙ added_above f g.0 (file_or_directory_node_of_optional_bytes (optional_bytes_view e.bytes)) t ∙ ap (option_map (node_after_change_of_names (names_with_added_name g.0))) b.folder
-      ∙ ap (λ xs. Some (DirectoryNode [] xs)) (name_at_end g.0 ns (before_it ns g.0 (names_of_source_entries gs) b.rising))
+  above = ap (λ (u : Tree). u f) one_is ∙ added_above f g.0 (node_of_bytes (optional_view e.bytes)) t ∙ ap (option_map (node_with_names (names_with g.0))) b.folder
+      ∙ ap (λ xs. Some (DirectoryNode [] xs)) (name_at_end g.0 ns (before_it ns g.0 (source_names gs) b.rising))
 
   aside : (q : Path) → (q ≡ f → ⊥) → (q ≡ p → ⊥) → one q ≡ t q
-  aside q x y = ap (λ (u : Tree). u q) one_is ∙ added_aside f g.0 (file_or_directory_node_of_optional_bytes (optional_bytes_view e.bytes)) t q x y
+  aside q x y = ap (λ (u : Tree). u q) one_is ∙ added_aside f g.0 (node_of_bytes (optional_view e.bytes)) t q x y
 
   beyond : (m : Name) (rest : Path) → one (p ++ m ∷ rest) ≡ None
   beyond m rest = aside (p ++ m ∷ rest) (λ x. not_longer f g.0 (m ∷ rest) (sym x ∙ append_step f g.0 (m ∷ rest))) (λ x. not_longer p m rest (sym x)) ∙ ap t (append_step f g.0 (m ∷ rest)) ∙ b.empty.0 (m ∷ rest)
@@ -204,15 +204,15 @@ module _ (n : ℕ) (ih : Grows n) (s : TreeSource) (f : Path) (ns : List Name) (
   back_few = omega (arith, few, ap length k.joined, length-append k.front k.back)
 
   comes : HasCome s p g.1 k.front one
-  comes = come n ih s p g.1 (optional_bytes_view e.bytes) within k.front one front_few (subst (λ x. HasContentsInSource (Some s) x g.1 (optional_bytes_view e.bytes) within) spelled_path b.read.1.1.0)
-      (subst (λ x. AreEntriesDepthFirst (Some s) (paths_of_names_in_folder x within) k.front) spelled_path k.first) components there beyond
+  comes = come n ih s p g.1 (optional_view e.bytes) within k.front one front_few (subst (λ x. HasSourceContents (Some s) x g.1 (optional_view e.bytes) within) spelled_path b.read.1.1.0)
+      (subst (λ x. AreDepthFirst (Some s) (paths_in_folder x within) k.front) spelled_path k.first) components there beyond
 
   abbrev two : Tree
   two = tree_after k.front one
 
   apart : Each (λ (h : Name × Bool). g.0 ≡ h.0 → ⊥) gs
   apart = each_weaker (λ (h : Name × Bool). name_cmp ShorterFirst g.0 h.0 ≡ Less) (λ (h : Name × Bool). g.0 ≡ h.0 → ⊥) (λ h less. less_unlike g.0 h.0 less) gs
-      (each_names (λ m. name_cmp ShorterFirst g.0 m ≡ Less) gs (rising_right ns (g.0 ∷ names_of_source_entries gs) b.rising).0)
+      (each_names (λ m. name_cmp ShorterFirst g.0 m ≡ Less) gs (rising_right ns (g.0 ∷ source_names gs) b.rising).0)
 
   off : (h : Name × Bool) → (g.0 ≡ h.0 → ⊥) → (rest r : Path) → f ++ h.0 ∷ rest ≡ f ++ g.0 ∷ r → ⊥
   off h other rest r x = other (let y = cancel f (h.0 ∷ rest) (g.0 ∷ r) x in cc)
@@ -225,7 +225,7 @@ module _ (n : ℕ) (ih : Grows n) (s : TreeSource) (f : Path) (ns : List Name) (
   goes_on = ih s f (ns ++ g.0 ∷ []) gs k.back two back_few (record {
     read = k.second;
     folder = comes.others f (λ r x. not_longer f g.0 r (x ∙ append_step f g.0 r)) ∙ above;
-    rising = subst Rising (sym (append_assoc ns (g.0 ∷ []) (names_of_source_entries gs))) b.rising;
+    rising = subst Rising (sym (append_assoc ns (g.0 ∷ []) (source_names gs))) b.rising;
     path = b.path;
     components = b.components.1;
     empty = still_none;
@@ -235,13 +235,13 @@ module _ (n : ℕ) (ih : Grows n) (s : TreeSource) (f : Path) (ns : List Name) (
   whole = ap (λ xs. tree_after xs one) k.joined ∙ tree_append k.front k.back one
 
   here : ShowsName s f (tree_after k.back two) g
-  here rest = subst (λ x. IsTreeNodeMadeFromSourceNode (beneath s x rest g.1) (tree_after k.back two (f ++ g.0 ∷ rest))) (sym spelled_path)
-      (subst (IsTreeNodeMadeFromSourceNode (beneath s (path_bytes p) rest g.1)) (sym (goes_on.others (f ++ g.0 ∷ rest) (λ x. not_longer f g.0 rest (sym x))
+  here rest = subst (λ x. IsSourceNode (beneath s x rest g.1) (tree_after k.back two (f ++ g.0 ∷ rest))) (sym spelled_path)
+      (subst (IsSourceNode (beneath s (path_bytes p) rest g.1)) (sym (goes_on.others (f ++ g.0 ∷ rest) (λ x. not_longer f g.0 rest (sym x))
       (each_weaker (λ (h : Name × Bool). g.0 ≡ h.0 → ⊥) (λ (h : Name × Bool). (r : Path) → f ++ g.0 ∷ rest ≡ f ++ h.0 ∷ r → ⊥) (λ h other r x. off h other r rest (sym x)) gs apart) ∙ ap two (sym (append_step f g.0 rest)))) (comes.below rest))
 
   more_grows : HasGrown s f ns (g ∷ gs) (e ∷ es) t
   more_grows = record {
-    folder = ap (λ (u : Tree). u f) whole ∙ goes_on.folder ∙ ap (λ xs. Some (DirectoryNode [] xs)) (append_assoc ns (g.0 ∷ []) (names_of_source_entries gs));
+    folder = ap (λ (u : Tree). u f) whole ∙ goes_on.folder ∙ ap (λ xs. Some (DirectoryNode [] xs)) (append_assoc ns (g.0 ∷ []) (source_names gs));
     below = subst (λ (u : Tree). Each (ShowsName s f u) (g ∷ gs)) (sym whole) (here, goes_on.below);
     others = λ q away off. ap (λ (u : Tree). u q) whole ∙ goes_on.others q away off.1 ∙ comes.others q (λ r x. off.0 r (x ∙ append_step f g.0 r)) ∙ aside q away (λ x. off.0 [] x);
     new = (ap t at ∙ b.empty.0 [], subst (λ xs. AreNew xs one) (sym k.joined) (new_append k.front k.back one comes.new goes_on.new));
@@ -258,17 +258,17 @@ grows (suc n) s f ns (g ∷ gs) (e ∷ es) t few b = more_grows n (grows n) s f 
 -- ---- all of the source
 
 pub record IsCarriedTree (s : TreeSource) (es : List SourceEntry) : Type 0 where
-  pub tree : IsTreeMadeFromSource s (tree_after es empty_tree)
+  pub tree : IsSourceTree s (tree_after es empty_tree)
   pub new : AreNew es empty_tree
 
-pub carried_tree : (s : TreeSource) (es : List SourceEntry) → AreAllEntriesOfSource (Some s) es → IsCarriedTree s es
+pub carried_tree : (s : TreeSource) (es : List SourceEntry) → AreSourceEntries (Some s) es → IsCarriedTree s es
 carried_tree s es (top, (w, read)) =
     let h = grows (length es) s [] [] top es empty_tree (omega arith) (record {
       read = read;
       folder = refl;
-      rising = rising_from (names_of_source_entries top) w.order.rise;
+      rising = rising_from (source_names top) w.order.rise;
       path = tt;
-      components = each_names (λ m. is_path_component m ≡ true) top (recursion_from_All (λ m. is_path_component m ≡ true) (names_of_source_entries top) w.order.components);
+      components = each_names (λ m. is_component m ≡ true) top (recursion_from_All (λ m. is_component m ≡ true) (source_names top) w.order.components);
       empty = each_none top;
     }) in
     record {

@@ -3,34 +3,34 @@ use Rattle.std.proofs.Common.{◌≡◌, ◌∙◌, ◌<◌, ◌*◌, ◌/◌, �
 use Rattle.std.specs.Prelude.{IfSome}
 use Rattle.std.proofs.lemmas.List.{length-take, take_all}
 use Rattle.lfs_tool.specs.declared.image_layout.ImageLayout.{ImageLayout}
-use Rattle.lfs_model.specs.Disk.{Disk, IsImageOfWholeBlocks, disk_in_order, disk_of_image}
-use Rattle.lfs_model.specs.View.{IsAcceptedImage}
+use Rattle.lfs_model.specs.format.Disk.{Disk, IsWhole, ordered_disk, disk_of_image}
+use Rattle.lfs_model.specs.tree.View.{IsAccepted}
 use Rattle.lfs_model.specs.declared.order.NameOrder.{NameOrder}
 use Rattle.lfs_model.specs.declared.order.NameOrder.TheVariants.{LongerFirst}
-use Rattle.lfs_model.proofs.Cuts.{HasBlocksOfCountAndSize-cut}
+use Rattle.lfs_model.proofs.Cuts.{HasBlockSizes-cut}
 use Rattle.lfs_tool.specs.KnownBytes.{IsListingRefusal}
 use Rattle.lfs_tool.proofs.Walked.{HasSizes, listed_from}
 use Rattle.lfs_device.specs.declared.error.Error.{Error}
 use Rattle.lfs_device.specs.declared.error.Error.TheVariants.{Corrupt, Invalid, NoMemory}
-use Rattle.lfs_tool.specs.Listings.{IsImageAcceptedInNeitherNameOrder, IsListingTextOfDisk, IsListingTextOfImage, IsMountErrorOfDisk, RefusesToList}
+use Rattle.lfs_tool.specs.Listings.{IsInNeitherOrder, IsListingOfDisk, IsListingOfImage, IsMountError, RefusesToList}
 
 -- ---- of its disk
 
-sizes_of_image : (layout : ImageLayout) (order : NameOrder) (image : List ℕ) → IsImageOfWholeBlocks layout.block_size layout.page image → HasSizes (disk_of_image layout.block_size layout.page layout.profile order image)
+sizes_of_image : (layout : ImageLayout) (order : NameOrder) (image : List ℕ) → IsWhole layout.block_size layout.page image → HasSizes (disk_of_image layout.block_size layout.page layout.profile order image)
 sizes_of_image layout order image is =
     let some : 0 < layout.block_size = omega (arith, is.geometry.no_smaller) in
     let whole : length image ≡ layout.block_size * (length image / layout.block_size) = omega (arith, is.whole) in
-    record { enough = is.geometry.no_smaller; count = length image / layout.block_size; divided = HasBlocksOfCountAndSize-cut layout.block_size (length image / layout.block_size) image whole }
+    record { enough = is.geometry.no_smaller; count = length image / layout.block_size; divided = HasBlockSizes-cut layout.block_size (length image / layout.block_size) image whole }
 
-pub lists_image : (layout : ImageLayout) (image : List ℕ) (disk : Disk) (text : List ℕ) (order : NameOrder) → IsImageOfWholeBlocks layout.block_size layout.page image
-    → disk ≡ disk_of_image layout.block_size layout.page layout.profile LongerFirst image → IsListingTextOfDisk (disk_in_order order disk) text → IsListingTextOfImage layout image text
+pub lists_image : (layout : ImageLayout) (image : List ℕ) (disk : Disk) (text : List ℕ) (order : NameOrder) → IsWhole layout.block_size layout.page image
+    → disk ≡ disk_of_image layout.block_size layout.page layout.profile LongerFirst image → IsListingOfDisk (ordered_disk order disk) text → IsListingOfImage layout image text
 lists_image layout image disk text order is same lines =
-    let (view, (shows, listing)) = listed_from (disk_of_image layout.block_size layout.page layout.profile order image) text (sizes_of_image layout order image is) (subst (λ d. IsListingTextOfDisk (disk_in_order order d) text) same lines) in
+    let (view, (shows, listing)) = listed_from (disk_of_image layout.block_size layout.page layout.profile order image) text (sizes_of_image layout order image is) (subst (λ d. IsListingOfDisk (ordered_disk order d) text) same lines) in
     (is, (view, ((order, shows), listing)))
 
-pub refuses_image : (layout : ImageLayout) (image : List ℕ) (disk : Disk) (e : Error) → IsImageOfWholeBlocks layout.block_size layout.page image
-    → disk ≡ disk_of_image layout.block_size layout.page layout.profile LongerFirst image → IsMountErrorOfDisk disk e → RefusesToList layout image e
-refuses_image layout image disk Corrupt is same wrong = (is, λ view (order, (ps, (accepted, shows))). wrong order ps (subst (λ d. IsAcceptedImage (disk_in_order order d) ps) (sym same) accepted))
+pub refuses_image : (layout : ImageLayout) (image : List ℕ) (disk : Disk) (e : Error) → IsWhole layout.block_size layout.page image
+    → disk ≡ disk_of_image layout.block_size layout.page layout.profile LongerFirst image → IsMountError disk e → RefusesToList layout image e
+refuses_image layout image disk Corrupt is same wrong = (is, λ view (order, (ps, (accepted, shows))). wrong order ps (subst (λ d. IsAccepted (ordered_disk order d) ps) (sym same) accepted))
 refuses_image layout image disk NoMemory is same wrong = tt
 refuses_image layout image disk e is same wrong = absurd wrong
 
@@ -45,28 +45,28 @@ kind_refused layout image e h = absurd h
 abbrev pub most : ℕ
 most = 268435457
 
-pub image_fits : (block_size page : ℕ) (image : List ℕ) → IsImageOfWholeBlocks block_size page image → length image < most
+pub image_fits : (block_size page : ℕ) (image : List ℕ) → IsWhole block_size page image → length image < most
 image_fits block_size page image is =
     let g = is.geometry in
     let some : 0 < block_size = omega (arith, g.no_smaller) in
     omega (arith, g.bytes, is.whole)
 
 -- where what was read is an image, it is all there is
-pub all_read : (block_size page : ℕ) (bytes items : List ℕ) → items ≡ take most bytes → IsImageOfWholeBlocks block_size page items → items ≡ bytes
+pub all_read : (block_size page : ℕ) (bytes items : List ℕ) → items ≡ take most bytes → IsWhole block_size page items → items ≡ bytes
 all_read block_size page bytes items read is =
     let short = image_fits block_size page items is in
     read ∙ take_all most bytes (omega (arith, ap length read, length-take most bytes))
 
 -- and where all there is is one, it was read whole
-image_read : (block_size page : ℕ) (bytes items : List ℕ) → items ≡ take most bytes → IsImageOfWholeBlocks block_size page bytes → IsImageOfWholeBlocks block_size page items
+image_read : (block_size page : ℕ) (bytes items : List ℕ) → items ≡ take most bytes → IsWhole block_size page bytes → IsWhole block_size page items
 image_read block_size page bytes items read is =
     let short = image_fits block_size page bytes is in
-    subst (IsImageOfWholeBlocks block_size page) (sym (read ∙ take_all most bytes (omega arith))) is
+    subst (IsWhole block_size page) (sym (read ∙ take_all most bytes (omega arith))) is
 
 refuses_bytes : (layout : ImageLayout) (bytes items : List ℕ) (e : Error) → items ≡ take most bytes → RefusesToList layout items e → RefusesToList layout bytes e
 refuses_bytes layout bytes items Invalid read h = λ is. h (image_read layout.block_size layout.page bytes items read is)
 refuses_bytes layout bytes items NoMemory read h = tt
-refuses_bytes layout bytes items Corrupt read h = subst (λ (i : List ℕ). IsImageAcceptedInNeitherNameOrder layout i) (all_read layout.block_size layout.page bytes items read h.0) h
+refuses_bytes layout bytes items Corrupt read h = subst (λ (i : List ℕ). IsInNeitherOrder layout i) (all_read layout.block_size layout.page bytes items read h.0) h
 refuses_bytes layout bytes items e read h = absurd h
 
 pub refuses_read : (known : Option (List ℕ)) (layout : ImageLayout) (items : List ℕ) (e : Error) → IfSome known (λ bytes. items ≡ take most bytes) → RefusesToList layout items e
@@ -74,13 +74,13 @@ pub refuses_read : (known : Option (List ℕ)) (layout : ImageLayout) (items : L
 refuses_read None layout items e read h = tt
 refuses_read (Some bytes) layout items e read h = refuses_bytes layout bytes items e read h
 
-pub lists_read : (known : Option (List ℕ)) (layout : ImageLayout) (items text : List ℕ) → IfSome known (λ bytes. items ≡ take most bytes) → IsListingTextOfImage layout items text
-    → IfSome known (λ bytes. IsListingTextOfImage layout bytes text)
+pub lists_read : (known : Option (List ℕ)) (layout : ImageLayout) (items text : List ℕ) → IfSome known (λ bytes. items ≡ take most bytes) → IsListingOfImage layout items text
+    → IfSome known (λ bytes. IsListingOfImage layout bytes text)
 lists_read None layout items text read h = tt
-lists_read (Some bytes) layout items text read h = subst (λ (i : List ℕ). IsListingTextOfImage layout i text) (all_read layout.block_size layout.page bytes items read h.0) h
+lists_read (Some bytes) layout items text read h = subst (λ (i : List ℕ). IsListingOfImage layout i text) (all_read layout.block_size layout.page bytes items read h.0) h
 
 -- what was written of the lines
-pub with_lines : (known : Option (List ℕ)) (layout : ImageLayout) (text : List ℕ) (P : List ℕ → Type 0) → IfSome known (λ bytes. IsListingTextOfImage layout bytes text) → P text
-    → IfSome known (λ bytes. (t : List ℕ) × (IsListingTextOfImage layout bytes t × P t))
+pub with_lines : (known : Option (List ℕ)) (layout : ImageLayout) (text : List ℕ) (P : List ℕ → Type 0) → IfSome known (λ bytes. IsListingOfImage layout bytes text) → P text
+    → IfSome known (λ bytes. (t : List ℕ) × (IsListingOfImage layout bytes t × P t))
 with_lines None layout text P lists written = tt
 with_lines (Some bytes) layout text P lists written = (text, (lists, written))

@@ -2,7 +2,7 @@
 use Rattle.std.proofs.Common.{◌≡◌, ◌∙◌, ◌++◌, ◌+◌, ◌-◌, ◌≤◌, ◌<◌, ap, ap₂, inl, inr, ℕ, List, [], Option, Some, None, append_assoc, arith, drop, length, length-append, refl, sym, take}
 use Rattle.std.specs.Prelude.{IfSome}
 use Rattle.std.specs.Io.KnownBytes.{Appends, Consumes, IsAtEnd, Keeps}
-use Rattle.lfs_tool.specs.Reports.{IsReadToEndOrPastImageLimit}
+use Rattle.lfs_tool.specs.Reports.{IsReadToEnd}
 use Rattle.std.proofs.Math.Seq.{take-add, take-append_seam}
 use Rattle.std.proofs.lemmas.List.{append-nil, length-drop, length-take-le, take_all}
 
@@ -41,10 +41,10 @@ reads_on (Some xs) (Some ys) None front back first second = absurd second
 reads_on (Some xs) (Some ys) (Some zs) front back first second = first ∙ ap (λ s. front ++ s) second ∙ sym (append_assoc front back zs)
 
 -- all was read, or more than an image may have
-pub ended_behind : (old mid new : Option (List ℕ)) (front back : List ℕ) → Consumes old mid front → Consumes mid new back → IsAtEnd new → IsReadToEndOrPastImageLimit old new
+pub ended_behind : (old mid new : Option (List ℕ)) (front back : List ℕ) → Consumes old mid front → Consumes mid new back → IsAtEnd new → IsReadToEnd old new
 ended_behind old mid new front back first second ends = (front ++ back, (reads_on old mid new front back first second, inl ends))
 
-pub past_the_most : (old new : Option (List ℕ)) (items : List ℕ) → Consumes old new items → 268435456 < length items → IsReadToEndOrPastImageLimit old new
+pub past_the_most : (old new : Option (List ℕ)) (items : List ℕ) → Consumes old new items → 268435456 < length items → IsReadToEnd old new
 past_the_most old new items read many = (items, (read, inr many))
 
 -- so many bytes have been passed
@@ -59,10 +59,10 @@ pub passed_more : (old mid new : Option (List ℕ)) (len n : ℕ) (buf : List �
 passed_more old mid new len n buf (bytes, (read, is)) more within =
     (bytes ++ take n buf, (reads_on old mid new bytes (take n buf) read more, length-append bytes (take n buf) ∙ ap₂ (λ a b. a + b) is (length-take-le n buf within)))
 
-pub passed_to_end : (old mid new : Option (List ℕ)) (len n : ℕ) (buf : List ℕ) → HasPassed old mid len → Consumes mid new (take n buf) → IsAtEnd new → IsReadToEndOrPastImageLimit old new
+pub passed_to_end : (old mid new : Option (List ℕ)) (len n : ℕ) (buf : List ℕ) → HasPassed old mid len → Consumes mid new (take n buf) → IsAtEnd new → IsReadToEnd old new
 passed_to_end old mid new len n buf (bytes, (read, is)) more ends = ended_behind old mid new bytes (take n buf) read more ends
 
-pub passed_the_most : (old new : Option (List ℕ)) (len : ℕ) → HasPassed old new len → 268435456 < len → IsReadToEndOrPastImageLimit old new
+pub passed_the_most : (old new : Option (List ℕ)) (len : ℕ) → HasPassed old new len → 268435456 < len → IsReadToEnd old new
 passed_the_most old new len (bytes, (read, is)) many = past_the_most old new bytes read (omega (arith, is, many))
 
 -- ---- a call that is made again, after calls that kept the known bytes

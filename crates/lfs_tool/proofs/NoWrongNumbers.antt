@@ -1,22 +1,22 @@
 -- Where each superblock of two blocks has right numbers, none is wrong.
 use Rattle.std.proofs.Common.{ℕ, ◌≡◌, ◌/◌, ⊎_elim, List, length, true, false, ap, subst, sym, ◌∙◌}
 use Rattle.lfs_model.specs.declared.limits.AcceptedVersions.{AcceptedVersions}
-use Rattle.lfs_model.specs.View.{is_accepted_version}
-use Rattle.lfs_model.specs.EntryTypes.{SuperblockFields}
-use Rattle.lfs_tool.specs.WrongNumbers.{HasSizesAndVersion}
-use Rattle.lfs_tool.specs.WrongNumbers.{HasSizesAndVersion, HasNoWrongNumberInImageBytes, IsSuperblockAtOffset, IsWrongSuperblockField}
+use Rattle.lfs_model.specs.tree.View.{accepts_version}
+use Rattle.lfs_model.specs.format.EntryTypes.{SuperblockFields}
+use Rattle.lfs_tool.specs.WrongNumbers.{HasSizesVersion}
+use Rattle.lfs_tool.specs.WrongNumbers.{HasSizesVersion, NoWrongNumberIn, IsSuperblockAt, IsWrongField}
 use Rattle.lfs_tool.specs.declared.wrong_number.WrongNumber.{WrongNumber}
 use Rattle.lfs_tool.specs.declared.wrong_number.WrongNumber.TheVariants as stated
 
 -- fields with these sizes and version have no wrong number
-pub right_fields : (block_size count : ℕ) (versions : AcceptedVersions) (fields : SuperblockFields) (number : WrongNumber) → HasSizesAndVersion block_size count versions fields → IsWrongSuperblockField block_size count versions fields number → ⊥
+pub right_fields : (block_size count : ℕ) (versions : AcceptedVersions) (fields : SuperblockFields) (number : WrongNumber) → HasSizesVersion block_size count versions fields → IsWrongField block_size count versions fields number → ⊥
 right_fields block_size count versions fields (stated.BlockSize n) right (is, other) = other (sym is ∙ right.same_size)
 right_fields block_size count versions fields (stated.BlockCount n) right (is, other) = other (sym is ∙ right.same_count)
-right_fields block_size count versions fields (stated.Version n) right (is, other) = absurd (let e : true ≡ false = sym right.version ∙ ap (is_accepted_version versions) is ∙ other in cc)
+right_fields block_size count versions fields (stated.Version n) right (is, other) = absurd (let e : true ≡ false = sym right.version ∙ ap (accepts_version versions) is ∙ other in cc)
 
-pub no_wrong_number : (bytes : List ℕ) (block_size : ℕ) (versions : AcceptedVersions) → ((fields : SuperblockFields) → IsSuperblockAtOffset bytes 0 fields → HasSizesAndVersion block_size (length bytes / block_size) versions fields)
-    → ((fields : SuperblockFields) → IsSuperblockAtOffset bytes block_size fields → HasSizesAndVersion block_size (length bytes / block_size) versions fields) → HasNoWrongNumberInImageBytes bytes block_size versions
+pub no_wrong_number : (bytes : List ℕ) (block_size : ℕ) (versions : AcceptedVersions) → ((fields : SuperblockFields) → IsSuperblockAt bytes 0 fields → HasSizesVersion block_size (length bytes / block_size) versions fields)
+    → ((fields : SuperblockFields) → IsSuperblockAt bytes block_size fields → HasSizesVersion block_size (length bytes / block_size) versions fields) → NoWrongNumberIn bytes block_size versions
 no_wrong_number bytes block_size versions first second number wrong = ⊎_elim
-    (λ is. right_fields block_size (length bytes / block_size) versions wrong.fields number (first wrong.fields (subst (λ (from : ℕ). IsSuperblockAtOffset bytes from wrong.fields) is wrong.stands)) wrong.unlike)
-    (λ is. right_fields block_size (length bytes / block_size) versions wrong.fields number (second wrong.fields (subst (λ (from : ℕ). IsSuperblockAtOffset bytes from wrong.fields) is wrong.stands)) wrong.unlike)
+    (λ is. right_fields block_size (length bytes / block_size) versions wrong.fields number (first wrong.fields (subst (λ (from : ℕ). IsSuperblockAt bytes from wrong.fields) is wrong.stands)) wrong.unlike)
+    (λ is. right_fields block_size (length bytes / block_size) versions wrong.fields number (second wrong.fields (subst (λ (from : ℕ). IsSuperblockAt bytes from wrong.fields) is wrong.stands)) wrong.unlike)
     wrong.block

@@ -5,23 +5,23 @@ use Rattle.std.proofs.lemmas.List.{take-append-drop}
 use Rattle.std.proofs.lemmas.List.Elements.{recursion_from_All}
 use Rattle.lfs_device.specs.declared.error.Error.{Error}
 use Rattle.lfs_device.specs.declared.error.Error.TheVariants.{Io, NoMemory, Corrupt}
-use Rattle.lfs_model.specs.Disk.{default_profile}
-use Rattle.lfs_model.specs.Fresh.{IsFreshDisk, empty_tree}
-use Rattle.lfs_model.specs.Headline.{IsStateReachedFromFreshDisk, session_after_operations}
-use Rattle.lfs_model.specs.History.{fault_count_of_history}
-use Rattle.lfs_model.specs.Listing.{copy_operations_of_node}
-use Rattle.lfs_model.specs.Operations.{Operation}
-use Rattle.lfs_model.specs.Run.{SystemState, IsTreeOfDiskOrNone, is_refusal}
-use Rattle.lfs_model.specs.Session.{DiskSummary}
-use Rattle.lfs_model.specs.Slots.{zero_gstate}
-use Rattle.lfs_model.specs.State.{Healthy, is_remount_operation, session_after_mount}
+use Rattle.lfs_model.specs.format.Disk.{default_profile}
+use Rattle.lfs_model.specs.tree.Fresh.{IsFreshDisk, empty_tree}
+use Rattle.lfs_model.specs.session.Headline.{IsReached, session_after_all}
+use Rattle.lfs_model.specs.session.History.{fault_count}
+use Rattle.lfs_model.specs.layers.Listing.{node_copies}
+use Rattle.lfs_model.specs.session.Operations.{Operation}
+use Rattle.lfs_model.specs.session.Run.{SystemState, ShowsTree, is_refusal}
+use Rattle.lfs_model.specs.session.Session.{DiskSummary}
+use Rattle.lfs_model.specs.format.Slots.{zero_gstate}
+use Rattle.lfs_model.specs.session.State.{Healthy, is_remount, mounted_session}
 use Rattle.lfs_model.proofs.Counts.{Each, each_right}
 use Rattle.lfs_model.proofs.Kept.{fresh_defined}
-use Rattle.lfs_fs.specs.SessionView.{SessionFailsByError, EndsOperationWithError}
-use Rattle.lfs_lookup.specs.Refusals as refusals
-use Rattle.lfs_tool_folders.specs.MemorySources.{optional_bytes_view}
+use Rattle.lfs_fs.specs.SessionView.{SessionFails, EndsOperation}
+use Rattle.lfs_lookup.specs.RefusalErrors as refusals
+use Rattle.lfs_tool_folders.specs.MemorySources.{optional_view}
 use Rattle.lfs_tool_folders.specs.declared.entries.SourceEntry.{SourceEntry}
-use Rattle.lfs_tool.specs.AppliedOperations.{AreOperationsApplied, IsRunOfOperationsEndedByError, IsHealthyWithoutOpenFile, IsFirstRefusalAmongOperations, file_or_directory_node_of_optional_bytes, copying_operations_of_entry}
+use Rattle.lfs_tool.specs.AppliedOperations.{AreApplied, IsRunToError, HealthyWithoutFiles, IsFirstRefusal, node_of_bytes, entry_copying}
 use Rattle.lfs_tool.proofs.Runs.{ended_before, ended_on}
 use Rattle.lfs_tool.proofs.Stepping.{HasCarried, carried_from}
 
@@ -29,45 +29,45 @@ use Rattle.lfs_tool.proofs.Stepping.{HasCarried, carried_from}
 
 pub record IsFromFresh (from : SystemState) : Type 0 where
   pub fresh : IsFreshDisk from.disk
-  pub mounts : from.state ≡ Healthy (session_after_mount empty_tree)
+  pub mounts : from.state ≡ Healthy (mounted_session empty_tree)
 
-pub comes : (from to : SystemState) (operations : List Operation) (f : IsFromFresh from) (c : AreOperationsApplied from operations to) → IsStateReachedFromFreshDisk operations c.replies to
+pub comes : (from to : SystemState) (operations : List Operation) (f : IsFromFresh from) (c : AreApplied from operations to) → IsReached operations c.replies to
 comes from to operations f c = record { from = from; fresh = f.fresh; mounts = f.mounts; session_steps = c.session_steps }
 
 -- any surroundings: what accepted operations leave doesn't depend on them
 abbrev pub anywhere : DiskSummary
 anywhere = record { writable = true; profile = default_profile; block_size = 0; page = 0; block_count = 0; used = []; gstate = zero_gstate }
 
-pub has_carried : (from to : SystemState) (es : List SourceEntry) (f : IsFromFresh from) (c : AreOperationsApplied from (flat_map copying_operations_of_entry es) to) →
-    HasCarried (session_after_operations anywhere (session_after_mount empty_tree) (flat_map copying_operations_of_entry es) c.replies) es empty_tree
+pub has_carried : (from to : SystemState) (es : List SourceEntry) (f : IsFromFresh from) (c : AreApplied from (flat_map entry_copying es) to) →
+    HasCarried (session_after_all anywhere (mounted_session empty_tree) (flat_map entry_copying es) c.replies) es empty_tree
 has_carried from to es f c = carried_from anywhere es empty_tree [] c.replies from to tt (recursion_from_All (λ r. is_refusal r ≡ false) c.replies c.accepted) c.session_steps
 
-pub no_file : (from to : SystemState) (es : List SourceEntry) → IsFromFresh from → AreOperationsApplied from (flat_map copying_operations_of_entry es) to → IsHealthyWithoutOpenFile to
+pub no_file : (from to : SystemState) (es : List SourceEntry) → IsFromFresh from → AreApplied from (flat_map entry_copying es) to → HealthyWithoutFiles to
 no_file from to es f c = record {
-  session = session_after_operations anywhere (session_after_mount empty_tree) (flat_map copying_operations_of_entry es) c.replies;
-  healthy = fresh_defined (flat_map copying_operations_of_entry es) c.replies to anywhere (comes from to (flat_map copying_operations_of_entry es) f c);
+  session = session_after_all anywhere (mounted_session empty_tree) (flat_map entry_copying es) c.replies;
+  healthy = fresh_defined (flat_map entry_copying es) c.replies to anywhere (comes from to (flat_map entry_copying es) f c);
   closed = (has_carried from to es f c).closed;
 }
 
 -- ---- errors
 
-pub no_remount : (e : SourceEntry) → Each (λ op. is_remount_operation op ≡ false) (copying_operations_of_entry e)
-no_remount e = go (optional_bytes_view e.bytes)
+pub no_remount : (e : SourceEntry) → Each (λ op. is_remount op ≡ false) (entry_copying e)
+no_remount e = go (optional_view e.bytes)
   where
-    go : (o : Option (List ℕ)) → Each (λ op. is_remount_operation op ≡ false) (copy_operations_of_node e.path.items (file_or_directory_node_of_optional_bytes o))
+    go : (o : Option (List ℕ)) → Each (λ op. is_remount op ≡ false) (node_copies e.path.items (node_of_bytes o))
     go None = (refl, tt)
     go (Some bytes) = (refl, (refl, (refl, tt)))
 
 -- no call of the device has failed
-only_memory : (e : Error) (at to : SystemState) (op : Operation) → SessionFailsByError e at op to → is_remount_operation op ≡ false → fault_count_of_history to.calls ≡ 0 → e ≡ NoMemory
+only_memory : (e : Error) (at to : SystemState) (op : Operation) → SessionFails e at op to → is_remount op ≡ false → fault_count to.calls ≡ 0 → e ≡ NoMemory
 only_memory e at to op h other none = go h.errors
   where
-    go : (e ≡ Io) ⊎ ((e ≡ NoMemory) ⊎ ((e ≡ Corrupt) × (is_remount_operation op ≡ true) × IsTreeOfDiskOrNone at.disk None)) → e ≡ NoMemory
+    go : (e ≡ Io) ⊎ ((e ≡ NoMemory) ⊎ ((e ≡ Corrupt) × (is_remount op ≡ true) × ShowsTree at.disk None)) → e ≡ NoMemory
     go (inl io) = absurd (let l = h.fault io in omega (arith, l, none))
     go (inr (inl memory)) = memory
     go (inr (inr corrupt)) = absurd (let k = sym other ∙ corrupt.1 in cc)
 
-refusal_first : (e : Error) (from to : SystemState) (operations : List Operation) → IsRunOfOperationsEndedByError e from operations to → refusals.is_refusal e ≡ true → IsFirstRefusalAmongOperations from operations e
+refusal_first : (e : Error) (from to : SystemState) (operations : List Operation) → IsRunToError e from operations to → refusals.is_refusal e ≡ true → IsFirstRefusal from operations e
 refusal_first e from to operations k is = record {
   done = k.done;
   next = k.next;
@@ -76,32 +76,32 @@ refusal_first e from to operations k is = record {
   at = k.at;
   carried = k.carried;
   to = to;
-  refused = subst (λ b. EndsOperationWithError b e k.at k.next to) is k.ends;
+  refused = subst (λ b. EndsOperation b e k.at k.next to) is k.ends;
   refusal = is;
 }
 
 -- the entries that come before one and behind it
-parts : (es : List SourceEntry) (i : ℕ) (d : SourceEntry) → i < length es → flat_map copying_operations_of_entry es ≡ (flat_map copying_operations_of_entry (take i es) ++ copying_operations_of_entry (get_or es i d)) ++ flat_map copying_operations_of_entry (drop (i + 1) es)
+parts : (es : List SourceEntry) (i : ℕ) (d : SourceEntry) → i < length es → flat_map entry_copying es ≡ (flat_map entry_copying (take i es) ++ entry_copying (get_or es i d)) ++ flat_map entry_copying (drop (i + 1) es)
 parts es i d lt =
-    ap (flat_map copying_operations_of_entry) (sym (take-append-drop i es) ∙ ap (λ zs. take i es ++ zs) (drop-cons es i d lt ∙ ap (λ n. get_or es i d ∷ drop n es) (sym (add-one i))))
-    ∙ flat_map-append copying_operations_of_entry (take i es) (get_or es i d ∷ drop (i + 1) es)
-    ∙ sym (append_assoc (flat_map copying_operations_of_entry (take i es)) (copying_operations_of_entry (get_or es i d)) (flat_map copying_operations_of_entry (drop (i + 1) es)))
+    ap (flat_map entry_copying) (sym (take-append-drop i es) ∙ ap (λ zs. take i es ++ zs) (drop-cons es i d lt ∙ ap (λ n. get_or es i d ∷ drop n es) (sym (add-one i))))
+    ∙ flat_map-append entry_copying (take i es) (get_or es i d ∷ drop (i + 1) es)
+    ∙ sym (append_assoc (flat_map entry_copying (take i es)) (entry_copying (get_or es i d)) (flat_map entry_copying (drop (i + 1) es)))
 
 -- an error of one entry's operations that isn't want of memory is a refusal
-refused_in_entry : (e : Error) (x : SourceEntry) (at to : SystemState) → IsRunOfOperationsEndedByError e at (copying_operations_of_entry x) to → fault_count_of_history to.calls ≡ 0 → e ≢ NoMemory → refusals.is_refusal e ≡ true
+refused_in_entry : (e : Error) (x : SourceEntry) (at to : SystemState) → IsRunToError e at (entry_copying x) to → fault_count to.calls ≡ 0 → e ≢ NoMemory → refusals.is_refusal e ≡ true
 refused_in_entry e x at to k none not_memory = go (refusals.is_refusal e) refl
   where
-    other : is_remount_operation k.next ≡ false
-    other = (each_right (λ op. is_remount_operation op ≡ false) k.done (k.next ∷ k.others) (subst (Each (λ op. is_remount_operation op ≡ false)) k.are (no_remount x))).0
+    other : is_remount k.next ≡ false
+    other = (each_right (λ op. is_remount op ≡ false) k.done (k.next ∷ k.others) (subst (Each (λ op. is_remount op ≡ false)) k.are (no_remount x))).0
 
     go : (b : Bool) → refusals.is_refusal e ≡ b → refusals.is_refusal e ≡ true
     go true is = is
-    go false is = absurd (not_memory (only_memory e k.at to k.next (subst (λ b. EndsOperationWithError b e k.at k.next to) is k.ends) other none))
+    go false is = absurd (not_memory (only_memory e k.at to k.next (subst (λ b. EndsOperation b e k.at k.next to) is k.ends) other none))
 
-module _ (e : Error) (es : List SourceEntry) (i : ℕ) (d : SourceEntry) (from at to : SystemState) (lt : i < length es) (c : AreOperationsApplied from (flat_map copying_operations_of_entry (take i es)) at)
-    (k : IsRunOfOperationsEndedByError e at (copying_operations_of_entry (get_or es i d)) to) (none : fault_count_of_history to.calls ≡ 0) where
-  pub first_refused : e ≢ NoMemory → IsFirstRefusalAmongOperations from (flat_map copying_operations_of_entry es) e
-  first_refused not_memory = refusal_first e from to (flat_map copying_operations_of_entry es)
-      (subst (λ xs. IsRunOfOperationsEndedByError e from xs to) (sym (parts es i d lt)) (ended_before e (flat_map copying_operations_of_entry (take i es) ++ copying_operations_of_entry (get_or es i d)) (flat_map copying_operations_of_entry (drop (i + 1) es)) from to
-      (ended_on e (flat_map copying_operations_of_entry (take i es)) (copying_operations_of_entry (get_or es i d)) from at to c k)))
+module _ (e : Error) (es : List SourceEntry) (i : ℕ) (d : SourceEntry) (from at to : SystemState) (lt : i < length es) (c : AreApplied from (flat_map entry_copying (take i es)) at)
+    (k : IsRunToError e at (entry_copying (get_or es i d)) to) (none : fault_count to.calls ≡ 0) where
+  pub first_refused : e ≢ NoMemory → IsFirstRefusal from (flat_map entry_copying es) e
+  first_refused not_memory = refusal_first e from to (flat_map entry_copying es)
+      (subst (λ xs. IsRunToError e from xs to) (sym (parts es i d lt)) (ended_before e (flat_map entry_copying (take i es) ++ entry_copying (get_or es i d)) (flat_map entry_copying (drop (i + 1) es)) from to
+      (ended_on e (flat_map entry_copying (take i es)) (entry_copying (get_or es i d)) from at to c k)))
       (refused_in_entry e (get_or es i d) at to k none not_memory)

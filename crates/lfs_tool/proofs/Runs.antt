@@ -5,19 +5,19 @@ use Rattle.std.proofs.lemmas.Grind.{flat_map-append}
 use Rattle.std.proofs.lemmas.List.{append-nil, take_more}
 use Rattle.std.proofs.lemmas.List.Elements.{All-from_recursion, recursion_from_All}
 use Rattle.lfs_device.specs.declared.error.Error.{Error}
-use Rattle.lfs_model.specs.Operations as ops
-use Rattle.lfs_model.specs.Listing.{new_file_flags, copy_operations_of_node}
-use Rattle.lfs_model.specs.Operations.{FlagsOfOpen, Operation, Reply}
-use Rattle.lfs_model.specs.Tree.{FileNode}
-use Rattle.lfs_model.specs.Run.{IsSessionStep, SystemState, is_refusal}
+use Rattle.lfs_model.specs.session.Operations as ops
+use Rattle.lfs_model.specs.layers.Listing.{new_flags, node_copies}
+use Rattle.lfs_model.specs.session.Operations.{FlagsOfOpen, Operation, Reply}
+use Rattle.lfs_model.specs.tree.Tree.{FileNode}
+use Rattle.lfs_model.specs.session.Run.{IsStep, SystemState, is_refusal}
 use Rattle.lfs_model.proofs.Counts.{each_append}
 use Rattle.lfs_model.proofs.SessionSteps.{session_steps_joined}
-use Rattle.lfs_fs.specs.SessionView.{IsSessionStepOrFailure, SessionView, system_state_of_session_view, EndsOperationWithError}
-use Rattle.lfs_fs.specs.Replies.{reply_from_result}
-use Rattle.lfs_lookup.specs.Refusals as refusals
-use Rattle.lfs_lookup.specs.Refusals.{refusal_of_error}
+use Rattle.lfs_fs.specs.SessionView.{StepsOrFails, SessionView, system_state, EndsOperation}
+use Rattle.lfs_fs.specs.Replies.{reply_from}
+use Rattle.lfs_lookup.specs.RefusalErrors as refusals
+use Rattle.lfs_lookup.specs.RefusalErrors.{error_refusal}
 use Rattle.lfs_tool_folders.specs.declared.entries.SourceEntry.{SourceEntry}
-use Rattle.lfs_tool.specs.AppliedOperations.{AreOperationsApplied, IsRunOfOperationsEndedByError, AppliesOperationsUntilError, IsHealthyWithoutOpenFile, copying_operations_of_entry}
+use Rattle.lfs_tool.specs.AppliedOperations.{AreApplied, IsRunToError, AppliesUntilError, HealthyWithoutFiles, entry_copying}
 use Rattle.lfs_tool.proofs.Stepping.{opened_first}
 
 abbrev IsAccepted : Reply → Type 0
@@ -25,22 +25,22 @@ IsAccepted r = is_refusal r ≡ false
 
 -- ---- one operation
 
-pub one_carried : (a b : SystemState) (op : Operation) (reply : Reply) → IsSessionStep a op reply b → is_refusal reply ≡ false → AreOperationsApplied a (op ∷ []) b
+pub one_carried : (a b : SystemState) (op : Operation) (reply : Reply) → IsStep a op reply b → is_refusal reply ≡ false → AreApplied a (op ∷ []) b
 one_carried a b op reply turn accepted = record { replies = reply ∷ []; session_steps = (b, (turn, refl)); accepted = All-from_recursion IsAccepted (reply ∷ []) (accepted, tt) }
 
-pub none_carried : (a : SystemState) → AreOperationsApplied a [] a
+pub none_carried : (a : SystemState) → AreApplied a [] a
 none_carried a = record { replies = []; session_steps = refl; accepted = All-from_recursion IsAccepted [] tt }
 
-pub one_ends : {X : Type 0} (old new : SessionView) (op : Operation) (reply : X → Reply) (e : Error) → IsSessionStepOrFailure old op (reply_from_result reply (Err e)) new → EndsOperationWithError (refusals.is_refusal e) e (system_state_of_session_view old) op (system_state_of_session_view new)
+pub one_ends : {X : Type 0} (old new : SessionView) (op : Operation) (reply : X → Reply) (e : Error) → StepsOrFails old op (reply_from reply (Err e)) new → EndsOperation (refusals.is_refusal e) e (system_state old) op (system_state new)
 one_ends old new op reply e = go (refusals.is_refusal e)
   where
-    go : (b : Bool) → IsSessionStepOrFailure old op (cond b (Ok (ops.Refused (refusal_of_error e))) (Err e)) new → EndsOperationWithError b e (system_state_of_session_view old) op (system_state_of_session_view new)
+    go : (b : Bool) → StepsOrFails old op (cond b (Ok (ops.Refused (error_refusal e))) (Err e)) new → EndsOperation b e (system_state old) op (system_state new)
     go true h = h
     go false h = h
 
 -- ---- more of them
 
-pub carried_on : (xs ys : List Operation) (a b c : SystemState) → AreOperationsApplied a xs b → AreOperationsApplied b ys c → AreOperationsApplied a (xs ++ ys) c
+pub carried_on : (xs ys : List Operation) (a b c : SystemState) → AreApplied a xs b → AreApplied b ys c → AreApplied a (xs ++ ys) c
 carried_on xs ys a b c h k = record {
   replies = h.replies ++ k.replies;
   session_steps = session_steps_joined xs ys h.replies k.replies a b c h.session_steps k.session_steps;
@@ -48,10 +48,10 @@ carried_on xs ys a b c h k = record {
       (each_append IsAccepted h.replies k.replies (recursion_from_All IsAccepted h.replies h.accepted) (recursion_from_All IsAccepted k.replies k.accepted));
 }
 
-pub ended_at : (e : Error) (xs : List Operation) (op : Operation) (more : List Operation) (a b c : SystemState) → AreOperationsApplied a xs b → EndsOperationWithError (refusals.is_refusal e) e b op c → IsRunOfOperationsEndedByError e a (xs ++ op ∷ more) c
+pub ended_at : (e : Error) (xs : List Operation) (op : Operation) (more : List Operation) (a b c : SystemState) → AreApplied a xs b → EndsOperation (refusals.is_refusal e) e b op c → IsRunToError e a (xs ++ op ∷ more) c
 ended_at e xs op more a b c h ends = record { done = xs; next = op; others = more; are = refl; at = b; carried = h; ends = ends }
 
-pub ended_on : (e : Error) (xs ys : List Operation) (a b c : SystemState) → AreOperationsApplied a xs b → IsRunOfOperationsEndedByError e b ys c → IsRunOfOperationsEndedByError e a (xs ++ ys) c
+pub ended_on : (e : Error) (xs ys : List Operation) (a b c : SystemState) → AreApplied a xs b → IsRunToError e b ys c → IsRunToError e a (xs ++ ys) c
 ended_on e xs ys a b c h k = record {
   done = xs ++ k.done;
   next = k.next;
@@ -62,7 +62,7 @@ ended_on e xs ys a b c h k = record {
   ends = k.ends;
 }
 
-pub ended_before : (e : Error) (xs ys : List Operation) (a c : SystemState) → IsRunOfOperationsEndedByError e a xs c → IsRunOfOperationsEndedByError e a (xs ++ ys) c
+pub ended_before : (e : Error) (xs ys : List Operation) (a c : SystemState) → IsRunToError e a xs c → IsRunToError e a (xs ++ ys) c
 ended_before e xs ys a c k = record {
   done = k.done;
   next = k.next;
@@ -76,61 +76,61 @@ ended_before e xs ys a c k = record {
 -- ---- results
 
 -- a call of one operation
-pub carries_one : {X : Type 0} (old new : SessionView) (op : Operation) (reply : Reply) (r : Result X Error) → is_refusal reply ≡ false → IsSessionStepOrFailure old op (reply_from_result (λ x. reply) r) new → AppliesOperationsUntilError (system_state_of_session_view old) (op ∷ []) r (system_state_of_session_view new)
-carries_one {X} old new op reply (Ok x) accepted h = one_carried (system_state_of_session_view old) (system_state_of_session_view new) op reply h accepted
-carries_one {X} old new op reply (Err e) accepted h = ended_at e [] op [] (system_state_of_session_view old) (system_state_of_session_view old) (system_state_of_session_view new) (none_carried (system_state_of_session_view old)) (one_ends {X = X} old new op (λ x. reply) e h)
+pub carries_one : {X : Type 0} (old new : SessionView) (op : Operation) (reply : Reply) (r : Result X Error) → is_refusal reply ≡ false → StepsOrFails old op (reply_from (λ x. reply) r) new → AppliesUntilError (system_state old) (op ∷ []) r (system_state new)
+carries_one {X} old new op reply (Ok x) accepted h = one_carried (system_state old) (system_state new) op reply h accepted
+carries_one {X} old new op reply (Err e) accepted h = ended_at e [] op [] (system_state old) (system_state old) (system_state new) (none_carried (system_state old)) (one_ends {X = X} old new op (λ x. reply) e h)
 
-pub carries_on : {X : Type 0} (xs ys : List Operation) (a b c : SystemState) (r : Result X Error) → AreOperationsApplied a xs b → AppliesOperationsUntilError b ys r c → AppliesOperationsUntilError a (xs ++ ys) r c
+pub carries_on : {X : Type 0} (xs ys : List Operation) (a b c : SystemState) (r : Result X Error) → AreApplied a xs b → AppliesUntilError b ys r c → AppliesUntilError a (xs ++ ys) r c
 carries_on xs ys a b c (Ok x) h k = carried_on xs ys a b c h k
 carries_on xs ys a b c (Err e) h k = ended_on e xs ys a b c h k
 
 -- an error that is passed on
-pub passed_on : {X : Type 0} (r : Result X Error) (e : Error) (a : SystemState) (operations : List Operation) (c : SystemState) → IsErrAnd r (λ f. f ≡ e) → IsRunOfOperationsEndedByError e a operations c → AppliesOperationsUntilError a operations r c
+pub passed_on : {X : Type 0} (r : Result X Error) (e : Error) (a : SystemState) (operations : List Operation) (c : SystemState) → IsErrAnd r (λ f. f ≡ e) → IsRunToError e a operations c → AppliesUntilError a operations r c
 passed_on (Ok x) e a operations c is h = absurd is
-passed_on (Err f) e a operations c is h = subst (λ g. IsRunOfOperationsEndedByError g a operations c) (sym is) h
+passed_on (Err f) e a operations c is h = subst (λ g. IsRunToError g a operations c) (sym is) h
 
 -- ---- a file
 
 -- the file is open under the first number
 pub record IsOpened (old : SessionView) (path : List ℕ) (fd : ℕ) (new : SessionView) : Type 0 where
   pub number : fd ≡ 0
-  pub carried : AreOperationsApplied (system_state_of_session_view old) (ops.Open path new_file_flags ∷ []) (system_state_of_session_view new)
+  pub carried : AreApplied (system_state old) (ops.Open path new_flags ∷ []) (system_state new)
 
-pub opens : (old new : SessionView) (path : List ℕ) (flags : FlagsOfOpen) (fd : ℕ) → flags ≡ new_file_flags → IsHealthyWithoutOpenFile (system_state_of_session_view old) → IsSessionStep (system_state_of_session_view old) (ops.Open path flags) (ops.Opened fd) (system_state_of_session_view new) → IsOpened old path fd new
+pub opens : (old new : SessionView) (path : List ℕ) (flags : FlagsOfOpen) (fd : ℕ) → flags ≡ new_flags → HealthyWithoutFiles (system_state old) → IsStep (system_state old) (ops.Open path flags) (ops.Opened fd) (system_state new) → IsOpened old path fd new
 opens old new path flags fd is none turn =
-    let opened : IsSessionStep (system_state_of_session_view old) (ops.Open path new_file_flags) (ops.Opened fd) (system_state_of_session_view new) = subst (λ f. IsSessionStep (system_state_of_session_view old) (ops.Open path f) (ops.Opened fd) (system_state_of_session_view new)) is turn in
+    let opened : IsStep (system_state old) (ops.Open path new_flags) (ops.Opened fd) (system_state new) = subst (λ f. IsStep (system_state old) (ops.Open path f) (ops.Opened fd) (system_state new)) is turn in
     record {
-      number = opened_first (system_state_of_session_view old) (system_state_of_session_view new) none.session path fd none.healthy none.closed opened;
-      carried = one_carried (system_state_of_session_view old) (system_state_of_session_view new) (ops.Open path new_file_flags) (ops.Opened fd) opened refl;
+      number = opened_first (system_state old) (system_state new) none.session path fd none.healthy none.closed opened;
+      carried = one_carried (system_state old) (system_state new) (ops.Open path new_flags) (ops.Opened fd) opened refl;
     }
 
-pub fails_to_open : (old new : SessionView) (path : List ℕ) (flags : FlagsOfOpen) (more : List Operation) (e : Error) → flags ≡ new_file_flags → IsSessionStepOrFailure old (ops.Open path flags) (reply_from_result ops.Opened (Err e)) new
-    → IsRunOfOperationsEndedByError e (system_state_of_session_view old) (ops.Open path new_file_flags ∷ more) (system_state_of_session_view new)
+pub fails_to_open : (old new : SessionView) (path : List ℕ) (flags : FlagsOfOpen) (more : List Operation) (e : Error) → flags ≡ new_flags → StepsOrFails old (ops.Open path flags) (reply_from ops.Opened (Err e)) new
+    → IsRunToError e (system_state old) (ops.Open path new_flags ∷ more) (system_state new)
 fails_to_open old new path flags more e is h =
-    ended_at e [] (ops.Open path new_file_flags) more (system_state_of_session_view old) (system_state_of_session_view old) (system_state_of_session_view new) (none_carried (system_state_of_session_view old))
-    (one_ends old new (ops.Open path new_file_flags) ops.Opened e (subst (λ f. IsSessionStepOrFailure old (ops.Open path f) (reply_from_result ops.Opened (Err e)) new) is h))
+    ended_at e [] (ops.Open path new_flags) more (system_state old) (system_state old) (system_state new) (none_carried (system_state old))
+    (one_ends old new (ops.Open path new_flags) ops.Opened e (subst (λ f. StepsOrFails old (ops.Open path f) (reply_from ops.Opened (Err e)) new) is h))
 
-pub fails_to_write : (old between new : SessionView) (path bytes : List ℕ) (fd : ℕ) (e : Error) → IsOpened old path fd between → IsSessionStepOrFailure between (ops.Write fd bytes) (reply_from_result ops.Count (Err e)) new
-    → IsRunOfOperationsEndedByError e (system_state_of_session_view old) (copy_operations_of_node path (FileNode [] bytes)) (system_state_of_session_view new)
+pub fails_to_write : (old between new : SessionView) (path bytes : List ℕ) (fd : ℕ) (e : Error) → IsOpened old path fd between → StepsOrFails between (ops.Write fd bytes) (reply_from ops.Count (Err e)) new
+    → IsRunToError e (system_state old) (node_copies path (FileNode [] bytes)) (system_state new)
 fails_to_write old between new path bytes fd e o h =
-    ended_on e (ops.Open path new_file_flags ∷ []) (ops.Write 0 bytes ∷ ops.Close 0 ∷ []) (system_state_of_session_view old) (system_state_of_session_view between) (system_state_of_session_view new) o.carried
-    (ended_at e [] (ops.Write 0 bytes) (ops.Close 0 ∷ []) (system_state_of_session_view between) (system_state_of_session_view between) (system_state_of_session_view new) (none_carried (system_state_of_session_view between))
-    (one_ends between new (ops.Write 0 bytes) ops.Count e (subst (λ n. IsSessionStepOrFailure between (ops.Write n bytes) (reply_from_result ops.Count (Err e)) new) o.number h)))
+    ended_on e (ops.Open path new_flags ∷ []) (ops.Write 0 bytes ∷ ops.Close 0 ∷ []) (system_state old) (system_state between) (system_state new) o.carried
+    (ended_at e [] (ops.Write 0 bytes) (ops.Close 0 ∷ []) (system_state between) (system_state between) (system_state new) (none_carried (system_state between))
+    (one_ends between new (ops.Write 0 bytes) ops.Count e (subst (λ n. StepsOrFails between (ops.Write n bytes) (reply_from ops.Count (Err e)) new) o.number h)))
 
-pub closes : {X : Type 0} (old between written new : SessionView) (path bytes : List ℕ) (fd count : ℕ) (r : Result X Error) → IsOpened old path fd between → IsSessionStep (system_state_of_session_view between) (ops.Write fd bytes) (ops.Count count) (system_state_of_session_view written)
-    → IsSessionStepOrFailure written (ops.Close fd) (reply_from_result (λ x. ops.Done) r) new → AppliesOperationsUntilError (system_state_of_session_view old) (copy_operations_of_node path (FileNode [] bytes)) r (system_state_of_session_view new)
+pub closes : {X : Type 0} (old between written new : SessionView) (path bytes : List ℕ) (fd count : ℕ) (r : Result X Error) → IsOpened old path fd between → IsStep (system_state between) (ops.Write fd bytes) (ops.Count count) (system_state written)
+    → StepsOrFails written (ops.Close fd) (reply_from (λ x. ops.Done) r) new → AppliesUntilError (system_state old) (node_copies path (FileNode [] bytes)) r (system_state new)
 closes old between written new path bytes fd count r o turn h =
-    let write : AreOperationsApplied (system_state_of_session_view between) (ops.Write 0 bytes ∷ []) (system_state_of_session_view written) =
-    one_carried (system_state_of_session_view between) (system_state_of_session_view written) (ops.Write 0 bytes) (ops.Count count) (subst (λ n. IsSessionStep (system_state_of_session_view between) (ops.Write n bytes) (ops.Count count) (system_state_of_session_view written)) o.number turn) refl in
-    let both = carried_on (ops.Open path new_file_flags ∷ []) (ops.Write 0 bytes ∷ []) (system_state_of_session_view old) (system_state_of_session_view between) (system_state_of_session_view written) o.carried write in
-    carries_on (ops.Open path new_file_flags ∷ ops.Write 0 bytes ∷ []) (ops.Close 0 ∷ []) (system_state_of_session_view old) (system_state_of_session_view written) (system_state_of_session_view new) r both
-    (carries_one written new (ops.Close 0) ops.Done r refl (subst (λ n. IsSessionStepOrFailure written (ops.Close n) (reply_from_result (λ x. ops.Done) r) new) o.number h))
+    let write : AreApplied (system_state between) (ops.Write 0 bytes ∷ []) (system_state written) =
+    one_carried (system_state between) (system_state written) (ops.Write 0 bytes) (ops.Count count) (subst (λ n. IsStep (system_state between) (ops.Write n bytes) (ops.Count count) (system_state written)) o.number turn) refl in
+    let both = carried_on (ops.Open path new_flags ∷ []) (ops.Write 0 bytes ∷ []) (system_state old) (system_state between) (system_state written) o.carried write in
+    carries_on (ops.Open path new_flags ∷ ops.Write 0 bytes ∷ []) (ops.Close 0 ∷ []) (system_state old) (system_state written) (system_state new) r both
+    (carries_one written new (ops.Close 0) ops.Done r refl (subst (λ n. StepsOrFails written (ops.Close n) (reply_from (λ x. ops.Done) r) new) o.number h))
 
 -- ---- entries in turn
 
-pub entry_more : (es : List SourceEntry) (i : ℕ) (d : SourceEntry) (a b c : SystemState) → i < length es → AreOperationsApplied a (flat_map copying_operations_of_entry (take i es)) b → AreOperationsApplied b (copying_operations_of_entry (get_or es i d)) c
-    → AreOperationsApplied a (flat_map copying_operations_of_entry (take (i + 1) es)) c
+pub entry_more : (es : List SourceEntry) (i : ℕ) (d : SourceEntry) (a b c : SystemState) → i < length es → AreApplied a (flat_map entry_copying (take i es)) b → AreApplied b (entry_copying (get_or es i d)) c
+    → AreApplied a (flat_map entry_copying (take (i + 1) es)) c
 entry_more es i d a b c lt h k =
-    let more : flat_map copying_operations_of_entry (take (i + 1) es) ≡ flat_map copying_operations_of_entry (take i es) ++ copying_operations_of_entry (get_or es i d) =
-    ap (flat_map copying_operations_of_entry) (take_more es i d lt) ∙ flat_map-append copying_operations_of_entry (take i es) (get_or es i d ∷ []) ∙ ap (λ zs. flat_map copying_operations_of_entry (take i es) ++ zs) (append-nil (copying_operations_of_entry (get_or es i d))) in
-    subst (λ xs. AreOperationsApplied a xs c) (sym more) (carried_on (flat_map copying_operations_of_entry (take i es)) (copying_operations_of_entry (get_or es i d)) a b c h k)
+    let more : flat_map entry_copying (take (i + 1) es) ≡ flat_map entry_copying (take i es) ++ entry_copying (get_or es i d) =
+    ap (flat_map entry_copying) (take_more es i d lt) ∙ flat_map-append entry_copying (take i es) (get_or es i d ∷ []) ∙ ap (λ zs. flat_map entry_copying (take i es) ++ zs) (append-nil (entry_copying (get_or es i d))) in
+    subst (λ xs. AreApplied a xs c) (sym more) (carried_on (flat_map entry_copying (take i es)) (entry_copying (get_or es i d)) a b c h k)

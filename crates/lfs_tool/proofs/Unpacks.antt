@@ -2,47 +2,47 @@
 use Rattle.std.proofs.Common.{ℕ, ◌≡◌, ◌⊎◌, ◌∙◌, inl, inr, List, [], ◌∷◌, Option, Some, None, Result, Ok, Err, ap, ap₂, map, refl, subst, sym, take}
 use Rattle.std.specs.Prelude.{◌≢◌, IfErr, IfSome, OnErr}
 use Rattle.lfs_tool.specs.declared.image_layout.ImageLayout.{ImageLayout}
-use Rattle.lfs_model.specs.Disk.{Disk, IsImageOfWholeBlocks, disk_of_image, disk_in_order}
-use Rattle.lfs_model.specs.Listing.{UnpackingAction, PathAndNode, unpacking_action_of_node, unpacking_action_of_entry}
-use Rattle.lfs_model.specs.Slots.{Branch, Ctz, Inline, Struct}
-use Rattle.lfs_model.specs.Thread.{Pair}
-use Rattle.lfs_model.specs.Tree.{Node}
-use Rattle.lfs_model.specs.View.{HasDiskView, IsAcceptedImage, IsSkipListIfCtzStruct, view_of_disk}
+use Rattle.lfs_model.specs.format.Disk.{Disk, IsWhole, disk_of_image, ordered_disk}
+use Rattle.lfs_model.specs.layers.Listing.{UnpackingAction, PathNode, node_action, entry_actions}
+use Rattle.lfs_model.specs.format.Slots.{Branch, Ctz, Inline, Struct}
+use Rattle.lfs_model.specs.format.Thread.{Pair}
+use Rattle.lfs_model.specs.tree.Tree.{Node}
+use Rattle.lfs_model.specs.tree.View.{HasDiskView, IsAccepted, IsWellFormedCtz, disk_view}
 use Rattle.lfs_model.specs.declared.order.NameOrder.{NameOrder}
 use Rattle.lfs_model.specs.declared.order.NameOrder.TheVariants.{LongerFirst}
 use Rattle.lfs_device.specs.declared.error.Error.TheVariants.{Corrupt, Invalid, NoMemory}
 use Rattle.lfs_device.specs.declared.error.Error.{Error}
-use Rattle.lfs_lookup.specs.Walk.{ArePathsAndStructsOfTreeEntries, ArePathsAndStructsOfWalk, PathAndStruct, IsPathAndStructOfTreeEntry, IsNodeOfStruct}
+use Rattle.lfs_lookup.specs.TreeWalk.{AreTreeItems, AreWalkItems, PathStruct, IsTreeItem, IsStructNode}
 use Rattle.lfs_tool.specs.declared.errors.ToolError.{ToolError}
 use Rattle.lfs_tool.specs.declared.errors.ToolError.TheVariants.{Fs, Output}
 use Rattle.lfs_tool.specs.Listings.{RefusesToList}
-use Rattle.lfs_tool.specs.Unpackings.{HaveWellFormedSkipLists, FailsToUnpackDisk, FailsToUnpackImage, FailsToUnpackKnownImage, HasDoneBeginningOfUnpackingActions, HasDoneTheseFurtherUnpackingActions, HasBegunUnpackingDisk, HasBegunUnpackingImage, HasUnpackedDisk, HasUnpackedImage, AreActionsUnpackingDisk, ReportsUnpackTargetFaults, AreActionsUnpackingImage, unpacking_action_for_tree_entry, unpacking_action_for_struct, unpacking_actions_for_tree_entries}
+use Rattle.lfs_tool.specs.Unpackings.{HaveFormedLists, FailsToUnpackDisk, FailsToUnpackImage, FailsToUnpackKnown, HasBegunActions, HasDoneFurther, HasBegunDisk, HasBegunImage, HasUnpackedDisk, HasUnpackedImage, UnpackDisk, ReportsTargetFaults, UnpackImage, tree_entry_action, struct_action, tree_entry_actions}
 use Rattle.lfs_tool.proofs.Images.{all_read, most, refuses_read}
 
 -- ---- what was found of a tree unpacks it
 
-list_node : (disk : Disk) (struct : Struct) (node : Node) → IsNodeOfStruct disk struct node → IsSkipListIfCtzStruct disk struct
+list_node : (disk : Disk) (struct : Struct) (node : Node) → IsStructNode disk struct node → IsWellFormedCtz disk struct
 list_node disk (Inline bytes) node h = tt
 list_node disk (Ctz head size) node (attributes, (is, list)) = list
 list_node disk (Branch to) node h = tt
 
-lists_shown : (disk : Disk) (ps : List PathAndStruct) (es : List PathAndNode) → ArePathsAndStructsOfTreeEntries disk ps es → HaveWellFormedSkipLists disk ps
+lists_shown : (disk : Disk) (ps : List PathStruct) (es : List PathNode) → AreTreeItems disk ps es → HaveFormedLists disk ps
 lists_shown disk [] es s = tt
 lists_shown disk (p ∷ ps) [] s = absurd s
 lists_shown disk (p ∷ ps) (e ∷ es) s = (list_node disk p.struct e.node s.0.node, lists_shown disk ps es s.1)
 
-pub lists_walked : (disk now : Disk) (ps : List Pair) (places : List PathAndStruct) → now ≡ disk → ArePathsAndStructsOfWalk disk ps places → HaveWellFormedSkipLists now places
-lists_walked disk now ps places same (entries, (walk, shows)) = subst (λ d. HaveWellFormedSkipLists d places) (sym same) (lists_shown disk places entries shows)
+pub lists_walked : (disk now : Disk) (ps : List Pair) (places : List PathStruct) → now ≡ disk → AreWalkItems disk ps places → HaveFormedLists now places
+lists_walked disk now ps places same (entries, (walk, shows)) = subst (λ d. HaveFormedLists d places) (sym same) (lists_shown disk places entries shows)
 
-action_node : (disk : Disk) (path : List ℕ) (struct : Struct) (node : Node) → IsNodeOfStruct disk struct node → unpacking_action_for_struct disk path struct ≡ unpacking_action_of_node path node
-action_node disk path (Inline bytes) node (attributes, is) = ap (unpacking_action_of_node path) (sym is)
-action_node disk path (Ctz head size) node (attributes, (is, list)) = ap (unpacking_action_of_node path) (sym is)
-action_node disk path (Branch to) node (attributes, (names, is)) = ap (unpacking_action_of_node path) (sym is)
+action_node : (disk : Disk) (path : List ℕ) (struct : Struct) (node : Node) → IsStructNode disk struct node → struct_action disk path struct ≡ node_action path node
+action_node disk path (Inline bytes) node (attributes, is) = ap (node_action path) (sym is)
+action_node disk path (Ctz head size) node (attributes, (is, list)) = ap (node_action path) (sym is)
+action_node disk path (Branch to) node (attributes, (names, is)) = ap (node_action path) (sym is)
 
-action_shown : (disk : Disk) (p : PathAndStruct) (e : PathAndNode) → IsPathAndStructOfTreeEntry disk p e → unpacking_action_for_tree_entry disk p ≡ unpacking_action_of_entry e
-action_shown disk p e s = action_node disk p.path p.struct e.node s.node ∙ ap (λ path. unpacking_action_of_node path e.node) s.path
+action_shown : (disk : Disk) (p : PathStruct) (e : PathNode) → IsTreeItem disk p e → tree_entry_action disk p ≡ entry_actions e
+action_shown disk p e s = action_node disk p.path p.struct e.node s.node ∙ ap (λ path. node_action path e.node) s.path
 
-actions_shown : (disk : Disk) (ps : List PathAndStruct) (es : List PathAndNode) → ArePathsAndStructsOfTreeEntries disk ps es → unpacking_actions_for_tree_entries disk ps ≡ map unpacking_action_of_entry es
+actions_shown : (disk : Disk) (ps : List PathStruct) (es : List PathNode) → AreTreeItems disk ps es → tree_entry_actions disk ps ≡ map entry_actions es
 actions_shown disk [] [] s = refl
 actions_shown disk [] (e ∷ es) s = absurd s
 actions_shown disk (p ∷ ps) [] s = absurd s
@@ -50,20 +50,20 @@ actions_shown disk (p ∷ ps) (e ∷ es) s = ap₂ (λ a more. a ∷ more) (acti
 
 -- ---- of a disk
 
-module _ (disk now : Disk) (order : NameOrder) (ps : List Pair) (places : List PathAndStruct) (same : now ≡ disk_in_order order disk) (accepted : IsAcceptedImage (disk_in_order order disk) ps) (walked : ArePathsAndStructsOfWalk (disk_in_order order disk) ps places) where
-  unpacks : AreActionsUnpackingDisk disk (unpacking_actions_for_tree_entries (disk_in_order order disk) places)
+module _ (disk now : Disk) (order : NameOrder) (ps : List Pair) (places : List PathStruct) (same : now ≡ ordered_disk order disk) (accepted : IsAccepted (ordered_disk order disk) ps) (walked : AreWalkItems (ordered_disk order disk) ps places) where
+  unpacks : UnpackDisk disk (tree_entry_actions (ordered_disk order disk) places)
   unpacks =
       let (entries, (walk, shows)) = walked in
-      (view_of_disk (disk_in_order order disk) ps, ((order, (ps, (accepted, refl))), (entries, (walk, actions_shown (disk_in_order order disk) places entries shows))))
+      (disk_view (ordered_disk order disk) ps, ((order, (ps, (accepted, refl))), (entries, (walk, actions_shown (ordered_disk order disk) places entries shows))))
 
-  pub done_of : (old new : Option (List UnpackingAction)) → HasDoneTheseFurtherUnpackingActions old new (unpacking_actions_for_tree_entries now places) → HasUnpackedDisk disk old new
-  done_of old new h = (unpacking_actions_for_tree_entries (disk_in_order order disk) places, (unpacks, subst (λ d. HasDoneTheseFurtherUnpackingActions old new (unpacking_actions_for_tree_entries d places)) same h))
+  pub done_of : (old new : Option (List UnpackingAction)) → HasDoneFurther old new (tree_entry_actions now places) → HasUnpackedDisk disk old new
+  done_of old new h = (tree_entry_actions (ordered_disk order disk) places, (unpacks, subst (λ d. HasDoneFurther old new (tree_entry_actions d places)) same h))
 
-  pub begun_of : (old new : Option (List UnpackingAction)) → HasDoneBeginningOfUnpackingActions old new (unpacking_actions_for_tree_entries now places) → HasBegunUnpackingDisk disk old new
-  begun_of old new h = (unpacking_actions_for_tree_entries (disk_in_order order disk) places, (unpacks, subst (λ d. HasDoneBeginningOfUnpackingActions old new (unpacking_actions_for_tree_entries d places)) same h))
+  pub begun_of : (old new : Option (List UnpackingAction)) → HasBegunActions old new (tree_entry_actions now places) → HasBegunDisk disk old new
+  begun_of old new h = (tree_entry_actions (ordered_disk order disk) places, (unpacks, subst (λ d. HasBegunActions old new (tree_entry_actions d places)) same h))
 
-pub fails_begun : {X : Type 0} (disk : Disk) (old new : Option (List UnpackingAction)) (was now : ℕ) (r : Result X ToolError) (begun : Type 0) → OnErr r begun → (begun → HasBegunUnpackingDisk disk old new)
-    → ReportsUnpackTargetFaults was now r → IfErr r (FailsToUnpackDisk disk old new)
+pub fails_begun : {X : Type 0} (disk : Disk) (old new : Option (List UnpackingAction)) (was now : ℕ) (r : Result X ToolError) (begun : Type 0) → OnErr r begun → (begun → HasBegunDisk disk old new)
+    → ReportsTargetFaults was now r → IfErr r (FailsToUnpackDisk disk old new)
 fails_begun disk old new was now (Ok x) begun h to reports = tt
 fails_begun disk old new was now (Err Output) begun h to reports = to h
 fails_begun disk old new was now (Err (Fs NoMemory)) begun h to reports = inr (to h)
@@ -75,21 +75,21 @@ fails_begun disk old new was now (Err e) begun h to reports = absurd reports
 abbrev IsDiskOf : ImageLayout → List ℕ → Disk → Type 0
 IsDiskOf layout image disk = disk ≡ disk_of_image layout.block_size layout.page layout.profile LongerFirst image
 
-unpacks_image : (layout : ImageLayout) (image : List ℕ) (disk : Disk) (actions : List UnpackingAction) → IsImageOfWholeBlocks layout.block_size layout.page image → IsDiskOf layout image disk → AreActionsUnpackingDisk disk actions → AreActionsUnpackingImage layout image actions
-unpacks_image layout image disk actions is same (view, ((order, shows), unpacking)) = (is, (view, ((order, subst (λ d. HasDiskView (disk_in_order order d) view) same shows), unpacking)))
+unpacks_image : (layout : ImageLayout) (image : List ℕ) (disk : Disk) (actions : List UnpackingAction) → IsWhole layout.block_size layout.page image → IsDiskOf layout image disk → UnpackDisk disk actions → UnpackImage layout image actions
+unpacks_image layout image disk actions is same (view, ((order, shows), unpacking)) = (is, (view, ((order, subst (λ d. HasDiskView (ordered_disk order d) view) same shows), unpacking)))
 
-pub done_image : (layout : ImageLayout) (image : List ℕ) (disk : Disk) (old new : Option (List UnpackingAction)) → IsImageOfWholeBlocks layout.block_size layout.page image → IsDiskOf layout image disk
+pub done_image : (layout : ImageLayout) (image : List ℕ) (disk : Disk) (old new : Option (List UnpackingAction)) → IsWhole layout.block_size layout.page image → IsDiskOf layout image disk
     → HasUnpackedDisk disk old new → HasUnpackedImage layout image old new
 done_image layout image disk old new is same (actions, (unpacked, h)) = (actions, (unpacks_image layout image disk actions is same unpacked, h))
 
-begun_image : (layout : ImageLayout) (image : List ℕ) (disk : Disk) (old new : Option (List UnpackingAction)) → IsImageOfWholeBlocks layout.block_size layout.page image → IsDiskOf layout image disk
-    → HasBegunUnpackingDisk disk old new → HasBegunUnpackingImage layout image old new
+begun_image : (layout : ImageLayout) (image : List ℕ) (disk : Disk) (old new : Option (List UnpackingAction)) → IsWhole layout.block_size layout.page image → IsDiskOf layout image disk
+    → HasBegunDisk disk old new → HasBegunImage layout image old new
 begun_image layout image disk old new is same (actions, (unpacked, h)) = (actions, (unpacks_image layout image disk actions is same unpacked, h))
 
-pub fails_image : (layout : ImageLayout) (image : List ℕ) (disk : Disk) (old new : Option (List UnpackingAction)) (e : ToolError) → IsImageOfWholeBlocks layout.block_size layout.page image → IsDiskOf layout image disk
+pub fails_image : (layout : ImageLayout) (image : List ℕ) (disk : Disk) (old new : Option (List UnpackingAction)) (e : ToolError) → IsWhole layout.block_size layout.page image → IsDiskOf layout image disk
     → FailsToUnpackDisk disk old new e → FailsToUnpackImage layout image old new e
 fails_image layout image disk old new (Fs Corrupt) is same (wrong, undone) =
-    ((is, λ view (order, (ps, (accepted, shows))). wrong order ps (subst (λ d. IsAcceptedImage (disk_in_order order d) ps) (sym same) accepted)), undone)
+    ((is, λ view (order, (ps, (accepted, shows))). wrong order ps (subst (λ d. IsAccepted (ordered_disk order d) ps) (sym same) accepted)), undone)
 fails_image layout image disk old new (Fs NoMemory) is same (inl undone) = inl undone
 fails_image layout image disk old new (Fs NoMemory) is same (inr begun) = inr (begun_image layout image disk old new is same begun)
 fails_image layout image disk old new Output is same begun = begun_image layout image disk old new is same begun
@@ -103,12 +103,12 @@ done_read None layout items old new read h = tt
 done_read (Some bytes) layout items old new read h = subst (λ (i : List ℕ). HasUnpackedImage layout i old new) (all_read layout.block_size layout.page bytes items read h.1.0.0) h
 
 begun_read : (known : Option (List ℕ)) (layout : ImageLayout) (items : List ℕ) (old new : Option (List UnpackingAction)) → IfSome known (λ bytes. items ≡ take most bytes)
-    → HasBegunUnpackingImage layout items old new → IfSome known (λ bytes. HasBegunUnpackingImage layout bytes old new)
+    → HasBegunImage layout items old new → IfSome known (λ bytes. HasBegunImage layout bytes old new)
 begun_read None layout items old new read h = tt
-begun_read (Some bytes) layout items old new read h = subst (λ (i : List ℕ). HasBegunUnpackingImage layout i old new) (all_read layout.block_size layout.page bytes items read h.1.0.0) h
+begun_read (Some bytes) layout items old new read h = subst (λ (i : List ℕ). HasBegunImage layout i old new) (all_read layout.block_size layout.page bytes items read h.1.0.0) h
 
 begun_at_error : (known : Option (List ℕ)) (layout : ImageLayout) (items : List ℕ) (old new : Option (List UnpackingAction)) (e : ToolError) → IfSome known (λ bytes. items ≡ take most bytes)
-    → FailsToUnpackImage layout items old new e → (new ≡ old) ⊎ IfSome known (λ bytes. HasBegunUnpackingImage layout bytes old new)
+    → FailsToUnpackImage layout items old new e → (new ≡ old) ⊎ IfSome known (λ bytes. HasBegunImage layout bytes old new)
 begun_at_error known layout items old new (Fs Corrupt) read h = inl h.1
 begun_at_error known layout items old new (Fs Invalid) read h = inl h.1
 begun_at_error known layout items old new (Fs NoMemory) read (inl undone) = inl undone
@@ -130,7 +130,7 @@ undone_at_error layout items old new Output h target memory = absurd (target ref
 undone_at_error layout items old new e h target memory = absurd h
 
 pub fails_known : (known : Option (List ℕ)) (layout : ImageLayout) (items : List ℕ) (old new : Option (List UnpackingAction)) (e : ToolError) → IfSome known (λ bytes. items ≡ take most bytes)
-    → FailsToUnpackImage layout items old new e → FailsToUnpackKnownImage layout known old new e
+    → FailsToUnpackImage layout items old new e → FailsToUnpackKnown layout known old new e
 fails_known known layout items old new e read h = record {
   refused = λ f is. refuses_read known layout items f read (refused_at layout items old new f (subst (FailsToUnpackImage layout items old new) is h));
   undone = undone_at_error layout items old new e h;

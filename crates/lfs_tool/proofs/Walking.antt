@@ -6,22 +6,22 @@ use Rattle.std.specs.declared.cmp.Ordering.TheVariants.{Less}
 use Rattle.std.proofs.lemmas.List.Elements.{All-contains, All-contains_itself, All-from_recursion, recursion_from_All}
 use Rattle.std.proofs.lemmas.List.Sorted.{Contains-permutation, IsPermutation-map, IsPermutation-sym}
 use Rattle.lfs_model.specs.declared.order.NameOrder.TheVariants.{ShorterFirst}
-use Rattle.lfs_model.specs.TreeEdits as apply
-use Rattle.lfs_model.specs.Fresh.{empty_tree}
-use Rattle.lfs_model.specs.Listing as listing
-use Rattle.lfs_model.specs.Listing.{IsDepthFirstWalk, copy_operations_of_node, entry_paths_in_directory}
-use Rattle.lfs_model.specs.Names.{Name, name_cmp}
-use Rattle.lfs_model.specs.Operations.{Operation, path_bytes}
-use Rattle.lfs_model.specs.Source.{AFile, AFolder, IsTreeMadeFromSource, IsTreeNodeMadeFromSourceNode, TreeSource, is_source_entry_folder_if_present, names_of_source_entries, source_path_in_folder, source_node_at_path_from_folder}
-use Rattle.lfs_model.specs.Tree.{Path, Node, FileNode, DirectoryNode, Tree}
+use Rattle.lfs_model.specs.session.TreeEdits as apply
+use Rattle.lfs_model.specs.tree.Fresh.{empty_tree}
+use Rattle.lfs_model.specs.layers.Listing as listing
+use Rattle.lfs_model.specs.layers.Listing.{IsDepthFirst, node_copies, entry_paths}
+use Rattle.lfs_model.specs.format.Names.{Name, name_cmp}
+use Rattle.lfs_model.specs.session.Operations.{Operation, path_bytes}
+use Rattle.lfs_model.specs.layers.Source.{AFile, AFolder, IsSourceTree, IsSourceNode, TreeSource, is_some_folder, source_names, path_in_folder, node_at}
+use Rattle.lfs_model.specs.tree.Tree.{Path, Node, FileNode, DirectoryNode, Tree}
 use Rattle.lfs_model.proofs.Counts.{Each, each_weaker}
 use Rattle.lfs_model.proofs.Names.{greater}
 use Rattle.lfs_model.proofs.Paths.{append_step}
-use Rattle.lfs_tool_folders.specs.Entries.{AreAllEntriesOfSource, AreEntriesDepthFirst, AreNamesInFolder, HasContentsInSource, PathAndIsFolder, paths_of_names_in_folder}
-use Rattle.lfs_tool_folders.specs.MemorySources.{optional_bytes_view}
+use Rattle.lfs_tool_folders.specs.SourceEntries.{AreSourceEntries, AreDepthFirst, AreFolderNames, HasSourceContents, PathKind, paths_in_folder}
+use Rattle.lfs_tool_folders.specs.MemorySources.{optional_view}
 use Rattle.lfs_tool_folders.specs.declared.entries.SourceEntry.{SourceEntry}
-use Rattle.lfs_tool.specs.AppliedOperations.{file_or_directory_node_of_optional_bytes, copying_operations_of_entry, copying_operations_of_entries}
-use Rattle.lfs_tool.specs.MadeImages.{AreOperationsCopyingSource}
+use Rattle.lfs_tool.specs.AppliedOperations.{node_of_bytes, entry_copying, entries_copying}
+use Rattle.lfs_tool.specs.MadeImages.{CopySource}
 use Rattle.lfs_tool.proofs.Growing.{beneath, carried_tree, tree_after}
 use Rattle.lfs_tool.proofs.NamesGiven.{Rising, each_found, kind_moved, less_unlike, rising_from}
 use Rattle.lfs_tool.proofs.PathPlaces.{path_more}
@@ -75,110 +75,110 @@ same_rising (x ∷ xs) (y ∷ ys) r s h k =
 -- ---- places and their paths
 
 -- what stands at the path is what stands at the place
-record Stands (s : TreeSource) (q : Path) (p : PathAndIsFolder) : Type 0 where
+record Stands (s : TreeSource) (q : Path) (p : PathKind) : Type 0 where
   bytes : path_bytes q ≡ p.0
-  leads : (rest : Path) → source_node_at_path_from_folder s [] (q ++ rest) ≡ beneath s p.0 rest p.1
+  leads : (rest : Path) → node_at s [] (q ++ rest) ≡ beneath s p.0 rest p.1
 
-abbrev AllStand : TreeSource → List Path → List PathAndIsFolder → Type 0
+abbrev AllStand : TreeSource → List Path → List PathKind → Type 0
 AllStand s [] [] = Unit {0}
 AllStand s [] (p ∷ ps) = ⊥
 AllStand s (q ∷ qs) [] = ⊥
 AllStand s (q ∷ qs) (p ∷ ps) = Stands s q p × AllStand s qs ps
 
-stand_append : (s : TreeSource) (qs rs : List Path) (ps os : List PathAndIsFolder) → AllStand s qs ps → AllStand s rs os → AllStand s (qs ++ rs) (ps ++ os)
+stand_append : (s : TreeSource) (qs rs : List Path) (ps os : List PathKind) → AllStand s qs ps → AllStand s rs os → AllStand s (qs ++ rs) (ps ++ os)
 stand_append s [] rs [] os h k = k
 stand_append s [] rs (p ∷ ps) os h k = absurd h
 stand_append s (q ∷ qs) rs [] os h k = absurd h
 stand_append s (q ∷ qs) rs (p ∷ ps) os h k = (h.0, stand_append s qs rs ps os h.1 k)
 
-below_stand : (s : TreeSource) (q : Path) (folder : List ℕ) (given : List (Name × Bool)) → path_bytes q ≡ folder → ((rest : Path) → source_node_at_path_from_folder s [] (q ++ rest) ≡ source_node_at_path_from_folder s folder rest)
-    → Each (λ g. is_source_entry_folder_if_present g.0 (s.names folder) ≡ Some g.1) given → AllStand s (map (λ n. q ++ n ∷ []) (names_of_source_entries given)) (paths_of_names_in_folder folder given)
+below_stand : (s : TreeSource) (q : Path) (folder : List ℕ) (given : List (Name × Bool)) → path_bytes q ≡ folder → ((rest : Path) → node_at s [] (q ++ rest) ≡ node_at s folder rest)
+    → Each (λ g. is_some_folder g.0 (s.names folder) ≡ Some g.1) given → AllStand s (map (λ n. q ++ n ∷ []) (source_names given)) (paths_in_folder folder given)
 below_stand s q folder [] at leads kinds = tt
 below_stand s q folder (g ∷ given) at leads kinds = (
   record {
-    bytes = path_more q g.0 ∙ ap (λ f. source_path_in_folder f g.0) at;
-    leads = λ rest. ap (source_node_at_path_from_folder s []) (append_step q g.0 rest) ∙ leads (g.0 ∷ rest) ∙ ap (option_and_then (beneath s (source_path_in_folder folder g.0) rest)) kinds.0;
+    bytes = path_more q g.0 ∙ ap (λ f. path_in_folder f g.0) at;
+    leads = λ rest. ap (node_at s []) (append_step q g.0 rest) ∙ leads (g.0 ∷ rest) ∙ ap (option_and_then (beneath s (path_in_folder folder g.0) rest)) kinds.0;
   },
   below_stand s q folder given at leads kinds.1,
 )
 
-kinds_within : (s : TreeSource) (folder : List ℕ) (within : List (Name × Bool)) → AreNamesInFolder (Some s) folder within → Each (λ g. is_source_entry_folder_if_present g.0 (s.names folder) ≡ Some g.1) within
+kinds_within : (s : TreeSource) (folder : List ℕ) (within : List (Name × Bool)) → AreFolderNames (Some s) folder within → Each (λ g. is_some_folder g.0 (s.names folder) ≡ Some g.1) within
 kinds_within s folder within w =
-    let rising = rising_from (names_of_source_entries within) w.order.rise in
-    each_weaker (λ (g : Name × Bool). is_source_entry_folder_if_present g.0 within ≡ Some g.1) (λ (g : Name × Bool). is_source_entry_folder_if_present g.0 (s.names folder) ≡ Some g.1)
+    let rising = rising_from (source_names within) w.order.rise in
+    each_weaker (λ (g : Name × Bool). is_some_folder g.0 within ≡ Some g.1) (λ (g : Name × Bool). is_some_folder g.0 (s.names folder) ≡ Some g.1)
     (λ g e. kind_moved (s.names folder) within w.names rising g.0 ∙ e) within (each_found within rising)
 
 -- ---- the walk
 
 record IsWalked (tree : Tree) (qs : List Path) (es : List SourceEntry) : Type 0 where
-  entries : List listing.PathAndNode
-  walk : IsDepthFirstWalk tree qs entries
-  same : flat_map copying_operations_of_entry es ≡ flat_map listing.copy_operations_of_entry entries
+  entries : List listing.PathNode
+  walk : IsDepthFirst tree qs entries
+  same : flat_map entry_copying es ≡ flat_map listing.entry_copies entries
 
 -- what the tree has at a place, and the operations that bring it
-record IsMet (s : TreeSource) (tree : Tree) (q : Path) (p : PathAndIsFolder) (o : Option (List ℕ)) (within : List (Name × Bool)) : Type 0 where
+record IsMet (s : TreeSource) (tree : Tree) (q : Path) (p : PathKind) (o : Option (List ℕ)) (within : List (Name × Bool)) : Type 0 where
   node : Node
   there : tree q ≡ Some node
-  operations : copy_operations_of_node p.0 (file_or_directory_node_of_optional_bytes o) ≡ copy_operations_of_node (path_bytes q) node
-  below : AllStand s (entry_paths_in_directory tree q) (paths_of_names_in_folder p.0 within)
+  operations : node_copies p.0 (node_of_bytes o) ≡ node_copies (path_bytes q) node
+  below : AllStand s (entry_paths tree q) (paths_in_folder p.0 within)
 
 met_file : (s : TreeSource) (tree : Tree) (q : Path) (folder : List ℕ) (bytes : List ℕ) (within : List (Name × Bool)) (o : Option Node) → tree q ≡ o → path_bytes q ≡ folder → bytes ≡ s.bytes folder → within ≡ []
-    → IsTreeNodeMadeFromSourceNode (Some (AFile (s.bytes folder))) o → IsMet s tree q (folder, false) (Some bytes) within
+    → IsSourceNode (Some (AFile (s.bytes folder))) o → IsMet s tree q (folder, false) (Some bytes) within
 met_file s tree q folder bytes within None e at is none h = absurd h
 met_file s tree q folder bytes within (Some (FileNode attributes shown)) e at is none h = record {
   node = FileNode attributes shown;
   there = e;
-  operations = ap₂ (λ f xs. copy_operations_of_node f (FileNode [] xs)) (sym at) (is ∙ sym h.1);
-  below = subst (λ (ps : List PathAndIsFolder). AllStand s (entry_paths_in_directory tree q) ps) (ap (paths_of_names_in_folder folder) (sym none)) (subst (λ (u : Option Node). AllStand s (map (λ name. q ++ name ∷ []) (apply.names_of_directory_node u)) []) (sym e) tt);
+  operations = ap₂ (λ f xs. node_copies f (FileNode [] xs)) (sym at) (is ∙ sym h.1);
+  below = subst (λ (ps : List PathKind). AllStand s (entry_paths tree q) ps) (ap (paths_in_folder folder) (sym none)) (subst (λ (u : Option Node). AllStand s (map (λ name. q ++ name ∷ []) (apply.directory_names u)) []) (sym e) tt);
 }
 met_file s tree q folder bytes within (Some (DirectoryNode attributes shown)) e at is none h = absurd h
 
-met_folder : (s : TreeSource) (tree : Tree) (q : Path) (folder : List ℕ) (within : List (Name × Bool)) (o : Option Node) → tree q ≡ o → path_bytes q ≡ folder → ((rest : Path) → source_node_at_path_from_folder s [] (q ++ rest) ≡ source_node_at_path_from_folder s folder rest)
-    → AreNamesInFolder (Some s) folder within → IsTreeNodeMadeFromSourceNode (Some (AFolder (names_of_source_entries (s.names folder)))) o → IsMet s tree q (folder, true) None within
+met_folder : (s : TreeSource) (tree : Tree) (q : Path) (folder : List ℕ) (within : List (Name × Bool)) (o : Option Node) → tree q ≡ o → path_bytes q ≡ folder → ((rest : Path) → node_at s [] (q ++ rest) ≡ node_at s folder rest)
+    → AreFolderNames (Some s) folder within → IsSourceNode (Some (AFolder (source_names (s.names folder)))) o → IsMet s tree q (folder, true) None within
 met_folder s tree q folder within None e at leads w h = absurd h
 met_folder s tree q folder within (Some (FileNode attributes shown)) e at leads w h = absurd h
 met_folder s tree q folder within (Some (DirectoryNode attributes shown)) e at leads w h =
-    let moved : IsPermutation (names_of_source_entries (s.names folder)) (names_of_source_entries within) = IsPermutation-map (λ (g : Name × Bool). g.0) (s.names folder) within w.names in
-    let same : shown ≡ names_of_source_entries within = same_rising shown (names_of_source_entries within) (rising_from shown h.2) (rising_from (names_of_source_entries within) w.order.rise)
-    (λ m a. among_moved (names_of_source_entries (s.names folder)) (names_of_source_entries within) moved m (among_moved shown (names_of_source_entries (s.names folder)) (IsPermutation-sym (names_of_source_entries (s.names folder)) shown h.1) m a))
-    (λ m a. among_moved (names_of_source_entries (s.names folder)) shown h.1 m (among_moved (names_of_source_entries within) (names_of_source_entries (s.names folder)) (IsPermutation-sym (names_of_source_entries (s.names folder)) (names_of_source_entries within) moved) m a)) in
+    let moved : IsPermutation (source_names (s.names folder)) (source_names within) = IsPermutation-map (λ (g : Name × Bool). g.0) (s.names folder) within w.names in
+    let same : shown ≡ source_names within = same_rising shown (source_names within) (rising_from shown h.2) (rising_from (source_names within) w.order.rise)
+    (λ m a. among_moved (source_names (s.names folder)) (source_names within) moved m (among_moved shown (source_names (s.names folder)) (IsPermutation-sym (source_names (s.names folder)) shown h.1) m a))
+    (λ m a. among_moved (source_names (s.names folder)) shown h.1 m (among_moved (source_names within) (source_names (s.names folder)) (IsPermutation-sym (source_names (s.names folder)) (source_names within) moved) m a)) in
     record {
       node = DirectoryNode attributes shown;
       there = e;
-      operations = ap (λ f. copy_operations_of_node f (DirectoryNode [] [])) (sym at);
-      below = subst (λ (u : Option Node). AllStand s (map (λ name. q ++ name ∷ []) (apply.names_of_directory_node u)) (paths_of_names_in_folder folder within)) (sym e)
-          (subst (λ ns. AllStand s (map (λ name. q ++ name ∷ []) ns) (paths_of_names_in_folder folder within)) (sym same) (below_stand s q folder within at leads (kinds_within s folder within w)));
+      operations = ap (λ f. node_copies f (DirectoryNode [] [])) (sym at);
+      below = subst (λ (u : Option Node). AllStand s (map (λ name. q ++ name ∷ []) (apply.directory_names u)) (paths_in_folder folder within)) (sym e)
+          (subst (λ ns. AllStand s (map (λ name. q ++ name ∷ []) ns) (paths_in_folder folder within)) (sym same) (below_stand s q folder within at leads (kinds_within s folder within w)));
     }
 
-met : (s : TreeSource) (tree : Tree) (q : Path) (folder : List ℕ) (k : Bool) (o : Option (List ℕ)) (within : List (Name × Bool)) → IsTreeMadeFromSource s tree → Stands s q (folder, k) → HasContentsInSource (Some s) folder k o within
+met : (s : TreeSource) (tree : Tree) (q : Path) (folder : List ℕ) (k : Bool) (o : Option (List ℕ)) (within : List (Name × Bool)) → IsSourceTree s tree → Stands s q (folder, k) → HasSourceContents (Some s) folder k o within
     → IsMet s tree q (folder, k) o within
 met s tree q folder false None within shows stands holds = absurd holds
 met s tree q folder false (Some bytes) within shows stands holds =
-    met_file s tree q folder bytes within (tree q) refl stands.bytes holds.0 holds.1 (subst (λ x. IsTreeNodeMadeFromSourceNode x (tree q)) (ap (source_node_at_path_from_folder s []) (sym (append-nil q)) ∙ stands.leads []) (shows q))
+    met_file s tree q folder bytes within (tree q) refl stands.bytes holds.0 holds.1 (subst (λ x. IsSourceNode x (tree q)) (ap (node_at s []) (sym (append-nil q)) ∙ stands.leads []) (shows q))
 met s tree q folder true None within shows stands holds =
-    met_folder s tree q folder within (tree q) refl stands.bytes stands.leads holds (subst (λ x. IsTreeNodeMadeFromSourceNode x (tree q)) (ap (source_node_at_path_from_folder s []) (sym (append-nil q)) ∙ stands.leads []) (shows q))
+    met_folder s tree q folder within (tree q) refl stands.bytes stands.leads holds (subst (λ x. IsSourceNode x (tree q)) (ap (node_at s []) (sym (append-nil q)) ∙ stands.leads []) (shows q))
 met s tree q folder true (Some bytes) within shows stands holds = absurd holds
 
-walked : (s : TreeSource) (tree : Tree) → IsTreeMadeFromSource s tree → (es : List SourceEntry) (qs : List Path) (ps : List PathAndIsFolder) → AllStand s qs ps → AreEntriesDepthFirst (Some s) ps es → IsWalked tree qs es
+walked : (s : TreeSource) (tree : Tree) → IsSourceTree s tree → (es : List SourceEntry) (qs : List Path) (ps : List PathKind) → AllStand s qs ps → AreDepthFirst (Some s) ps es → IsWalked tree qs es
 walked s tree shows [] [] [] h read = record { entries = []; walk = tt; same = refl }
 walked s tree shows [] (q ∷ qs) [] h read = absurd h
 walked s tree shows [] qs (p ∷ ps) h read = absurd read
 walked s tree shows (e ∷ es) qs [] h read = absurd read
 walked s tree shows (e ∷ es) [] (p ∷ ps) h read = absurd h
 walked s tree shows (e ∷ es) (q ∷ qs) (p ∷ ps) h (path, (within, (holds, rest))) =
-    let m = met s tree q p.0 p.1 (optional_bytes_view e.bytes) within shows h.0 holds in
-    let w = walked s tree shows es (entry_paths_in_directory tree q ++ qs) (paths_of_names_in_folder p.0 within ++ ps) (stand_append s (entry_paths_in_directory tree q) qs (paths_of_names_in_folder p.0 within) ps m.below h.1) rest in
+    let m = met s tree q p.0 p.1 (optional_view e.bytes) within shows h.0 holds in
+    let w = walked s tree shows es (entry_paths tree q ++ qs) (paths_in_folder p.0 within ++ ps) (stand_append s (entry_paths tree q) qs (paths_in_folder p.0 within) ps m.below h.1) rest in
     record {
       entries = record { path = q; node = m.node } ∷ w.entries;
       walk = (refl, m.there, w.walk);
-      same = ap₂ (λ (xs ys : List Operation). xs ++ ys) (ap (λ f. copy_operations_of_node f (file_or_directory_node_of_optional_bytes (optional_bytes_view e.bytes))) path ∙ m.operations) w.same;
+      same = ap₂ (λ (xs ys : List Operation). xs ++ ys) (ap (λ f. node_copies f (node_of_bytes (optional_view e.bytes))) path ∙ m.operations) w.same;
     }
 
-pub carry_over : (known : Option TreeSource) (es : List SourceEntry) → AreAllEntriesOfSource known es → AreOperationsCopyingSource known (copying_operations_of_entries es)
+pub carry_over : (known : Option TreeSource) (es : List SourceEntry) → AreSourceEntries known es → CopySource known (entries_copying es)
 carry_over None es all = tt
 carry_over (Some s) es (top, (w, read)) =
     let whole = carried_tree s es (top, (w, read)) in
     let tree = tree_after es empty_tree in
     let m = met s tree [] [] true None top whole.tree (record { bytes = refl; leads = λ rest. refl }) w in
-    let k = walked s tree whole.tree es (entry_paths_in_directory tree []) (paths_of_names_in_folder [] top) m.below read in
+    let k = walked s tree whole.tree es (entry_paths tree []) (paths_in_folder [] top) m.below read in
     (tree, (whole.tree, (k.entries, (k.walk, k.same))))

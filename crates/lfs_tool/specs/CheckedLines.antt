@@ -1,8 +1,8 @@
 -- The lines of a check.
 use Rattle.std.specs.Prelude.{ℕ, ◌-◌, ◌/◌, ◌%◌, ◌==◌, ◌++◌, if◌then◌else◌, Bool, true, false, List, [], Option, Some, None, codes}
 use Rattle.std.specs.Fmt.{decimal}
-use Rattle.lfs_model.specs.Disk.{default_profile}
-use Rattle.lfs_model.specs.Slots.{pair_address_of_array}
+use Rattle.lfs_model.specs.format.Disk.{default_profile}
+use Rattle.lfs_model.specs.format.Slots.{array_address}
 use Rattle.lfs_model.specs.declared.breaches.OtherLimit.{OtherLimit}
 use Rattle.lfs_model.specs.declared.breaches.OtherLimit.TheVariants as limit
 use Rattle.lfs_model.specs.declared.breaches.ProfileBreach.{ProfileBreach}
@@ -54,10 +54,10 @@ inline_limit_text (Some n) = codes "inline_max " ++ decimal n
 -- which rule of the writing profile an image breaks
 abbrev pub profile_breach_text : Option ℕ → ProfileBreach → List ℕ
 profile_breach_text inline_max (breach.OtherLimits pair slot limit) =
-    pair_text (pair_address_of_array pair) ++ codes ", slot " ++ decimal slot ++ codes ": a superblock with other limits than this library writes, " ++ other_limit_text limit
+    pair_text (array_address pair) ++ codes ", slot " ++ decimal slot ++ codes ": a superblock with other limits than this library writes, " ++ other_limit_text limit
 profile_breach_text inline_max (breach.LongInline pair slot) =
-    pair_text (pair_address_of_array pair) ++ codes ", slot " ++ decimal slot ++ codes ": more bytes inline than " ++ inline_limit_text inline_max
-profile_breach_text inline_max (breach.EmptyPair pair) = pair_text (pair_address_of_array pair) ++ codes ": no entry, but a directory goes on in it"
+    pair_text (array_address pair) ++ codes ", slot " ++ decimal slot ++ codes ": more bytes inline than " ++ inline_limit_text inline_max
+profile_breach_text inline_max (breach.EmptyPair pair) = pair_text (array_address pair) ++ codes ": no entry, but a directory goes on in it"
 profile_breach_text inline_max (breach.TooLarge pair) = codes "a pair or an entry is larger than this library writes"
 
 abbrev pub writable_text : Option ℕ → Option ProfileBreach → List ℕ
@@ -88,11 +88,11 @@ summary_text s orders = counts_text s ++ blocks_text s ++ order_line orders ++ s
 
 -- ---- why one isn't accepted
 
-abbrev pub refusal_reason_text : GivenSizes → RefusalReason → List ℕ
-refusal_reason_text given (reason.WrongNumber stated) = wrong_number_text given stated
-refusal_reason_text given reason.NoImage = no_image_text given
-refusal_reason_text given (reason.Broken rule) = rule.line.items
+abbrev pub reason_text : GivenSizes → RefusalReason → List ℕ
+reason_text given (reason.WrongNumber stated) = wrong_number_text given stated
+reason_text given reason.NoImage = no_image_text given
+reason_text given (reason.Broken rule) = rule.line.items
 
-abbrev pub check_result_text : CheckResult → List ℕ
-check_result_text (checked.Accepted summary orders) = summary_text summary orders
-check_result_text (checked.Refused reason given) = codes "corrupt\n" ++ refusal_reason_text given reason ++ codes "\n"
+abbrev pub result_text : CheckResult → List ℕ
+result_text (checked.Accepted summary orders) = summary_text summary orders
+result_text (checked.Refused reason given) = codes "corrupt\n" ++ reason_text given reason ++ codes "\n"

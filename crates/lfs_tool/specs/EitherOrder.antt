@@ -1,14 +1,14 @@
 -- What holds with the names in one of the two orders.
 use Rattle.std.specs.Prelude.{ℕ, List}
 use Rattle.lfs_tool.specs.declared.image_layout.ImageLayout.{ImageLayout}
-use Rattle.lfs_model.specs.Disk.{disk_in_order, Disk, disk_of_image}
-use Rattle.lfs_model.specs.View.{HasDiskView, DiskView}
+use Rattle.lfs_model.specs.format.Disk.{ordered_disk, Disk, disk_of_image}
+use Rattle.lfs_model.specs.tree.View.{HasDiskView, DiskView}
 use Rattle.lfs_model.specs.declared.order.NameOrder.{NameOrder}
 
 -- the disk of these bytes is accepted with its names in one of the orders, and shows that
-abbrev pub IsViewOfImageInSomeNameOrder : ImageLayout → List ℕ → DiskView → Type 0
-IsViewOfImageInSomeNameOrder layout image view = (order : NameOrder) × HasDiskView (disk_of_image layout.block_size layout.page layout.profile order image) view
+abbrev pub IsSomeImageView : ImageLayout → List ℕ → DiskView → Type 0
+IsSomeImageView layout image view = (order : NameOrder) × HasDiskView (disk_of_image layout.block_size layout.page layout.profile order image) view
 
 -- the same of a disk, whatever its own order
-abbrev pub IsViewOfDiskInSomeNameOrder : Disk → DiskView → Type 0
-IsViewOfDiskInSomeNameOrder disk view = (order : NameOrder) × HasDiskView (disk_in_order order disk) view
+abbrev pub IsViewInSome : Disk → DiskView → Type 0
+IsViewInSome disk view = (order : NameOrder) × HasDiskView (ordered_disk order disk) view

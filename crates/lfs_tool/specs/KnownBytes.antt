@@ -7,21 +7,21 @@ use Rattle.lfs_tool.specs.declared.errors.ToolError.{ToolError}
 use Rattle.lfs_tool.specs.declared.errors.ToolError.TheVariants.{Fs, Input, Output}
 
 -- known bytes grow by a beginning of these
-abbrev pub AppendsBeginningOfBytes : Option (List ℕ) → Option (List ℕ) → List ℕ → Type 0
-AppendsBeginningOfBytes old new bytes = (n : ℕ) × (n ≤ length bytes) × Appends old new (take n bytes)
+abbrev pub AppendsBeginning : Option (List ℕ) → Option (List ℕ) → List ℕ → Type 0
+AppendsBeginning old new bytes = (n : ℕ) × (n ≤ length bytes) × Appends old new (take n bytes)
 
 -- either the reader failed, or a growth was refused and the reader did not fail
-abbrev pub IsErrorOfReaderFaultOrNoMemory : ToolError → ℕ → ℕ → Type 0
-IsErrorOfReaderFaultOrNoMemory Input old new = new ≡ suc old
-IsErrorOfReaderFaultOrNoMemory Output old new = ⊥
-IsErrorOfReaderFaultOrNoMemory (Fs e) old new = (e ≡ NoMemory) × (new ≡ old)
+abbrev pub IsReaderError : ToolError → ℕ → ℕ → Type 0
+IsReaderError Input old new = new ≡ suc old
+IsReaderError Output old new = ⊥
+IsReaderError (Fs e) old new = (e ≡ NoMemory) × (new ≡ old)
 
 -- why an image isn't listed
 abbrev pub IsListingRefusal : Error → Type 0
 IsListingRefusal e = (e ≡ NoMemory) ⊎ (e ≡ Invalid) ⊎ (e ≡ Corrupt)
 
 -- either the reader failed, or it did not and an image is refused
-abbrev pub IsErrorOfReaderFaultOrListingRefusal : ToolError → ℕ → ℕ → Type 0
-IsErrorOfReaderFaultOrListingRefusal Input old new = new ≡ suc old
-IsErrorOfReaderFaultOrListingRefusal Output old new = ⊥
-IsErrorOfReaderFaultOrListingRefusal (Fs e) old new = IsListingRefusal e × (new ≡ old)
+abbrev pub IsListingError : ToolError → ℕ → ℕ → Type 0
+IsListingError Input old new = new ≡ suc old
+IsListingError Output old new = ⊥
+IsListingError (Fs e) old new = IsListingRefusal e × (new ≡ old)

@@ -6,8 +6,8 @@ use Rattle.lfs_tool.specs.declared.errors.ToolError.TheVariants.{Output}
 use Rattle.lfs_tool.specs.declared.writer.ToolOutput.{Ghosts}
 
 -- this error comes exactly where a call failed, and then only one did
-abbrev pub IsThisErrorExactlyIfOneCallFailed : {X : Type 0} → ToolError → ℕ → ℕ → Result X ToolError → Type 0
-IsThisErrorExactlyIfOneCallFailed e old new r = (IsErrOf r e → new ≡ suc old) × (¬ IsErrOf r e → new ≡ old)
+abbrev pub ReportsOneFault : {X : Type 0} → ToolError → ℕ → ℕ → Result X ToolError → Type 0
+ReportsOneFault e old new r = (IsErrOf r e → new ≡ suc old) × (¬ IsErrOf r e → new ≡ old)
 
 -- `Output` comes exactly where the writer fails, which it does once. After any other error the writer is as it was.
 abbrev pub ReportsWriterFaults : {W X : Type 0} → Ghosts W → W → W → Result X ToolError → Type 0
@@ -16,9 +16,9 @@ ReportsWriterFaults g old new (Err Output) = g.faults new ≡ suc (g.faults old)
 ReportsWriterFaults g old new (Err e) = new ≡ old
 
 -- unless it failed, it has shown one value more
-abbrev pub HasWrittenOneValueUnlessFailed : {W : Type 0} → Ghosts W → W → W → Type 0
-HasWrittenOneValueUnlessFailed g old new = g.faults new ≡ g.faults old → g.shown new ≡ suc (g.shown old)
+abbrev pub HasWrittenOne : {W : Type 0} → Ghosts W → W → W → Type 0
+HasWrittenOne g old new = g.faults new ≡ g.faults old → g.shown new ≡ suc (g.shown old)
 
 -- known bytes were read to their end, or more of them than an image may have
-abbrev pub IsReadToEndOrPastImageLimit : Option (List ℕ) → Option (List ℕ) → Type 0
-IsReadToEndOrPastImageLimit old new = (bytes : List ℕ) × (Consumes old new bytes × (IsAtEnd new ⊎ (268435456 < length bytes)))
+abbrev pub IsReadToEnd : Option (List ℕ) → Option (List ℕ) → Type 0
+IsReadToEnd old new = (bytes : List ℕ) × (Consumes old new bytes × (IsAtEnd new ⊎ (268435456 < length bytes)))

@@ -3,13 +3,13 @@ use Rattle.std.specs.Prelude.{ℕ}
 use Rattle.lfs_tool.specs.declared.watched_stream.WatchedStream.{WatchedStream}
 
 -- the reader or the writer itself
-abbrev pub watched_inner_stream : {T : Type 0} → WatchedStream T → T
-watched_inner_stream w = w.inner
+abbrev pub watched_inner : {T : Type 0} → WatchedStream T → T
+watched_inner w = w.inner
 
 -- how many of its calls have failed
-abbrev pub watched_fault_count : {T : Type 0} → WatchedStream T → ℕ
-watched_fault_count w = w.faults.count
+abbrev pub watched_faults : {T : Type 0} → WatchedStream T → ℕ
+watched_faults w = w.faults.count
 
 -- how many values it has shown
-abbrev pub written_value_count : {T : Type 0} → WatchedStream T → ℕ
-written_value_count w = w.shown.count
+abbrev pub written_count : {T : Type 0} → WatchedStream T → ℕ
+written_count w = w.shown.count

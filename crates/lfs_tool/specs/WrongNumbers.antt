@@ -2,53 +2,53 @@
 use Rattle.std.specs.Prelude.{false, true, ℕ, ◌≡◌, ◌≢◌, ◌⊎◌, ◌+◌, ◌/◌, ◌<◌, ◌≤◌, ◌++◌, List, bit_xor, length, slice_range}
 use Rattle.byteorder.specs.Endian.{big_bytes}
 use Rattle.lfs_model.specs.declared.limits.AcceptedVersions.{AcceptedVersions}
-use Rattle.lfs_model.specs.View.{is_accepted_version, superblock_name_log_entry}
-use Rattle.lfs_model.specs.EntryTypes.{SuperblockFields, inline_struct_type, superblock_fields_of_struct_bytes}
-use Rattle.lfs_model.specs.Tag.{tag_of_type_id_and_length}
+use Rattle.lfs_model.specs.tree.View.{accepts_version, superblock_entry}
+use Rattle.lfs_model.specs.format.EntryTypes.{SuperblockFields, inline_type, superblock_fields}
+use Rattle.lfs_model.specs.format.Tag.{make_tag}
 use Rattle.lfs_tag.specs.FieldsView.{superblock_view}
 use Rattle.lfs_tag.specs.declared.fields.Superblock.{Superblock}
 use Rattle.lfs_tool.specs.declared.wrong_number.WrongNumber.{WrongNumber}
 use Rattle.lfs_tool.specs.declared.wrong_number.WrongNumber.TheVariants as stated
 
 -- the fields give something else than blocks of that size, so many of them, and one of these versions
-abbrev pub IsWrongSuperblockField : ℕ → ℕ → AcceptedVersions → SuperblockFields → WrongNumber → Type 0
-IsWrongSuperblockField block_size count versions fields (stated.BlockSize n) = (fields.block_size ≡ n) × (n ≢ block_size)
-IsWrongSuperblockField block_size count versions fields (stated.BlockCount n) = (fields.block_count ≡ n) × (n ≢ count)
-IsWrongSuperblockField block_size count versions fields (stated.Version n) = (fields.version ≡ n) × (is_accepted_version versions n ≡ false)
+abbrev pub IsWrongField : ℕ → ℕ → AcceptedVersions → SuperblockFields → WrongNumber → Type 0
+IsWrongField block_size count versions fields (stated.BlockSize n) = (fields.block_size ≡ n) × (n ≢ block_size)
+IsWrongField block_size count versions fields (stated.BlockCount n) = (fields.block_count ≡ n) × (n ≢ count)
+IsWrongField block_size count versions fields (stated.Version n) = (fields.version ≡ n) × (accepts_version versions n ≡ false)
 
 -- the fields give blocks of that size, so many of them, and one of these versions
-pub record HasSizesAndVersion (block_size count : ℕ) (versions : AcceptedVersions) (fields : SuperblockFields) : Type 0 where
+pub record HasSizesVersion (block_size count : ℕ) (versions : AcceptedVersions) (fields : SuperblockFields) : Type 0 where
   pub same_size : fields.block_size ≡ block_size
   pub same_count : fields.block_count ≡ count
-  pub version : is_accepted_version versions fields.version ≡ true
+  pub version : accepts_version versions fields.version ≡ true
 
 -- the tag of a superblock's struct: an inline struct of 24 bytes, for slot 0
 abbrev pub superblock_struct_tag : ℕ
-superblock_struct_tag = tag_of_type_id_and_length inline_struct_type 0 24
+superblock_struct_tag = make_tag inline_type 0 24
 
 -- how the superblock's name is stored as the first entry of a log, and then the tag of its struct
-abbrev pub stored_name_and_struct_tag : List ℕ
-stored_name_and_struct_tag = big_bytes 4 (bit_xor superblock_name_log_entry.tag 0xffffffff) ++ superblock_name_log_entry.bytes ++ big_bytes 4 (bit_xor superblock_struct_tag superblock_name_log_entry.tag)
+abbrev pub stored_name_tag : List ℕ
+stored_name_tag = big_bytes 4 (bit_xor superblock_entry.tag 0xffffffff) ++ superblock_entry.bytes ++ big_bytes 4 (bit_xor superblock_struct_tag superblock_entry.tag)
 
 -- A block that begins there begins with a superblock: behind the revision stand its name and its struct.
-pub record IsSuperblockAtOffset (bytes : List ℕ) (from : ℕ) (fields : SuperblockFields) : Type 0 where
+pub record IsSuperblockAt (bytes : List ℕ) (from : ℕ) (fields : SuperblockFields) : Type 0 where
   pub inside : from + 44 ≤ length bytes
-  pub tags : slice_range bytes (from + 4) (from + 20) ≡ stored_name_and_struct_tag
-  pub struct : superblock_fields_of_struct_bytes (slice_range bytes (from + 20) (from + 44)) ≡ fields
+  pub tags : slice_range bytes (from + 4) (from + 20) ≡ stored_name_tag
+  pub struct : superblock_fields (slice_range bytes (from + 20) (from + 44)) ≡ fields
 
 -- block 0 begins with that superblock, or block 1, with blocks of its size
-abbrev pub IsSuperblockOfFirstBlocks : List ℕ → Superblock → Type 0
-IsSuperblockOfFirstBlocks bytes s = (from : ℕ) × (((from ≡ 0) ⊎ (from ≡ s.block_size)) × IsSuperblockAtOffset bytes from (superblock_view s))
+abbrev pub IsFirstSuperblock : List ℕ → Superblock → Type 0
+IsFirstSuperblock bytes s = (from : ℕ) × (((from ≡ 0) ⊎ (from ≡ s.block_size)) × IsSuperblockAt bytes from (superblock_view s))
 
 -- a number in the superblock of block 0 or 1 is wrong for these bytes, in blocks of that size
-pub record IsWrongNumberInImageBytes (bytes : List ℕ) (block_size : ℕ) (versions : AcceptedVersions) (stated : WrongNumber) : Type 0 where
+pub record IsWrongNumberIn (bytes : List ℕ) (block_size : ℕ) (versions : AcceptedVersions) (stated : WrongNumber) : Type 0 where
   pub sized : 0 < block_size
   pub from : ℕ
   pub block : (from ≡ 0) ⊎ (from ≡ block_size)
   pub fields : SuperblockFields
-  pub stands : IsSuperblockAtOffset bytes from fields
-  pub unlike : IsWrongSuperblockField block_size (length bytes / block_size) versions fields stated
+  pub stands : IsSuperblockAt bytes from fields
+  pub unlike : IsWrongField block_size (length bytes / block_size) versions fields stated
 
 -- no number in the superblock of block 0 or 1 is wrong
-abbrev pub HasNoWrongNumberInImageBytes : List ℕ → ℕ → AcceptedVersions → Type 0
-HasNoWrongNumberInImageBytes bytes block_size versions = (stated : WrongNumber) → ¬ IsWrongNumberInImageBytes bytes block_size versions stated
+abbrev pub NoWrongNumberIn : List ℕ → ℕ → AcceptedVersions → Type 0
+NoWrongNumberIn bytes block_size versions = (stated : WrongNumber) → ¬ IsWrongNumberIn bytes block_size versions stated

@@ -1,7 +1,7 @@
 // The result of a check of an image.
 
 ghost use Rattle.std.specs.Prelude.{◌≡◌, ℕ, List, length};
-ghost use Rattle.lfs_tool.specs.CheckResults.{AreReportedSizesThoseGivenToCheck};
+ghost use Rattle.lfs_tool.specs.CheckResults.{AreGivenSizes};
 
 use crate::ImageLayout;
 use crate::verdict::{AcceptedOrders, BrokenRule, ImageSummary};
@@ -20,7 +20,7 @@ pub struct GivenSizes {
 impl GivenSizes {
     // Returns the sizes with which an image of so many bytes is checked.
     pub(crate) fn of(len: usize, layout: ImageLayout) -> GivenSizes
-        ensures { (image : List ℕ) → length image ≡ len → AreReportedSizesThoseGivenToCheck layout image result }
+        ensures { (image : List ℕ) → length image ≡ len → AreGivenSizes layout image result }
     {
         let blocks = if layout.block_size == 0 {
             0

@@ -1,7 +1,7 @@
 // The lines of a check's result.
 
 ghost use Rattle.std.specs.Prelude.{◌≡◌, ◌++◌, IfOk, OnOk};
-ghost use Rattle.lfs_tool.specs.CheckedLines.{blocks_text, check_result_text, counts_text, inline_limit_text, limit_line, order_line, other_limit_text, profile_breach_text, recover_line, refusal_reason_text, summary_text, superblock_lines, version_line, writable_line, writable_text, yes_or_no_text};
+ghost use Rattle.lfs_tool.specs.CheckedLines.{blocks_text, result_text, counts_text, inline_limit_text, limit_line, order_line, other_limit_text, profile_breach_text, recover_line, reason_text, summary_text, superblock_lines, version_line, writable_line, writable_text, yes_or_no_text};
 
 use crate::check_result::{CheckResult, GivenSizes, RefusalReason};
 use crate::number_text::{NoImageText, PairText, WrongNumberText};
@@ -195,7 +195,7 @@ fn push_refusal_reason(
     given: &GivenSizes,
     reason: &RefusalReason,
 ) -> io::Result<()>
-    ensures { OnOk result (text.new.items ≡ text.old.items ++ refusal_reason_text given.now reason.now) }
+    ensures { OnOk result (text.new.items ≡ text.old.items ++ reason_text given.now reason.now) }
 {
     match reason {
         RefusalReason::WrongNumber(stated) => {
@@ -208,7 +208,7 @@ fn push_refusal_reason(
 }
 
 fn push_check_result(text: &mut Vec<u8>, checked: &CheckResult) -> io::Result<()>
-    ensures { OnOk result (text.new.items ≡ text.old.items ++ check_result_text checked.now) }
+    ensures { OnOk result (text.new.items ≡ text.old.items ++ result_text checked.now) }
 {
     match checked {
         CheckResult::Accepted { summary, orders } => push_summary(text, summary, *orders),
@@ -221,8 +221,8 @@ fn push_check_result(text: &mut Vec<u8>, checked: &CheckResult) -> io::Result<()
 }
 
 /// Returns the lines of a check's result, as `check` writes them.
-pub fn lines_of_check_result(alloc: Global, checked: &CheckResult) -> Result<Vec<u8>, AllocError>
-    ensures { IfOk result (λ text. text.items ≡ check_result_text checked.now) }
+pub fn check_result_lines(alloc: Global, checked: &CheckResult) -> Result<Vec<u8>, AllocError>
+    ensures { IfOk result (λ text. text.items ≡ result_text checked.now) }
 {
     let mut text = Vec::new(alloc);
     match push_check_result(&mut text, checked) {

@@ -1,12 +1,12 @@
 ghost use Rattle.std.specs.Prelude.{◌≡◌, ◌≢◌, IfErr, IfOk, IsErrOf, OnOk};
 ghost use Rattle.lfs_device.specs.RamDevice.{ram_bytes};
-ghost use Rattle.lfs_fs.specs.SessionView.{system_state_of_session_view};
+ghost use Rattle.lfs_fs.specs.SessionView.{system_state};
 ghost use Rattle.lfs_tool.specs.Reports.{ReportsWriterFaults};
-ghost use Rattle.lfs_tool.specs.MadeImages.{AreImageBytesOfEntries, SessionBeginsOnFreshDisk, RefusesCopyOfSource, HasWrittenBeginningOfImage, HasWrittenImageOfSource, RefusesCopyOfEntries, ReportsSourceFaults};
-ghost use Rattle.lfs_tool_folders.specs.Entries.{AreAllEntriesOfSource};
+ghost use Rattle.lfs_tool.specs.MadeImages.{AreImageBytes, BeginsOnFreshDisk, RefusesSource, HasWrittenBeginning, HasWrittenImage, RefusesEntries, ReportsSourceFaults};
+ghost use Rattle.lfs_tool_folders.specs.SourceEntries.{AreSourceEntries};
 
-use crate::output::write_bytes_and_flush;
-use crate::source_entries::copy_entries_into_session;
+use crate::output::write_and_flush;
+use crate::source_entries::copy_entries;
 use crate::{FollowsProgress, ToolError, ToolOutput};
 use lfs_device::{Error, Geometry, RamDevice};
 use lfs_fs::{Session, format_ordered};
@@ -19,7 +19,7 @@ fn read_source_entries<S: Source>(
     alloc: Global,
     source: &mut S,
 ) -> Result<Vec<SourceEntry>, ToolError>
-    ensures entries { IfOk result (λ v. AreAllEntriesOfSource (S.shown source.old) v.items) }
+    ensures entries { IfOk result (λ v. AreSourceEntries (S.shown source.old) v.items) }
     ensures source { ReportsSourceFaults (S.faults source.old) (S.faults source.new) (S.shown source.old) result }
     ensures other { IfErr result (λ e. e ≢ ToolError.Input → e ≡ ToolError.Fs Error.NoMemory) }
 {
@@ -31,12 +31,12 @@ fn read_source_entries<S: Source>(
 }
 
 // Begins a session over an empty image in memory.
-fn begin_session_on_fresh_disk(
+fn begin_session(
     alloc: Global,
     geometry: Geometry,
     order: NameOrder,
 ) -> Result<Session<RamDevice>, Error>
-    ensures begins { IfOk result (λ s. SessionBeginsOnFreshDisk geometry order (system_state_of_session_view s)) }
+    ensures begins { IfOk result (λ s. BeginsOnFreshDisk geometry order (system_state s)) }
     ensures err { IfErr result (λ e. e ≡ Error.NoMemory) }
 {
     let device = RamDevice::blank(alloc, geometry)?;
@@ -53,18 +53,18 @@ fn begin_session_on_fresh_disk(
 /// - `NoMemory` where memory isn't granted.
 /// - Another error where one of the operations that copy the entries is refused for that: `NoSpace` where too few
 ///   blocks are free.
-pub fn new_image_of_entries<F: FollowsProgress>(
+pub fn new_image<F: FollowsProgress>(
     alloc: Global,
     geometry: Geometry,
     order: NameOrder,
     entries: &[SourceEntry],
     progress: &mut F,
 ) -> Result<RamDevice, Error>
-    ensures ok { IfOk result (λ d. AreImageBytesOfEntries geometry order entries.now (ram_bytes d)) }
-    ensures err { IfErr result (λ e. e ≢ Error.NoMemory → RefusesCopyOfEntries geometry order entries.now e) }
+    ensures ok { IfOk result (λ d. AreImageBytes geometry order entries.now (ram_bytes d)) }
+    ensures err { IfErr result (λ e. e ≢ Error.NoMemory → RefusesEntries geometry order entries.now e) }
 {
-    let mut session = begin_session_on_fresh_disk(alloc, geometry, order)?;
-    copy_entries_into_session(alloc, &mut session, entries, progress)?;
+    let mut session = begin_session(alloc, geometry, order)?;
+    copy_entries(alloc, &mut session, entries, progress)?;
     Ok(session.unmount())
 }
 
@@ -92,20 +92,20 @@ pub fn create<S: Source, W: ToolOutput, F: FollowsProgress>(
     out: &mut W,
     progress: &mut F,
 ) -> Result<(), ToolError>
-    ensures ok { OnOk result (HasWrittenImageOfSource geometry order (S.shown source.old) (W.contents out.old) (W.contents out.new)) }
+    ensures ok { OnOk result (HasWrittenImage geometry order (S.shown source.old) (W.contents out.old) (W.contents out.new)) }
 
     // Where the writer fails, a beginning of the image may be written.
     ensures writer { ReportsWriterFaults W.ToolOutput out.old out.new result }
     ensures beginning { IsErrOf result ToolError.Output
-        → HasWrittenBeginningOfImage geometry order (S.shown source.old) (W.contents out.old) (W.contents out.new) }
+        → HasWrittenBeginning geometry order (S.shown source.old) (W.contents out.old) (W.contents out.new) }
 
     // When each other error comes.
-    ensures refused { (e : _) → IsErrOf result (ToolError.Fs e) → e ≢ Error.NoMemory → RefusesCopyOfSource geometry order (S.shown source.old) e }
+    ensures refused { (e : _) → IsErrOf result (ToolError.Fs e) → e ≢ Error.NoMemory → RefusesSource geometry order (S.shown source.old) e }
     ensures source { ReportsSourceFaults (S.faults source.old) (S.faults source.new) (S.shown source.old) result }
 {
     let entries = read_source_entries(alloc, source)?;
-    match new_image_of_entries(alloc, geometry, order, entries.as_slice(), progress) {
-        Ok(image) => write_bytes_and_flush(out, image.bytes()),
+    match new_image(alloc, geometry, order, entries.as_slice(), progress) {
+        Ok(image) => write_and_flush(out, image.bytes()),
         Err(error) => Err(ToolError::Fs(error)),
     }
 }

@@ -1,14 +1,14 @@
 ghost use Rattle.std.specs.Prelude.{◌≡◌, ◌++◌, codes, false, true};
-ghost use Rattle.lfs_model.specs.Listing.{newline};
-ghost use Rattle.lfs_tool_line.specs.Extras.{rule_of_misuse};
+ghost use Rattle.lfs_model.specs.layers.Listing.{newline};
+ghost use Rattle.lfs_tool_line.specs.Extras.{misuse_rule};
 ghost use Rattle.std.specs.Io.KnownBytes.{Appends};
-ghost use Rattle.lfs_tool.specs.KnownBytes.{AppendsBeginningOfBytes};
-ghost use Rattle.lfs_tool.specs.ExitStatus.{broken_limit_line, is_failure_a_help_request};
-ghost use Rattle.lfs_tool.specs.Errors.{tool_error_line, tool_error_status};
-ghost use Rattle.lfs_tool.specs.Reports.{HasWrittenOneValueUnlessFailed};
+ghost use Rattle.lfs_tool.specs.KnownBytes.{AppendsBeginning};
+ghost use Rattle.lfs_tool.specs.ExitStatus.{broken_limit_line, is_help_request};
+ghost use Rattle.lfs_tool.specs.Errors.{error_line_of, error_status};
+ghost use Rattle.lfs_tool.specs.Reports.{HasWrittenOne};
 ghost use Rattle.lfs_tool.specs.RunEnds.{IsFailureReportedWithStatus};
 
-use crate::output::write_bytes_and_flush;
+use crate::output::write_and_flush;
 use crate::{Fault, ToolError, ToolOutput};
 use clap::error::ErrorKind;
 use lfs_device::Error;
@@ -25,7 +25,7 @@ const PART: &str = "error: -b auto and --offset are for -l, -u, --check and --ca
 const NOT_UTF8: &str = "error: the command line is not UTF-8\n";
 
 // Returns the line that says which rule a limit breaks.
-fn line_of_broken_limit(limit: Limit) -> &'static str
+fn broken_limit_text(limit: Limit) -> &'static str
     ensures { result.now ≡ broken_limit_line limit }
 {
     match limit {
@@ -38,7 +38,7 @@ fn line_of_broken_limit(limit: Limit) -> &'static str
 
 // Returns the line that says where an option has a meaning.
 fn line_of_misuse(misuse: Misuse) -> &'static str
-    ensures { result.now ≡ codes "error: " ++ rule_of_misuse misuse ++ newline }
+    ensures { result.now ≡ codes "error: " ++ misuse_rule misuse ++ newline }
 {
     match misuse {
         Misuse::Folder => "error: --exclude, --follow-links and --skip-links are for -c\n",
@@ -52,23 +52,23 @@ fn line_of_misuse(misuse: Misuse) -> &'static str
 }
 
 // Writes a line of the tool's own. A failed write is ignored.
-fn write_line_and_return_status<E: ToolOutput>(err: &mut E, line: &str, status: u8) -> u8
+fn write_line<E: ToolOutput>(err: &mut E, line: &str, status: u8) -> u8
     ensures status { result ≡ status }
-    ensures beginning { AppendsBeginningOfBytes (E.contents err.old) (E.contents err.new) line.now }
+    ensures beginning { AppendsBeginning (E.contents err.old) (E.contents err.new) line.now }
     ensures line { E.faults err.new ≡ E.faults err.old → Appends (E.contents err.old) (E.contents err.new) line.now }
 {
-    let _ = write_bytes_and_flush(err, line.as_bytes());
+    let _ = write_and_flush(err, line.as_bytes());
     status
 }
 
 // Writes the line of an error. A failed write is ignored.
-fn write_error_line_and_return_status<E: ToolOutput>(err: &mut E, error: ToolError) -> u8
-    ensures status { result ≡ tool_error_status error }
-    ensures beginning { AppendsBeginningOfBytes (E.contents err.old) (E.contents err.new) (tool_error_line error) }
-    ensures line { E.faults err.new ≡ E.faults err.old → Appends (E.contents err.old) (E.contents err.new) (tool_error_line error) }
+fn write_error_line<E: ToolOutput>(err: &mut E, error: ToolError) -> u8
+    ensures status { result ≡ error_status error }
+    ensures beginning { AppendsBeginning (E.contents err.old) (E.contents err.new) (error_line_of error) }
+    ensures line { E.faults err.new ≡ E.faults err.old → Appends (E.contents err.old) (E.contents err.new) (error_line_of error) }
 {
     let line = error.error_line_text();
-    write_line_and_return_status(err, line.as_str(), error.exit_status())
+    write_line(err, line.as_str(), error.exit_status())
 }
 
 /// Shows the error of a run, and returns the status with which the program ends.
@@ -85,23 +85,23 @@ fn write_error_line_and_return_status<E: ToolOutput>(err: &mut E, error: ToolErr
 /// No promise is made of the parser's text.
 pub fn report<O: ToolOutput, E: ToolOutput>(fault: &Fault, out: &mut O, err: &mut E) -> u8
     ensures shown { IsFailureReportedWithStatus E.ToolOutput fault.now result err.old err.new }
-    ensures out { is_failure_a_help_request fault.now ≡ false → out.new ≡ out.old }
-    ensures help { is_failure_a_help_request fault.now ≡ true → HasWrittenOneValueUnlessFailed O.ToolOutput out.old out.new }
+    ensures out { is_help_request fault.now ≡ false → out.new ≡ out.old }
+    ensures help { is_help_request fault.now ≡ true → HasWrittenOne O.ToolOutput out.old out.new }
 {
     match fault {
-        Fault::Line(LineError::Modes) => write_line_and_return_status(err, MODES, 2),
-        Fault::Line(LineError::Order) => write_line_and_return_status(err, ORDER, 2),
-        Fault::Line(LineError::Board) => write_line_and_return_status(err, BOARD, 2),
+        Fault::Line(LineError::Modes) => write_line(err, MODES, 2),
+        Fault::Line(LineError::Order) => write_line(err, ORDER, 2),
+        Fault::Line(LineError::Board) => write_line(err, BOARD, 2),
         Fault::Line(LineError::Limit(limit)) => {
-            write_line_and_return_status(err, line_of_broken_limit(*limit), 2)
+            write_line(err, broken_limit_text(*limit), 2)
         }
         Fault::Line(LineError::Misuse(misuse)) => {
-            write_line_and_return_status(err, line_of_misuse(*misuse), 2)
+            write_line(err, line_of_misuse(*misuse), 2)
         }
-        Fault::Line(LineError::Part) => write_line_and_return_status(err, PART, 2),
-        Fault::Line(LineError::NotUtf8) => write_line_and_return_status(err, NOT_UTF8, 2),
+        Fault::Line(LineError::Part) => write_line(err, PART, 2),
+        Fault::Line(LineError::NotUtf8) => write_line(err, NOT_UTF8, 2),
         Fault::Line(LineError::Parser(error)) => match error.kind() {
-            ErrorKind::OutOfMemory => write_error_line_and_return_status(
+            ErrorKind::OutOfMemory => write_error_line(
                 err,
                 ToolError::Fs(Error::NoMemory),
             ),
@@ -114,6 +114,6 @@ pub fn report<O: ToolOutput, E: ToolOutput>(fault: &Fault, out: &mut O, err: &mu
                 2
             }
         },
-        Fault::Tool(error) => write_error_line_and_return_status(err, *error),
+        Fault::Tool(error) => write_error_line(err, *error),
     }
 }

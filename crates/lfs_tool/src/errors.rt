@@ -1,7 +1,7 @@
 ghost use Rattle.std.specs.Prelude.{◌≡◌};
-ghost use Rattle.lfs_tool.specs.Errors.{tool_error_line, tool_error_status};
+ghost use Rattle.lfs_tool.specs.Errors.{error_line_of, error_status};
 
-use crate::line_text::{LineText, line_text_of_library_error, line_text_of_str};
+use crate::line_text::{LineText, text_of_error, text_of_str};
 use lfs_device::Error;
 use lfs_tool_line::LineError;
 use std::alloc::AllocError;
@@ -57,18 +57,18 @@ impl From<AllocError> for ToolError {
 impl ToolError {
     // Returns the line for the error.
     pub(crate) fn error_line_text(self) -> LineText
-        ensures { result.bytes ≡ tool_error_line self }
+        ensures { result.bytes ≡ error_line_of self }
     {
         match self {
-            ToolError::Fs(error) => line_text_of_library_error(error),
-            ToolError::Input => line_text_of_str("error: input\n"),
-            ToolError::Output => line_text_of_str("error: output\n"),
+            ToolError::Fs(error) => text_of_error(error),
+            ToolError::Input => text_of_str("error: input\n"),
+            ToolError::Output => text_of_str("error: output\n"),
         }
     }
 
     // Returns the status with which the program ends.
     pub(crate) fn exit_status(self) -> u8
-        ensures { result ≡ tool_error_status self }
+        ensures { result ≡ error_status self }
     {
         match self {
             ToolError::Fs(_) => 1,

@@ -1,15 +1,15 @@
 // Whether the bytes of an image are accepted, and with what, or why not.
 
 ghost use Rattle.std.specs.Prelude.{◌≡◌, ◌<◌, ◌≤◌, ◌^◌, List, ℕ, IfErr, IfOk, IfSome, IsErrOf, None, OnOk, length};
-ghost use Rattle.lfs_tool.specs.CheckResults.{AreBytesNoAcceptedImage, IsCheckResultOfBytes, AreReportedSizesThoseGivenToCheck, IsReasonForRefusedBytes, IsVerdictOnBytes, IsWrongNumberIfAny};
-ghost use Rattle.lfs_tool.specs.KnownBytes.{IsErrorOfReaderFaultOrNoMemory};
-ghost use Rattle.lfs_tool.specs.Reports.{IsReadToEndOrPastImageLimit};
+ghost use Rattle.lfs_tool.specs.CheckResults.{AreRefusedBytes, IsCheckResult, AreGivenSizes, IsRefusalReason, IsBytesVerdict, IsWrongNumber};
+ghost use Rattle.lfs_tool.specs.KnownBytes.{IsReaderError};
+ghost use Rattle.lfs_tool.specs.Reports.{IsReadToEnd};
 
 use crate::check_result::{CheckResult, GivenSizes, RefusalReason};
-use crate::image_devices::ram_device_of_image;
+use crate::image_devices::ram_device_of;
 use crate::input::{IMAGE_MAX, read_image};
-use crate::judgement::judge_image_on_device;
-use crate::superblocks::wrong_superblock_number_in_image;
+use crate::judgement::judge_device;
+use crate::superblocks::image_wrong_number;
 use crate::verdict::ImageVerdict;
 use crate::wrong_number::WrongNumber;
 use crate::{ImageInput, ImageLayout, ToolError};
@@ -23,12 +23,12 @@ fn judge_image(
     layout: ImageLayout,
 ) -> Result<Option<ImageVerdict>, Error>
     requires { length image.items < 2 ^ 32 }
-    ensures judged { IfOk result (IsVerdictOnBytes layout image.items) }
+    ensures judged { IfOk result (IsBytesVerdict layout image.items) }
     ensures err { IfErr result (λ e. e ≡ Error.NoMemory) }
 {
-    match ram_device_of_image(image, layout) {
+    match ram_device_of(image, layout) {
         Ok(device) => {
-            let verdict = judge_image_on_device(alloc, device)?;
+            let verdict = judge_device(alloc, device)?;
             Ok(Some(verdict))
         }
         Err(_) => Ok(None),
@@ -41,8 +41,8 @@ fn refused_check_result(
     reason: RefusalReason,
     given: GivenSizes,
 ) -> CheckResult
-    ensures { (layout : ImageLayout) (image : List ℕ) → AreBytesNoAcceptedImage layout image → IsWrongNumberIfAny layout image stated
-        → (stated ≡ None → IsReasonForRefusedBytes layout image reason) → AreReportedSizesThoseGivenToCheck layout image given → IsCheckResultOfBytes layout image result }
+    ensures { (layout : ImageLayout) (image : List ℕ) → AreRefusedBytes layout image → IsWrongNumber layout image stated
+        → (stated ≡ None → IsRefusalReason layout image reason) → AreGivenSizes layout image given → IsCheckResult layout image result }
 {
     match stated {
         Some(stated) => CheckResult::Refused {
@@ -54,13 +54,13 @@ fn refused_check_result(
 }
 
 // Returns the result for the bytes.
-fn check_result_of_verdict(
+fn result_of_verdict(
     stated: Option<WrongNumber>,
     verdict: Option<ImageVerdict>,
     given: GivenSizes,
 ) -> CheckResult
-    ensures { (layout : ImageLayout) (image : List ℕ) → IsWrongNumberIfAny layout image stated → IsVerdictOnBytes layout image verdict
-        → AreReportedSizesThoseGivenToCheck layout image given → IsCheckResultOfBytes layout image result }
+    ensures { (layout : ImageLayout) (image : List ℕ) → IsWrongNumber layout image stated → IsBytesVerdict layout image verdict
+        → AreGivenSizes layout image given → IsCheckResult layout image result }
 {
     match verdict {
         Some(ImageVerdict::Accepted { summary, orders }) => CheckResult::Accepted {
@@ -75,23 +75,23 @@ fn check_result_of_verdict(
 }
 
 // Returns the result for bytes that an image may have.
-fn check_result_of_bytes(
+fn result_of_bytes(
     alloc: Global,
     image: Vec<u8>,
     layout: ImageLayout,
 ) -> Result<CheckResult, Error>
     requires { length image.items ≤ 268_435_456 }
-    ensures checked { IfOk result (IsCheckResultOfBytes layout image.items) }
+    ensures checked { IfOk result (IsCheckResult layout image.items) }
     ensures err { IfErr result (λ e. e ≡ Error.NoMemory) }
 {
     let given = GivenSizes::of(image.len(), layout);
-    let stated = wrong_superblock_number_in_image(
+    let stated = image_wrong_number(
         &image,
         layout.block_size,
         layout.profile.versions,
     );
     let verdict = judge_image(alloc, image, layout)?;
-    Ok(check_result_of_verdict(stated, verdict, given))
+    Ok(result_of_verdict(stated, verdict, given))
 }
 
 /// Returns whether an image is accepted, and with what, or why not. The result is `Accepted`
@@ -105,21 +105,21 @@ fn check_result_of_bytes(
 /// # Errors
 /// - `Input` where the reader failed.
 /// - `Fs(NoMemory)` where memory isn't granted.
-pub fn check_result_of_image<R: ImageInput>(
+pub fn result_of_image<R: ImageInput>(
     alloc: Global,
     image: &mut R,
     layout: ImageLayout,
 ) -> Result<CheckResult, ToolError>
-    ensures checked { IfOk result (λ checked. IfSome (R.remaining image.old) (λ bytes. IsCheckResultOfBytes layout bytes checked)) }
+    ensures checked { IfOk result (λ checked. IfSome (R.remaining image.old) (λ bytes. IsCheckResult layout bytes checked)) }
     ensures kept { OnOk result (R.faults image.new ≡ R.faults image.old) }
-    ensures err { IfErr result (λ e. IsErrorOfReaderFaultOrNoMemory e (R.faults image.old) (R.faults image.new)) }
-    ensures read { ¬ IsErrOf result ToolError.Input → ¬ IsErrOf result (ToolError.Fs Error.NoMemory) → IsReadToEndOrPastImageLimit (R.remaining image.old) (R.remaining image.new) }
+    ensures err { IfErr result (λ e. IsReaderError e (R.faults image.old) (R.faults image.new)) }
+    ensures read { ¬ IsErrOf result ToolError.Input → ¬ IsErrOf result (ToolError.Fs Error.NoMemory) → IsReadToEnd (R.remaining image.old) (R.remaining image.new) }
 {
     let bytes = read_image(alloc, image)?;
     if bytes.len() > IMAGE_MAX {
         let given = GivenSizes::of(bytes.len(), layout);
         return Ok(refused_check_result(None, RefusalReason::NoImage, given));
     }
-    let checked = check_result_of_bytes(alloc, bytes, layout)?;
+    let checked = result_of_bytes(alloc, bytes, layout)?;
     Ok(checked)
 }

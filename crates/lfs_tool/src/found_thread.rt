@@ -7,7 +7,7 @@ use lfs_model::NameOrder;
 use lfs_pair::is_same_pair;
 use lfs_tag::kinds::DELETE;
 use lfs_tag::{
-    Content, Log, MoveState, Slot, SlotNameKind, Struct, has_hard_tail, is_revision_later_than,
+    Content, Log, MoveState, Slot, SlotNameKind, Struct, has_hard_tail, is_later_than,
     name_cmp,
 };
 use lfs_thread::gstate_xor_delta;
@@ -24,7 +24,7 @@ pub(crate) fn escaped_name(alloc: Global, name: &[u8]) -> Result<String, AllocEr
 // Returns whether the second block of a pair holds. Returns None where neither does.
 fn does_second_hold(first: &[u8], second: &[u8]) -> Option<bool> {
     let (first, second) = (Log::read(first), Log::read(second));
-    let is_later = is_revision_later_than(first.revision(), second.revision());
+    let is_later = is_later_than(first.revision(), second.revision());
     match (first.has_commit(), second.has_commit()) {
         (true, true) => Some(is_later),
         (true, false) => Some(false),

@@ -2,22 +2,22 @@
 
 ghost use Rattle.std.specs.Prelude.{◌≡◌, IfOk, IfSome, IsErrOf};
 ghost use Rattle.std.specs.Io.KnownBytes.{Appends};
-ghost use Rattle.lfs_tool.specs.KnownBytes.{AppendsBeginningOfBytes};
-ghost use Rattle.lfs_tool.specs.Reports.{IsReadToEndOrPastImageLimit, IsThisErrorExactlyIfOneCallFailed, ReportsWriterFaults};
-ghost use Rattle.lfs_tool.specs.CheckResults.{IsCheckResultOfBytes, is_accepted_check_result};
-ghost use Rattle.lfs_tool.specs.CheckedLines.{check_result_text};
+ghost use Rattle.lfs_tool.specs.KnownBytes.{AppendsBeginning};
+ghost use Rattle.lfs_tool.specs.Reports.{IsReadToEnd, ReportsOneFault, ReportsWriterFaults};
+ghost use Rattle.lfs_tool.specs.CheckResults.{IsCheckResult, is_accepted_result};
+ghost use Rattle.lfs_tool.specs.CheckedLines.{result_text};
 
 use crate::check_result::CheckResult;
-use crate::checked_lines::lines_of_check_result;
-use crate::examination::check_result_of_image;
-use crate::output::write_bytes_and_flush;
+use crate::checked_lines::check_result_lines;
+use crate::examination::result_of_image;
+use crate::output::write_and_flush;
 use crate::{ImageInput, ImageLayout, ToolError, ToolOutput};
 use lfs_device::Error;
 use std::alloc::Global;
 
 // Returns whether the image was accepted.
-fn is_check_result_accepted(checked: &CheckResult) -> bool
-    ensures { result ≡ is_accepted_check_result checked.now }
+fn is_result_accepted(checked: &CheckResult) -> bool
+    ensures { result ≡ is_accepted_result checked.now }
 {
     match checked {
         CheckResult::Accepted { .. } => true,
@@ -25,7 +25,7 @@ fn is_check_result_accepted(checked: &CheckResult) -> bool
     }
 }
 
-/// Writes what is wrong with an image, or what is in it, as `check_result_of_image` finds it. Returns whether the
+/// Writes what is wrong with an image, or what is in it, as `result_of_image` finds it. Returns whether the
 /// image is accepted. Nothing is written before that is known. The writer is flushed at the end.
 ///
 /// Of an accepted image the lines are `ok`, `files <n>`, `directories <n>`, `used <n> of <m> blocks`,
@@ -44,23 +44,23 @@ pub fn check<R: ImageInput, W: ToolOutput>(
     out: &mut W,
 ) -> Result<bool, ToolError>
     ensures ok { IfOk result (λ accepted. IfSome (R.remaining image.old) (λ bytes.
-        (checked : _) × (IsCheckResultOfBytes layout bytes checked × (accepted ≡ is_accepted_check_result checked) × Appends (W.contents out.old) (W.contents out.new) (check_result_text checked)))) }
+        (checked : _) × (IsCheckResult layout bytes checked × (accepted ≡ is_accepted_result checked) × Appends (W.contents out.old) (W.contents out.new) (result_text checked)))) }
 
     // Where the writer fails, a beginning of the lines may be written.
     ensures writer { ReportsWriterFaults W.ToolOutput out.old out.new result }
     ensures beginning { IsErrOf result ToolError.Output → IfSome (R.remaining image.old) (λ bytes.
-        (checked : _) × (IsCheckResultOfBytes layout bytes checked × AppendsBeginningOfBytes (W.contents out.old) (W.contents out.new) (check_result_text checked))) }
+        (checked : _) × (IsCheckResult layout bytes checked × AppendsBeginning (W.contents out.old) (W.contents out.new) (result_text checked))) }
 
     // When each other error comes.
     ensures refused { (e : _) → IsErrOf result (ToolError.Fs e) → e ≡ Error.NoMemory }
-    ensures input { IsThisErrorExactlyIfOneCallFailed ToolError.Input (R.faults image.old) (R.faults image.new) result }
-    ensures read { ¬ IsErrOf result ToolError.Input → ¬ IsErrOf result (ToolError.Fs Error.NoMemory) → IsReadToEndOrPastImageLimit (R.remaining image.old) (R.remaining image.new) }
+    ensures input { ReportsOneFault ToolError.Input (R.faults image.old) (R.faults image.new) result }
+    ensures read { ¬ IsErrOf result ToolError.Input → ¬ IsErrOf result (ToolError.Fs Error.NoMemory) → IsReadToEnd (R.remaining image.old) (R.remaining image.new) }
 {
-    let checked = check_result_of_image(alloc, image, layout)?;
-    let text = match lines_of_check_result(alloc, &checked) {
+    let checked = result_of_image(alloc, image, layout)?;
+    let text = match check_result_lines(alloc, &checked) {
         Ok(text) => text,
         Err(_) => return Err(ToolError::Fs(Error::NoMemory)),
     };
-    write_bytes_and_flush(out, text.as_slice())?;
-    Ok(is_check_result_accepted(&checked))
+    write_and_flush(out, text.as_slice())?;
+    Ok(is_result_accepted(&checked))
 }

@@ -1,21 +1,21 @@
 // Images as devices.
 
 ghost use Rattle.std.specs.Prelude.{◌≡◌, ◌⊎◌, ◌<◌, ◌/◌, ◌%◌, ◌^◌, [], Err, List, IfErr, IfOk, OnOk, length};
-ghost use Rattle.lfs_device.specs.RamDevice.{ram_blocks, geometry_of_ram_device, history_of_ram_device};
-ghost use Rattle.lfs_device.specs.Shown.{disk_of_geometry_and_blocks as shown};
-ghost use Rattle.lfs_model.specs.Disk.{disk_in_order, IsImageOfWholeBlocks, disk_of_image};
-ghost use Rattle.lfs_model.specs.Geometry.{IsValidGeometry};
-ghost use Rattle.lfs_model.specs.Thread.{Pair};
-ghost use Rattle.lfs_model.specs.View.{IsAcceptedImage};
+ghost use Rattle.lfs_device.specs.RamDevice.{ram_blocks, ram_geometry, ram_history};
+ghost use Rattle.lfs_device.specs.DeviceDisk.{disk_of_blocks as shown};
+ghost use Rattle.lfs_model.specs.format.Disk.{ordered_disk, IsWhole, disk_of_image};
+ghost use Rattle.lfs_model.specs.format.Geometry.{IsValidGeometry};
+ghost use Rattle.lfs_model.specs.format.Thread.{Pair};
+ghost use Rattle.lfs_model.specs.tree.View.{IsAccepted};
 ghost use Rattle.lfs_model.specs.declared.order.NameOrder.{NameOrder};
 ghost use Rattle.lfs_model.specs.declared.order.NameOrder.TheVariants.{LongerFirst};
-ghost use Rattle.lfs_mount.specs.Accepted.{IsMountedThread};
-ghost use Rattle.lfs_mount.specs.Device.{IsIoCorruptOrNoMemory};
-ghost use Rattle.lfs_thread.specs.Device.{GivesDeviceBackOnlyReadWithError};
+ghost use Rattle.lfs_mount.specs.Accepted.{IsMountedOn};
+ghost use Rattle.lfs_mount.specs.MountFaults.{IsErrorOfMount};
+ghost use Rattle.lfs_thread.specs.ThreadDevice.{GivesDeviceBackOnlyReadWithError};
 ghost use Rattle.lfs_thread.specs.Kept.{disk_of_device};
-ghost use Rattle.lfs_tool.specs.SparseView.{geometry_of_sparse_device};
-ghost use Rattle.lfs_tool.specs.Listings.{IsThreadWithEntriesOfTreeWalk, IsMountErrorOfDisk};
-ghost use Rattle.lfs_lookup.specs.Walk.{tree_items_view};
+ghost use Rattle.lfs_tool.specs.SparseView.{sparse_geometry};
+ghost use Rattle.lfs_tool.specs.Listings.{IsWalkedThread, IsMountError};
+ghost use Rattle.lfs_lookup.specs.TreeWalk.{tree_items_view};
 
 use crate::{ImageLayout, SparseDevice};
 use lfs_device::{BlockDevice, Error, Geometry, RamDevice};
@@ -25,7 +25,7 @@ use lfs_thread::Thread;
 use std::alloc::Global;
 
 // Returns the geometry of an image of so many bytes.
-fn geometry_of_image_length(len: usize, layout: ImageLayout) -> Result<Geometry, Error>
+fn geometry_of_length(len: usize, layout: ImageLayout) -> Result<Geometry, Error>
     requires { len < 2 ^ 32 }
     ensures sizes { IfOk result (λ g. (g.block_size ≡ layout.block_size) × (g.page ≡ layout.page) × (g.profile ≡ layout.profile)) }
     ensures count { IfOk result (λ g. (g.block_count ≡ len / layout.block_size) × (len % layout.block_size ≡ 0)) }
@@ -43,14 +43,14 @@ fn geometry_of_image_length(len: usize, layout: ImageLayout) -> Result<Geometry,
 ///
 /// # Errors
 /// `Invalid` exactly where no image has so many bytes.
-pub fn ram_device_of_image(image: Vec<u8>, layout: ImageLayout) -> Result<RamDevice, Error>
+pub fn ram_device_of(image: Vec<u8>, layout: ImageLayout) -> Result<RamDevice, Error>
     requires { length image.items < 2 ^ 32 }
-    ensures image { OnOk result (IsImageOfWholeBlocks layout.block_size layout.page image.items) }
-    ensures disk { IfOk result (λ d. shown (geometry_of_ram_device d) (ram_blocks d) ≡ disk_of_image layout.block_size layout.page layout.profile LongerFirst image.items) }
-    ensures no_call { IfOk result (λ d. history_of_ram_device d ≡ []) }
-    ensures err { IfErr result (λ e. (e ≡ Error.Invalid) × (¬ IsImageOfWholeBlocks layout.block_size layout.page image.items)) }
+    ensures image { OnOk result (IsWhole layout.block_size layout.page image.items) }
+    ensures disk { IfOk result (λ d. shown (ram_geometry d) (ram_blocks d) ≡ disk_of_image layout.block_size layout.page layout.profile LongerFirst image.items) }
+    ensures no_call { IfOk result (λ d. ram_history d ≡ []) }
+    ensures err { IfErr result (λ e. (e ≡ Error.Invalid) × (¬ IsWhole layout.block_size layout.page image.items)) }
 {
-    let geometry = geometry_of_image_length(image.len(), layout)?;
+    let geometry = geometry_of_length(image.len(), layout)?;
     RamDevice::from_bytes(geometry, image)
 }
 
@@ -59,25 +59,25 @@ pub fn ram_device_of_image(image: Vec<u8>, layout: ImageLayout) -> Result<RamDev
 /// # Errors
 /// - `Invalid` where no image has so many bytes.
 /// - `NoMemory` where memory for a word a block isn't granted.
-pub fn sparse_device_of_image(
+pub fn sparse_device_of(
     alloc: Global,
     len: u32,
     layout: ImageLayout,
 ) -> Result<SparseDevice, Error>
-    ensures sizes { IfOk result (λ d. let g = geometry_of_sparse_device d in (g.block_size ≡ layout.block_size) × (g.page ≡ layout.page) × (g.profile ≡ layout.profile)) }
-    ensures count { IfOk result (λ d. ((geometry_of_sparse_device d).block_count ≡ len / layout.block_size) × (len % layout.block_size ≡ 0)) }
+    ensures sizes { IfOk result (λ d. let g = sparse_geometry d in (g.block_size ≡ layout.block_size) × (g.page ≡ layout.page) × (g.profile ≡ layout.profile)) }
+    ensures count { IfOk result (λ d. ((sparse_geometry d).block_count ≡ len / layout.block_size) × (len % layout.block_size ≡ 0)) }
     ensures invalid { result ≡ Err Error.Invalid → len % layout.block_size ≡ 0 → ¬ IsValidGeometry layout.block_size layout.page (len / layout.block_size) }
     ensures errors { IfErr result (λ e. (e ≡ Error.Invalid) ⊎ (e ≡ Error.NoMemory)) }
 {
-    let geometry = geometry_of_image_length(len as usize, layout)?;
+    let geometry = geometry_of_length(len as usize, layout)?;
     SparseDevice::new(alloc, geometry)
 }
 
 // Mounts the image of a device. Which rule it breaks isn't handed on.
 fn mount_thread<D: BlockDevice>(alloc: Global, device: D) -> Result<Thread<D>, (D, Error)>
-    ensures mounted { IfOk result (λ t. IsMountedThread (disk_in_order t.kept.disk.order (disk_of_device D.BlockDevice device)) (D.history device) t) }
-    ensures corrupt { IfErr result (λ e. e.1 ≡ Error.Corrupt → (order : NameOrder) (ps : List Pair) → ¬ IsAcceptedImage (disk_in_order order (disk_of_device D.BlockDevice device)) ps) }
-    ensures errors { IfErr result (λ e. IsIoCorruptOrNoMemory e.1) }
+    ensures mounted { IfOk result (λ t. IsMountedOn (ordered_disk t.kept.disk.order (disk_of_device D.BlockDevice device)) (D.history device) t) }
+    ensures corrupt { IfErr result (λ e. e.1 ≡ Error.Corrupt → (order : NameOrder) (ps : List Pair) → ¬ IsAccepted (ordered_disk order (disk_of_device D.BlockDevice device)) ps) }
+    ensures errors { IfErr result (λ e. IsErrorOfMount e.1) }
     ensures back { IfErr result (λ e. GivesDeviceBackOnlyReadWithError D.BlockDevice device e.0 e.1) }
 {
     match mount(alloc, device) {
@@ -88,13 +88,13 @@ fn mount_thread<D: BlockDevice>(alloc: Global, device: D) -> Result<Thread<D>, (
 
 // Returns the thread of an image that is accepted in one of the orders of names, and all entries of
 // the image.
-pub(crate) fn tree_items_of_device<D: BlockDevice>(
+pub(crate) fn tree_items_of<D: BlockDevice>(
     alloc: Global,
     device: D,
 ) -> Result<(Thread<D>, Vec<TreeItem>), (D, Error)>
-    ensures items { IfOk result (λ found. IsThreadWithEntriesOfTreeWalk (disk_of_device D.BlockDevice device) found.0 (tree_items_view found.1.items)) }
-    ensures corrupt { IfErr result (λ e. e.1 ≡ Error.Corrupt → (order : NameOrder) (ps : List Pair) → ¬ IsAcceptedImage (disk_in_order order (disk_of_device D.BlockDevice device)) ps) }
-    ensures errors { IfErr result (λ e. IsIoCorruptOrNoMemory e.1) }
+    ensures items { IfOk result (λ found. IsWalkedThread (disk_of_device D.BlockDevice device) found.0 (tree_items_view found.1.items)) }
+    ensures corrupt { IfErr result (λ e. e.1 ≡ Error.Corrupt → (order : NameOrder) (ps : List Pair) → ¬ IsAccepted (ordered_disk order (disk_of_device D.BlockDevice device)) ps) }
+    ensures errors { IfErr result (λ e. IsErrorOfMount e.1) }
     ensures back { IfErr result (λ e. GivesDeviceBackOnlyReadWithError D.BlockDevice device e.0 e.1) }
 {
     let mut thread = mount_thread(alloc, device)?;
@@ -105,14 +105,14 @@ pub(crate) fn tree_items_of_device<D: BlockDevice>(
 }
 
 // Returns the thread and the entries of a device in memory.
-pub(crate) fn tree_items_of_ram_device(
+pub(crate) fn ram_tree_items(
     alloc: Global,
     device: RamDevice,
 ) -> Result<(Thread<RamDevice>, Vec<TreeItem>), Error>
-    ensures items { IfOk result (λ found. IsThreadWithEntriesOfTreeWalk (shown (geometry_of_ram_device device) (ram_blocks device)) found.0 (tree_items_view found.1.items)) }
-    ensures err { IfErr result (IsMountErrorOfDisk (shown (geometry_of_ram_device device) (ram_blocks device))) }
+    ensures items { IfOk result (λ found. IsWalkedThread (shown (ram_geometry device) (ram_blocks device)) found.0 (tree_items_view found.1.items)) }
+    ensures err { IfErr result (IsMountError (shown (ram_geometry device) (ram_blocks device))) }
 {
-    match tree_items_of_device(alloc, device) {
+    match tree_items_of(alloc, device) {
         Ok(found) => Ok(found),
         Err((_device, error)) => Err(error),
     }

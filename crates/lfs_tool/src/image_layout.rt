@@ -1,7 +1,7 @@
 // The layout of an image.
 
 ghost use Rattle.std.specs.Prelude.{◌≡◌};
-ghost use Rattle.lfs_model.specs.Disk.{default_profile};
+ghost use Rattle.lfs_model.specs.format.Disk.{default_profile};
 
 use lfs_device::Profile;
 

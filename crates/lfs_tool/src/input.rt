@@ -1,8 +1,8 @@
 // Whole images from readers.
 
 ghost use Rattle.std.specs.Prelude.{◌≡◌, ◌+◌, ◌≤◌, IfErr, IfOk, IfSome, OnOk, length, take};
-ghost use Rattle.lfs_tool.specs.KnownBytes.{IsErrorOfReaderFaultOrNoMemory};
-ghost use Rattle.lfs_tool.specs.Reports.{IsReadToEndOrPastImageLimit};
+ghost use Rattle.lfs_tool.specs.KnownBytes.{IsReaderError};
+ghost use Rattle.lfs_tool.specs.Reports.{IsReadToEnd};
 
 use crate::{ImageInput, ToolError};
 use lfs_device::Error;
@@ -19,9 +19,9 @@ pub(crate) const IMAGE_MAX: usize = 268_435_456;
 pub fn read_image<R: ImageInput>(alloc: Global, image: &mut R) -> Result<Vec<u8>, ToolError>
     ensures bytes { IfOk result (λ v. IfSome (R.remaining image.old) (λ bytes. v.items ≡ take (IMAGE_MAX + 1) bytes)) }
     ensures bound { IfOk result (λ v. length v.items ≤ IMAGE_MAX + 1) }
-    ensures read { OnOk result (IsReadToEndOrPastImageLimit (R.remaining image.old) (R.remaining image.new)) }
+    ensures read { OnOk result (IsReadToEnd (R.remaining image.old) (R.remaining image.new)) }
     ensures kept { OnOk result (R.faults image.new ≡ R.faults image.old) }
-    ensures err { IfErr result (λ e. IsErrorOfReaderFaultOrNoMemory e (R.faults image.old) (R.faults image.new)) }
+    ensures err { IfErr result (λ e. IsReaderError e (R.faults image.old) (R.faults image.new)) }
 {
     let mut bytes = Vec::new(alloc);
     let mut buffer = [0u8; 65536];

@@ -1,20 +1,20 @@
 // Whether an image is accepted, and with what, or why not.
 
 ghost use Rattle.std.specs.Prelude.{◌≡◌, ◌≢◌, ◌↔◌, ◌⊎◌, IfErr, IfOk, IsTrue, false};
-ghost use Rattle.lfs_device.specs.RamDevice.{ram_blocks, geometry_of_ram_device};
-ghost use Rattle.lfs_device.specs.Shown.{disk_of_geometry_and_blocks};
-ghost use Rattle.lfs_model.specs.Disk.{disk_in_order};
-ghost use Rattle.lfs_model.specs.Violations.{Breaks};
-ghost use Rattle.lfs_mount.specs.TrueViolation.{HasTrueViolation};
+ghost use Rattle.lfs_device.specs.RamDevice.{ram_blocks, ram_geometry};
+ghost use Rattle.lfs_device.specs.DeviceDisk.{disk_of_blocks};
+ghost use Rattle.lfs_model.specs.format.Disk.{ordered_disk};
+ghost use Rattle.lfs_model.specs.layers.Violations.{Breaks};
+ghost use Rattle.lfs_mount.specs.TrueViolation.{IsTrueViolation};
 ghost use Rattle.lfs_thread.specs.MountErrors.{error_of_mount};
-ghost use Rattle.lfs_tool.specs.ImageSummaries.{HasAcceptedNameOrders, IsAcceptedInNameOrder};
-ghost use Rattle.lfs_tool.specs.Verdict.{BreaksInSomeOrder, IsAcceptedInNoNameOrder, IsVerdictOnDisk};
-ghost use Rattle.lfs_model.specs.BlockSets.{AreExactlyTheUsedBlocks};
-ghost use Rattle.lfs_model.specs.Shown.{used_blocks};
-ghost use Rattle.lfs_model.specs.View.{IsAcceptedImage};
+ghost use Rattle.lfs_tool.specs.ImageSummaries.{HasAcceptedOrders, IsAcceptedInOrder};
+ghost use Rattle.lfs_tool.specs.Verdict.{BreaksInSome, IsInNoOrder, IsDiskVerdict};
+ghost use Rattle.lfs_model.specs.layers.BlockSets.{AreUsed};
+ghost use Rattle.lfs_model.specs.tree.Shown.{used_blocks};
+ghost use Rattle.lfs_model.specs.tree.View.{IsAccepted};
 ghost use Rattle.lfs_model.specs.declared.order.NameOrder.TheVariants.{LongerFirst, ShorterFirst};
 
-use crate::summaries::image_summary_of_thread;
+use crate::summaries::summary_of_thread;
 use crate::verdict::{AcceptedOrders, BrokenRule, ImageVerdict};
 use crate::violation_lines::broken_rule;
 use lfs_device::{Error, RamDevice};
@@ -24,12 +24,12 @@ use lfs_thread::Thread;
 use std::alloc::Global;
 
 // Returns whether the image of a device is accepted with its names in that order.
-fn is_accepted_in_name_order(
+fn accepts_order(
     alloc: Global,
     device: RamDevice,
     order: NameOrder,
 ) -> Result<bool, Error>
-    ensures is { IfOk result (λ b. IsTrue b ↔ IsAcceptedInNameOrder order (disk_of_geometry_and_blocks (geometry_of_ram_device device) (ram_blocks device))) }
+    ensures is { IfOk result (λ b. IsTrue b ↔ IsAcceptedInOrder order (disk_of_blocks (ram_geometry device) (ram_blocks device))) }
     ensures err { IfErr result (λ e. e ≡ Error.NoMemory) }
 {
     match mount_in_order(alloc, device, order) {
@@ -46,15 +46,15 @@ fn accepted_name_orders(
     device: RamDevice,
     first: NameOrder,
 ) -> Result<AcceptedOrders, Error>
-    requires first { IsAcceptedInNameOrder first (disk_of_geometry_and_blocks (geometry_of_ram_device device) (ram_blocks device)) }
-    requires longer { first ≡ ShorterFirst → ¬ IsAcceptedInNameOrder LongerFirst (disk_of_geometry_and_blocks (geometry_of_ram_device device) (ram_blocks device)) }
-    ensures orders { IfOk result (HasAcceptedNameOrders (disk_of_geometry_and_blocks (geometry_of_ram_device device) (ram_blocks device))) }
+    requires first { IsAcceptedInOrder first (disk_of_blocks (ram_geometry device) (ram_blocks device)) }
+    requires longer { first ≡ ShorterFirst → ¬ IsAcceptedInOrder LongerFirst (disk_of_blocks (ram_geometry device) (ram_blocks device)) }
+    ensures orders { IfOk result (HasAcceptedOrders (disk_of_blocks (ram_geometry device) (ram_blocks device))) }
     ensures err { IfErr result (λ e. e ≡ Error.NoMemory) }
 {
     match first {
         NameOrder::ShorterFirst => Ok(AcceptedOrders::ShorterFirst),
         NameOrder::LongerFirst => {
-            if is_accepted_in_name_order(alloc, device, NameOrder::ShorterFirst)? {
+            if accepts_order(alloc, device, NameOrder::ShorterFirst)? {
                 Ok(AcceptedOrders::Either)
             } else {
                 Ok(AcceptedOrders::LongerFirst)
@@ -64,7 +64,7 @@ fn accepted_name_orders(
 }
 
 // Returns whether a rule is that names rise.
-fn is_rule_of_names(violation: Violation) -> bool {
+fn concerns_names(violation: Violation) -> bool {
     match violation {
         Violation::Names { .. } => true,
         _ => false,
@@ -76,7 +76,7 @@ fn is_rule_of_names(violation: Violation) -> bool {
 fn rule_to_tell(longer: Violation, shorter: Violation) -> Violation
     ensures { (result ≡ longer) ⊎ (result ≡ shorter) }
 {
-    if is_rule_of_names(longer) && !is_rule_of_names(shorter) {
+    if concerns_names(longer) && !concerns_names(shorter) {
         shorter
     } else {
         longer
@@ -85,16 +85,16 @@ fn rule_to_tell(longer: Violation, shorter: Violation) -> Violation
 
 // Returns the rule that the image of a device breaks. With longer names first it breaks the rule `longer`, and
 // a mount with shorter names first met this error.
-fn rule_by_both_orders(
+fn rule_of_both(
     alloc: Global,
     device: RamDevice,
     longer: Violation,
     error: MountError,
 ) -> Result<BrokenRule, Error>
-    requires longer { Breaks (disk_in_order LongerFirst (disk_of_geometry_and_blocks (geometry_of_ram_device device) (ram_blocks device))) longer }
-    requires shorter { HasTrueViolation (disk_in_order ShorterFirst (disk_of_geometry_and_blocks (geometry_of_ram_device device) (ram_blocks device))) error }
+    requires longer { Breaks (ordered_disk LongerFirst (disk_of_blocks (ram_geometry device) (ram_blocks device))) longer }
+    requires shorter { IsTrueViolation (ordered_disk ShorterFirst (disk_of_blocks (ram_geometry device) (ram_blocks device))) error }
     requires no_fault { error ≢ MountError.Io }
-    ensures broken { IfOk result (λ rule. BreaksInSomeOrder (disk_of_geometry_and_blocks (geometry_of_ram_device device) (ram_blocks device)) rule.violation) }
+    ensures broken { IfOk result (λ rule. BreaksInSome (disk_of_blocks (ram_geometry device) (ram_blocks device)) rule.violation) }
     ensures err { IfErr result (λ e. e ≡ Error.NoMemory) }
 {
     match error {
@@ -108,20 +108,20 @@ fn rule_by_both_orders(
 
 // Returns the rule that the image of a device breaks. It is accepted in neither order of names, and with longer
 // names first it breaks the rule `longer`.
-fn broken_rule_of_device(
+fn broken_rule_of(
     alloc: Global,
     device: RamDevice,
     longer: Violation,
 ) -> Result<BrokenRule, Error>
-    requires refused { IsAcceptedInNoNameOrder (disk_of_geometry_and_blocks (geometry_of_ram_device device) (ram_blocks device)) }
-    requires longer { Breaks (disk_in_order LongerFirst (disk_of_geometry_and_blocks (geometry_of_ram_device device) (ram_blocks device))) longer }
-    ensures broken { IfOk result (λ rule. BreaksInSomeOrder (disk_of_geometry_and_blocks (geometry_of_ram_device device) (ram_blocks device)) rule.violation) }
+    requires refused { IsInNoOrder (disk_of_blocks (ram_geometry device) (ram_blocks device)) }
+    requires longer { Breaks (ordered_disk LongerFirst (disk_of_blocks (ram_geometry device) (ram_blocks device))) longer }
+    ensures broken { IfOk result (λ rule. BreaksInSome (disk_of_blocks (ram_geometry device) (ram_blocks device)) rule.violation) }
     ensures err { IfErr result (λ e. e ≡ Error.NoMemory) }
 {
     match mount_in_order(alloc, device, NameOrder::ShorterFirst) {
         // The image is accepted in neither order.
         Ok(_thread) => unreachable!(),
-        Err((device, error)) => rule_by_both_orders(alloc, device, longer, error),
+        Err((device, error)) => rule_of_both(alloc, device, longer, error),
     }
 }
 
@@ -131,15 +131,15 @@ fn judge_refused_image(
     device: RamDevice,
     error: MountError,
 ) -> Result<ImageVerdict, Error>
-    requires refused { error_of_mount error ≡ Error.Corrupt → IsAcceptedInNoNameOrder (disk_of_geometry_and_blocks (geometry_of_ram_device device) (ram_blocks device)) }
-    requires longer { HasTrueViolation (disk_in_order LongerFirst (disk_of_geometry_and_blocks (geometry_of_ram_device device) (ram_blocks device))) error }
+    requires refused { error_of_mount error ≡ Error.Corrupt → IsInNoOrder (disk_of_blocks (ram_geometry device) (ram_blocks device)) }
+    requires longer { IsTrueViolation (ordered_disk LongerFirst (disk_of_blocks (ram_geometry device) (ram_blocks device))) error }
     requires no_fault { error ≢ MountError.Io }
-    ensures verdict { IfOk result (IsVerdictOnDisk (disk_of_geometry_and_blocks (geometry_of_ram_device device) (ram_blocks device))) }
+    ensures verdict { IfOk result (IsDiskVerdict (disk_of_blocks (ram_geometry device) (ram_blocks device))) }
     ensures err { IfErr result (λ e. e ≡ Error.NoMemory) }
 {
     match error {
         MountError::Corrupt(violation) => {
-            let rule = broken_rule_of_device(alloc, device, violation)?;
+            let rule = broken_rule_of(alloc, device, violation)?;
             Ok(ImageVerdict::Refused(rule))
         }
         error => Err(error.into()),
@@ -149,13 +149,13 @@ fn judge_refused_image(
 // Returns what a mounted image has.
 fn judge_thread(alloc: Global, mut thread: Thread<RamDevice>) -> Result<ImageVerdict, Error>
     requires works { thread.failed ≡ false }
-    requires accepted { IsAcceptedImage thread.kept.disk thread.kept.pairs }
-    requires used { AreExactlyTheUsedBlocks thread.kept.map (used_blocks thread.kept.disk thread.kept.pairs) }
-    requires longer { thread.kept.disk.order ≡ ShorterFirst → ¬ IsAcceptedInNameOrder LongerFirst thread.kept.disk }
-    ensures verdict { IfOk result (IsVerdictOnDisk (disk_in_order LongerFirst thread.kept.disk)) }
+    requires accepted { IsAccepted thread.kept.disk thread.kept.pairs }
+    requires used { AreUsed thread.kept.map (used_blocks thread.kept.disk thread.kept.pairs) }
+    requires longer { thread.kept.disk.order ≡ ShorterFirst → ¬ IsAcceptedInOrder LongerFirst thread.kept.disk }
+    ensures verdict { IfOk result (IsDiskVerdict (ordered_disk LongerFirst thread.kept.disk)) }
     ensures err { IfErr result (λ e. e ≡ Error.NoMemory) }
 {
-    let Ok(summary) = image_summary_of_thread(alloc, &mut thread) else {
+    let Ok(summary) = summary_of_thread(alloc, &mut thread) else {
         // The device has no fault, so memory ran out.
         return Err(Error::NoMemory);
     };
@@ -169,8 +169,8 @@ fn judge_thread(alloc: Global, mut thread: Thread<RamDevice>) -> Result<ImageVer
 /// Where it isn't accepted, a rule that it breaks is named.
 ///
 /// Errors: `NoMemory` where memory isn't granted.
-pub fn judge_image_on_device(alloc: Global, device: RamDevice) -> Result<ImageVerdict, Error>
-    ensures verdict { IfOk result (IsVerdictOnDisk (disk_of_geometry_and_blocks (geometry_of_ram_device device) (ram_blocks device))) }
+pub fn judge_device(alloc: Global, device: RamDevice) -> Result<ImageVerdict, Error>
+    ensures verdict { IfOk result (IsDiskVerdict (disk_of_blocks (ram_geometry device) (ram_blocks device))) }
     ensures err { IfErr result (λ e. e ≡ Error.NoMemory) }
 {
     match mount(alloc, device) {

@@ -36,28 +36,28 @@ mod writer;
 mod wrong_number;
 
 pub use check_result::{CheckResult, GivenSizes, RefusalReason};
-pub use checked_lines::lines_of_check_result;
-pub use creation::{create, new_image_of_entries};
+pub use checked_lines::check_result_lines;
+pub use creation::{create, new_image};
 pub use error_lines::report;
 pub use errors::{Fault, ToolError};
-pub use examination::check_result_of_image;
+pub use examination::result_of_image;
 pub use image_checks::check;
-pub use image_devices::{ram_device_of_image, sparse_device_of_image};
+pub use image_devices::{ram_device_of, sparse_device_of};
 pub use image_layout::ImageLayout;
 pub use input::read_image;
-pub use judgement::judge_image_on_device;
+pub use judgement::judge_device;
 pub use lfs_lookup::push_escaped_path;
 pub use lfs_tool_line::{
     Extras, Limit, Line, LineError, Misuse, Mode, Request, read_line, read_request,
 };
-pub use listings::{list, listing_lines_of_device};
+pub use listings::{list, lines_of_device};
 pub use loaded_block::LoadedBlock;
-pub use output::write_bytes_and_flush;
+pub use output::write_and_flush;
 pub use progress::{FilesAndBytes, FollowsProgress};
 pub use reader::ImageInput;
-pub use sizes::geometry_of_image_sizes;
+pub use sizes::geometry_of_sizes;
 pub use sparse::{MissingBytes, SparseDevice};
-pub use superblocks::{superblock_in_image, wrong_superblock_number_in_image};
+pub use superblocks::{image_superblock_at, image_wrong_number};
 pub use unpacked_images::unpack;
 pub use verdict::{AcceptedOrders, BrokenRule, ImageSummary, ImageVerdict};
 pub use watched_stream::WatchedStream;

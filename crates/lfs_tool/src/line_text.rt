@@ -12,7 +12,7 @@ use lfs_device::Error;
 pub(crate) type LineText = ArrayString<32>;
 
 // Makes a line with this text.
-pub(crate) fn line_text_of_str(text: &str) -> LineText
+pub(crate) fn text_of_str(text: &str) -> LineText
     requires { length text.now ≤ 32 }
     ensures { result.bytes ≡ text.now }
 {
@@ -32,7 +32,7 @@ fn push_digit(line: &mut LineText, digit: u32)
 
 // Adds a number below 100.
 #[tactic(auto, using(crate::proofs::Decimals::decimal_first, crate::proofs::Decimals::decimal_second))]
-fn push_number_below_100(line: &mut LineText, number: u32)
+fn push_two_digits(line: &mut LineText, number: u32)
     requires small { number < 100 }
     requires room { array_string_len line.old + 5 ≤ 32 }
     ensures decimal { line.new.bytes ≡ line.old.bytes ++ decimal number }
@@ -55,18 +55,18 @@ fn push_number(line: &mut LineText, number: u32)
     ensures len { array_string_len line.new ≤ array_string_len line.old + 3 }
 {
     if number < 100 {
-        push_number_below_100(line, number);
+        push_two_digits(line, number);
     } else {
-        push_number_below_100(line, number / 10);
+        push_two_digits(line, number / 10);
         push_digit(line, number % 10);
     }
 }
 
 // Returns the line for an error of the file system.
-pub(crate) fn line_text_of_library_error(error: Error) -> LineText
+pub(crate) fn text_of_error(error: Error) -> LineText
     ensures { result.bytes ≡ error_line error }
 {
-    let mut line = line_text_of_str("error: ");
+    let mut line = text_of_str("error: ");
     line.push_str(error.name());
     line.push_str(" (");
     push_number(&mut line, error.number());

@@ -1,8 +1,8 @@
 // The lines that list an image.
 
 ghost use Rattle.std.specs.Prelude.{◌≡◌, ◌++◌, IfOk, None, OnOk, Some};
-ghost use Rattle.lfs_tool.specs.Listings.{listing_line_of_tree_entry, listing_line_of_path, listing_lines_of_tree_entries};
-ghost use Rattle.lfs_lookup.specs.Walk.{tree_item_view, tree_items_view};
+ghost use Rattle.lfs_tool.specs.Listings.{tree_entry_line, path_line, tree_entry_lines};
+ghost use Rattle.lfs_lookup.specs.TreeWalk.{tree_item_view, tree_items_view};
 
 use lfs_lookup::{OwnedStruct, TreeItem, push_escaped_path};
 use std::alloc::{AllocError, Global};
@@ -10,7 +10,7 @@ use std::io::Write;
 
 // Adds the line of a file, with its size in bytes.
 fn push_file_line(text: &mut Vec<u8>, size: usize, path: &[u8]) -> Result<(), AllocError>
-    ensures { OnOk result (text.new.items ≡ text.old.items ++ listing_line_of_path (Some size) path.now) }
+    ensures { OnOk result (text.new.items ≡ text.old.items ++ path_line (Some size) path.now) }
 {
     if write!(text, "f {} ", size).is_err() {
         return Err(AllocError);
@@ -22,7 +22,7 @@ fn push_file_line(text: &mut Vec<u8>, size: usize, path: &[u8]) -> Result<(), Al
 
 // Adds the line of a directory.
 fn push_directory_line(text: &mut Vec<u8>, path: &[u8]) -> Result<(), AllocError>
-    ensures { OnOk result (text.new.items ≡ text.old.items ++ listing_line_of_path None path.now) }
+    ensures { OnOk result (text.new.items ≡ text.old.items ++ path_line None path.now) }
 {
     text.extend_from_slice(b"d 0 ")?;
     push_escaped_path(text, path)?;
@@ -31,8 +31,8 @@ fn push_directory_line(text: &mut Vec<u8>, path: &[u8]) -> Result<(), AllocError
 }
 
 // Adds the line of an entry that was found.
-fn push_listing_line_of_item(text: &mut Vec<u8>, found: &TreeItem) -> Result<(), AllocError>
-    ensures { OnOk result (text.new.items ≡ text.old.items ++ listing_line_of_tree_entry (tree_item_view found.now)) }
+fn push_item_text(text: &mut Vec<u8>, found: &TreeItem) -> Result<(), AllocError>
+    ensures { OnOk result (text.new.items ≡ text.old.items ++ tree_entry_line (tree_item_view found.now)) }
 {
     match &found.structure {
         OwnedStruct::Inline(bytes) => push_file_line(text, bytes.len(), &found.path),
@@ -42,15 +42,15 @@ fn push_listing_line_of_item(text: &mut Vec<u8>, found: &TreeItem) -> Result<(),
 }
 
 // Returns the lines of the entries, in order.
-pub(crate) fn listing_lines_of_tree_items(
+pub(crate) fn tree_item_lines(
     alloc: Global,
     found: &[TreeItem],
 ) -> Result<Vec<u8>, AllocError>
-    ensures { IfOk result (λ text. text.items ≡ listing_lines_of_tree_entries (tree_items_view found.now)) }
+    ensures { IfOk result (λ text. text.items ≡ tree_entry_lines (tree_items_view found.now)) }
 {
     let mut text = Vec::new(alloc);
     for one in found {
-        push_listing_line_of_item(&mut text, one)?;
+        push_item_text(&mut text, one)?;
     }
     Ok(text)
 }

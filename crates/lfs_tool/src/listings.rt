@@ -1,22 +1,22 @@
 ghost use Rattle.std.specs.Prelude.{◌≡◌, ◌<◌, ◌^◌, List, IfErr, IfOk, IfSome, IsErrOf, OnOk, length};
 ghost use Rattle.std.specs.Io.KnownBytes.{Appends};
-ghost use Rattle.lfs_device.specs.RamDevice.{ram_blocks, geometry_of_ram_device};
-ghost use Rattle.lfs_device.specs.Shown.{disk_of_geometry_and_blocks as shown};
-ghost use Rattle.lfs_model.specs.Disk.{disk_in_order};
-ghost use Rattle.lfs_model.specs.History.{fault_count_of_history};
-ghost use Rattle.lfs_model.specs.Thread.{Pair};
-ghost use Rattle.lfs_model.specs.View.{IsAcceptedImage};
+ghost use Rattle.lfs_device.specs.RamDevice.{ram_blocks, ram_geometry};
+ghost use Rattle.lfs_device.specs.DeviceDisk.{disk_of_blocks as shown};
+ghost use Rattle.lfs_model.specs.format.Disk.{ordered_disk};
+ghost use Rattle.lfs_model.specs.session.History.{fault_count};
+ghost use Rattle.lfs_model.specs.format.Thread.{Pair};
+ghost use Rattle.lfs_model.specs.tree.View.{IsAccepted};
 ghost use Rattle.lfs_model.specs.declared.order.NameOrder.{NameOrder};
-ghost use Rattle.lfs_mount.specs.Device.{IsIoCorruptOrNoMemory};
+ghost use Rattle.lfs_mount.specs.MountFaults.{IsErrorOfMount};
 ghost use Rattle.lfs_thread.specs.Kept.{disk_of_device};
-ghost use Rattle.lfs_tool.specs.KnownBytes.{AppendsBeginningOfBytes, IsErrorOfReaderFaultOrListingRefusal, IsListingRefusal};
-ghost use Rattle.lfs_tool.specs.Reports.{IsReadToEndOrPastImageLimit, IsThisErrorExactlyIfOneCallFailed, ReportsWriterFaults};
-ghost use Rattle.lfs_tool.specs.Listings.{IsListingTextOfDisk, IsMountErrorOfDisk, IsListingTextOfImage, RefusesToList};
+ghost use Rattle.lfs_tool.specs.KnownBytes.{AppendsBeginning, IsListingError, IsListingRefusal};
+ghost use Rattle.lfs_tool.specs.Reports.{IsReadToEnd, ReportsOneFault, ReportsWriterFaults};
+ghost use Rattle.lfs_tool.specs.Listings.{IsListingOfDisk, IsMountError, IsListingOfImage, RefusesToList};
 
-use crate::image_devices::{ram_device_of_image, tree_items_of_device};
+use crate::image_devices::{ram_device_of, tree_items_of};
 use crate::input::read_image;
-use crate::lines::listing_lines_of_tree_items;
-use crate::output::write_bytes_and_flush;
+use crate::lines::tree_item_lines;
+use crate::output::write_and_flush;
 use crate::{ImageInput, ImageLayout, ToolError, ToolOutput};
 use lfs_device::{BlockDevice, Error, RamDevice};
 use std::alloc::Global;
@@ -29,63 +29,63 @@ use std::alloc::Global;
 /// - `Io` where a read failed.
 /// - `NoMemory` where memory isn't granted.
 /// - `Corrupt` where the image is accepted in neither order of names.
-pub fn listing_lines_of_device<D: BlockDevice + Drop>(
+pub fn lines_of_device<D: BlockDevice + Drop>(
     alloc: Global,
     device: D,
 ) -> Result<Vec<u8>, (D, Error)>
-    ensures lines { IfOk result (λ text. (order : NameOrder) × IsListingTextOfDisk (disk_in_order order (disk_of_device D.BlockDevice device)) text.items) }
-    ensures corrupt { IfErr result (λ e. e.1 ≡ Error.Corrupt → (order : NameOrder) (ps : List Pair) → ¬ IsAcceptedImage (disk_in_order order (disk_of_device D.BlockDevice device)) ps) }
-    ensures errors { IfErr result (λ e. IsIoCorruptOrNoMemory e.1) }
-    ensures fault { IfErr result (λ e. e.1 ≡ Error.Io → fault_count_of_history (D.history device) < fault_count_of_history (D.history e.0)) }
+    ensures lines { IfOk result (λ text. (order : NameOrder) × IsListingOfDisk (ordered_disk order (disk_of_device D.BlockDevice device)) text.items) }
+    ensures corrupt { IfErr result (λ e. e.1 ≡ Error.Corrupt → (order : NameOrder) (ps : List Pair) → ¬ IsAccepted (ordered_disk order (disk_of_device D.BlockDevice device)) ps) }
+    ensures errors { IfErr result (λ e. IsErrorOfMount e.1) }
+    ensures fault { IfErr result (λ e. e.1 ≡ Error.Io → fault_count (D.history device) < fault_count (D.history e.0)) }
 {
-    let (thread, items) = tree_items_of_device(alloc, device)?;
-    match listing_lines_of_tree_items(alloc, &items) {
+    let (thread, items) = tree_items_of(alloc, device)?;
+    match tree_item_lines(alloc, &items) {
         Ok(text) => Ok(text),
         Err(_) => Err((thread.into_device(), Error::NoMemory)),
     }
 }
 
 // Returns the lines of a device in memory.
-fn listing_lines_of_ram_device(alloc: Global, device: RamDevice) -> Result<Vec<u8>, Error>
-    ensures lines { IfOk result (λ text. (order : NameOrder) × IsListingTextOfDisk (disk_in_order order (shown (geometry_of_ram_device device) (ram_blocks device))) text.items) }
-    ensures err { IfErr result (IsMountErrorOfDisk (shown (geometry_of_ram_device device) (ram_blocks device))) }
+fn lines_of_ram(alloc: Global, device: RamDevice) -> Result<Vec<u8>, Error>
+    ensures lines { IfOk result (λ text. (order : NameOrder) × IsListingOfDisk (ordered_disk order (shown (ram_geometry device) (ram_blocks device))) text.items) }
+    ensures err { IfErr result (IsMountError (shown (ram_geometry device) (ram_blocks device))) }
 {
-    match listing_lines_of_device(alloc, device) {
+    match lines_of_device(alloc, device) {
         Ok(text) => Ok(text),
         Err((_device, error)) => Err(error),
     }
 }
 
 // Returns the lines of the bytes of an image.
-fn listing_lines_of_image(
+fn lines_of_image(
     alloc: Global,
     image: Vec<u8>,
     layout: ImageLayout,
 ) -> Result<Vec<u8>, Error>
     requires { length image.items < 2 ^ 32 }
-    ensures ok { IfOk result (λ text. IsListingTextOfImage layout image.items text.items) }
+    ensures ok { IfOk result (λ text. IsListingOfImage layout image.items text.items) }
     ensures err { IfErr result (RefusesToList layout image.items) }
 {
-    match ram_device_of_image(image, layout) {
-        Ok(device) => listing_lines_of_ram_device(alloc, device),
+    match ram_device_of(image, layout) {
+        Ok(device) => lines_of_ram(alloc, device),
         Err(error) => Err(error),
     }
 }
 
 // Returns the lines of an image.
-fn read_image_as_listing_lines<R: ImageInput>(
+fn read_as_lines<R: ImageInput>(
     alloc: Global,
     image: &mut R,
     layout: ImageLayout,
 ) -> Result<Vec<u8>, ToolError>
-    ensures ok { IfOk result (λ text. IfSome (R.remaining image.old) (λ bytes. IsListingTextOfImage layout bytes text.items)) }
+    ensures ok { IfOk result (λ text. IfSome (R.remaining image.old) (λ bytes. IsListingOfImage layout bytes text.items)) }
     ensures refused { (e : _) → IsErrOf result (ToolError.Fs e) → IfSome (R.remaining image.old) (λ bytes. RefusesToList layout bytes e) }
     ensures kept { OnOk result (R.faults image.new ≡ R.faults image.old) }
-    ensures failed { IfErr result (λ e. IsErrorOfReaderFaultOrListingRefusal e (R.faults image.old) (R.faults image.new)) }
-    ensures read { ¬ IsErrOf result ToolError.Input → ¬ IsErrOf result (ToolError.Fs Error.NoMemory) → IsReadToEndOrPastImageLimit (R.remaining image.old) (R.remaining image.new) }
+    ensures failed { IfErr result (λ e. IsListingError e (R.faults image.old) (R.faults image.new)) }
+    ensures read { ¬ IsErrOf result ToolError.Input → ¬ IsErrOf result (ToolError.Fs Error.NoMemory) → IsReadToEnd (R.remaining image.old) (R.remaining image.new) }
 {
     let bytes = read_image(alloc, image)?;
-    match listing_lines_of_image(alloc, bytes, layout) {
+    match lines_of_image(alloc, bytes, layout) {
         Ok(text) => Ok(text),
         Err(error) => Err(ToolError::Fs(error)),
     }
@@ -115,18 +115,18 @@ pub fn list<R: ImageInput, W: ToolOutput>(
     out: &mut W,
 ) -> Result<(), ToolError>
     ensures ok { OnOk result (IfSome (R.remaining image.old) (λ bytes.
-        (text : _) × (IsListingTextOfImage layout bytes text × Appends (W.contents out.old) (W.contents out.new) text))) }
+        (text : _) × (IsListingOfImage layout bytes text × Appends (W.contents out.old) (W.contents out.new) text))) }
 
     // Where the writer fails, a beginning of the lines may be written.
     ensures writer { ReportsWriterFaults W.ToolOutput out.old out.new result }
     ensures beginning { IsErrOf result ToolError.Output → IfSome (R.remaining image.old) (λ bytes.
-        (text : _) × (IsListingTextOfImage layout bytes text × AppendsBeginningOfBytes (W.contents out.old) (W.contents out.new) text)) }
+        (text : _) × (IsListingOfImage layout bytes text × AppendsBeginning (W.contents out.old) (W.contents out.new) text)) }
 
     // When each other error comes.
     ensures refused { (e : _) → IsErrOf result (ToolError.Fs e) → IsListingRefusal e × IfSome (R.remaining image.old) (λ bytes. RefusesToList layout bytes e) }
-    ensures input { IsThisErrorExactlyIfOneCallFailed ToolError.Input (R.faults image.old) (R.faults image.new) result }
-    ensures read { ¬ IsErrOf result ToolError.Input → ¬ IsErrOf result (ToolError.Fs Error.NoMemory) → IsReadToEndOrPastImageLimit (R.remaining image.old) (R.remaining image.new) }
+    ensures input { ReportsOneFault ToolError.Input (R.faults image.old) (R.faults image.new) result }
+    ensures read { ¬ IsErrOf result ToolError.Input → ¬ IsErrOf result (ToolError.Fs Error.NoMemory) → IsReadToEnd (R.remaining image.old) (R.remaining image.new) }
 {
-    let text = read_image_as_listing_lines(alloc, image, layout)?;
-    write_bytes_and_flush(out, text.as_slice())
+    let text = read_as_lines(alloc, image, layout)?;
+    write_and_flush(out, text.as_slice())
 }

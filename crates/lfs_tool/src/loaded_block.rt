@@ -1,5 +1,5 @@
 ghost use Rattle.std.specs.Prelude.{◌≡◌, ◌≤◌, ◌+◌, length, slice_range, true};
-ghost use Rattle.lfs_device.specs.Bytes.{AreAllNumbersBytes};
+ghost use Rattle.lfs_device.specs.Bytes.{ElementsAreBytes};
 
 /// A block of which the first bytes are loaded, or all, or none.
 #[derive(Drop)]
@@ -7,11 +7,11 @@ pub struct LoadedBlock {
     size: usize,
     bytes: Vec<u8>,
     ghost fits: { length bytes.items ≤ size },
-    ghost are_bytes: { AreAllNumbersBytes bytes.items },
+    ghost are_bytes: { ElementsAreBytes bytes.items },
 }
 
 impl LoadedBlock {
-    ghost use Rattle.lfs_tool.specs.LoadedBlocks.{bytes_of_loaded_block};
+    ghost use Rattle.lfs_tool.specs.LoadedBlocks.{loaded_block_bytes};
 
     // Makes a block of this size that begins with these bytes.
     pub(crate) fn new(size: usize, bytes: Vec<u8>) -> LoadedBlock
@@ -30,7 +30,7 @@ impl LoadedBlock {
     // Fills the buffer with the block's bytes from an offset on, where they are loaded. Returns whether they are.
     pub(crate) fn read(&self, off: usize, buf: &mut [u8]) -> bool
         requires { off + length buf.old ≤ self.now.size }
-        ensures { result ≡ true → buf.new ≡ slice_range (bytes_of_loaded_block self.now) off (off + length buf.old) }
+        ensures { result ≡ true → buf.new ≡ slice_range (loaded_block_bytes self.now) off (off + length buf.old) }
     {
         let end = off + buf.len();
         if end > self.bytes.len() {

@@ -2,7 +2,7 @@
 
 ghost use Rattle.std.specs.Prelude.{◌≡◌, OnErr, OnOk, suc};
 ghost use Rattle.std.specs.Io.KnownBytes.{Appends};
-ghost use Rattle.lfs_tool.specs.KnownBytes.{AppendsBeginningOfBytes};
+ghost use Rattle.lfs_tool.specs.KnownBytes.{AppendsBeginning};
 
 use crate::{ToolError, ToolOutput};
 
@@ -10,9 +10,9 @@ use crate::{ToolError, ToolOutput};
 ///
 /// # Errors
 /// `Output` where the writer failed.
-pub fn write_bytes_and_flush<W: ToolOutput>(out: &mut W, bytes: &[u8]) -> Result<(), ToolError>
+pub fn write_and_flush<W: ToolOutput>(out: &mut W, bytes: &[u8]) -> Result<(), ToolError>
     ensures ok { OnOk result (Appends (W.contents out.old) (W.contents out.new) bytes.now) }
-    ensures beginning { AppendsBeginningOfBytes (W.contents out.old) (W.contents out.new) bytes.now }
+    ensures beginning { AppendsBeginning (W.contents out.old) (W.contents out.new) bytes.now }
     ensures kept { OnOk result (W.faults out.new ≡ W.faults out.old) }
     ensures failed { OnErr result ((result ≡ Err ToolError.Output) × (W.faults out.new ≡ suc (W.faults out.old))) }
 {
@@ -26,7 +26,7 @@ pub fn write_bytes_and_flush<W: ToolOutput>(out: &mut W, bytes: &[u8]) -> Result
 // Writes the bytes. After an error a beginning of them was written.
 fn write_bytes<W: ToolOutput>(out: &mut W, bytes: &[u8]) -> Result<(), ToolError>
     ensures ok { OnOk result (Appends (W.contents out.old) (W.contents out.new) bytes.now) }
-    ensures beginning { AppendsBeginningOfBytes (W.contents out.old) (W.contents out.new) bytes.now }
+    ensures beginning { AppendsBeginning (W.contents out.old) (W.contents out.new) bytes.now }
     ensures kept { OnOk result (W.faults out.new ≡ W.faults out.old) }
     ensures failed { OnErr result ((result ≡ Err ToolError.Output) × (W.faults out.new ≡ suc (W.faults out.old))) }
 {

@@ -1,9 +1,9 @@
 ghost use Rattle.std.specs.Prelude.{◌≡◌, ◌≤◌, ◌<◌, ◌+◌, ◌%◌, [], ◌∷◌, true, length, slice_range, is_err, IfErr, IfOk, IsErrOf, OnOk};
-ghost use Rattle.lfs_model.specs.Blocks.{block_bytes_by_number};
-ghost use Rattle.lfs_model.specs.History.{device_call_event_with_blocks, AreBytesUnprogrammed, AreBlocksLeftByNewestCall};
-ghost use Rattle.lfs_model.specs.History.DeviceCall.{Read, Program, Erase};
-ghost use Rattle.lfs_model.specs.Conformance.{DoSuccessfulCallsHaveOnlyTheirEffect};
-ghost use Rattle.lfs_tool.specs.LoadedBlocks.{AreLoadedBlocksOfSize, blocks_of_loaded_blocks};
+ghost use Rattle.lfs_model.specs.format.Blocks.{block_bytes};
+ghost use Rattle.lfs_model.specs.session.History.{call_event, AreUnprogrammed, LeftByLatest};
+ghost use Rattle.lfs_model.specs.session.History.DeviceCall.{Read, Program, Erase};
+ghost use Rattle.lfs_model.specs.crash.Conformance.{CallsConform};
+ghost use Rattle.lfs_tool.specs.LoadedBlocks.{AreLoadedOfSize, bytes_of_loaded};
 
 use crate::loaded_block::LoadedBlock;
 use lfs_device::{BlockDevice, Error, Geometry, Trace};
@@ -20,9 +20,9 @@ pub struct SparseDevice {
     missing: Option<MissingBytes>,
     trace: Trace,
     ghost count: { length blocks.items ≡ geometry.block_count },
-    ghost sizes: { AreLoadedBlocksOfSize geometry.block_size blocks.items },
-    ghost newest: { AreBlocksLeftByNewestCall trace.events (blocks_of_loaded_blocks blocks.items) },
-    ghost conforms: { DoSuccessfulCallsHaveOnlyTheirEffect trace.events },
+    ghost sizes: { AreLoadedOfSize geometry.block_size blocks.items },
+    ghost newest: { LeftByLatest trace.events (bytes_of_loaded blocks.items) },
+    ghost conforms: { CallsConform trace.events },
 }
 
 /// What a read asked for that isn't loaded: the beginning of a block, up to the end of what was to be read.
@@ -35,7 +35,7 @@ pub struct MissingBytes {
 // Makes blocks of which nothing is loaded.
 fn empty_blocks(alloc: Global, count: u32, size: u32) -> Result<Vec<LoadedBlock>, Error>
     ensures count { IfOk result (λ blocks. length blocks.items ≡ count) }
-    ensures sizes { IfOk result (λ blocks. AreLoadedBlocksOfSize size blocks.items) }
+    ensures sizes { IfOk result (λ blocks. AreLoadedOfSize size blocks.items) }
     ensures err { IfErr result (λ e. e ≡ Error.NoMemory) }
 {
     let mut blocks = Vec::new(alloc);
@@ -46,14 +46,14 @@ fn empty_blocks(alloc: Global, count: u32, size: u32) -> Result<Vec<LoadedBlock>
 }
 
 impl SparseDevice {
-    ghost use Rattle.lfs_tool.specs.SparseView.{geometry_of_sparse_device, call_history_of_sparse_device};
+    ghost use Rattle.lfs_tool.specs.SparseView.{sparse_geometry, sparse_history};
 
     /// Makes a device of this geometry of which nothing is loaded.
     ///
     /// Errors: `NoMemory` where memory for a word a block isn't granted.
     pub fn new(alloc: Global, geometry: Geometry) -> Result<SparseDevice, Error>
-        ensures geometry { IfOk result (λ d. geometry_of_sparse_device d ≡ geometry) }
-        ensures no_call { IfOk result (λ d. call_history_of_sparse_device d ≡ []) }
+        ensures geometry { IfOk result (λ d. sparse_geometry d ≡ geometry) }
+        ensures no_call { IfOk result (λ d. sparse_history d ≡ []) }
         ensures err { IfErr result (λ e. e ≡ Error.NoMemory) }
     {
         let blocks = empty_blocks(alloc, geometry.block_count, geometry.block_size)?;
@@ -61,14 +61,14 @@ impl SparseDevice {
             geometry,
             blocks,
             missing: None,
-            trace: Trace::with_history_chosen_by_proof(&geometry, &()),
+            trace: Trace::with_ghost_history(&geometry, &()),
         })
     }
 
     /// Returns the same device with these bytes as the beginning of a block, in place of what was loaded of it.
     /// Its history begins anew. There is no such block, or it is shorter: then nothing is changed.
     pub fn load(self, block: u32, bytes: Vec<u8>) -> SparseDevice
-        ensures geometry { geometry_of_sparse_device result ≡ geometry_of_sparse_device self }
+        ensures geometry { sparse_geometry result ≡ sparse_geometry self }
     {
         let size = self.geometry.block_size as usize;
         let SparseDevice {
@@ -84,7 +84,7 @@ impl SparseDevice {
             geometry,
             blocks,
             missing: None,
-            trace: Trace::with_history_chosen_by_proof(&geometry, &()),
+            trace: Trace::with_ghost_history(&geometry, &()),
         }
     }
 
@@ -103,18 +103,18 @@ impl SparseDevice {
 }
 
 impl BlockDevice for SparseDevice {
-    ghost use Rattle.lfs_tool.specs.SparseView.{blocks_of_sparse_device, geometry_of_sparse_device, call_history_of_sparse_device};
-    ghost use Rattle.lfs_tool.specs.LoadedShape.{values_in_loaded_blocks_are_bytes, loaded_blocks_have_size};
+    ghost use Rattle.lfs_tool.specs.SparseView.{sparse_blocks, sparse_geometry, sparse_history};
+    ghost use Rattle.lfs_tool.specs.LoadedShape.{lemma_loaded_bytes, lemma_loaded_sizes};
 
-    ghost geometry = { geometry_of_sparse_device };
+    ghost geometry = { sparse_geometry };
 
-    ghost blocks = { blocks_of_sparse_device };
+    ghost blocks = { sparse_blocks };
 
-    ghost history = { call_history_of_sparse_device };
+    ghost history = { sparse_history };
 
-    ghost shape = { λ e. loaded_blocks_have_size e.geometry.block_size e.geometry.block_count e.blocks.items e.count e.sizes };
+    ghost shape = { λ e. lemma_loaded_sizes e.geometry.block_size e.geometry.block_count e.blocks.items e.count e.sizes };
 
-    ghost bytes = { λ e. values_in_loaded_blocks_are_bytes e.blocks.items };
+    ghost bytes = { λ e. lemma_loaded_bytes e.blocks.items };
 
     ghost newest = { λ e. e.newest };
 
@@ -125,16 +125,16 @@ impl BlockDevice for SparseDevice {
     }
 
     fn read(&mut self, block: u32, off: u32, buf: &mut [u8]) -> Result<(), Error>
-        requires in_device { block < (geometry_of_sparse_device self.old).block_count }
-        requires in_block { off + length buf.old ≤ (geometry_of_sparse_device self.old).block_size }
-        ensures bytes { OnOk result (buf.new ≡ slice_range (block_bytes_by_number (blocks_of_sparse_device self.old) block) off (off + length buf.old)) }
-        ensures same { blocks_of_sparse_device self.new ≡ blocks_of_sparse_device self.old }
-        ensures geometry { geometry_of_sparse_device self.new ≡ geometry_of_sparse_device self.old }
-        ensures history { call_history_of_sparse_device self.new ≡ device_call_event_with_blocks (Read block off (length buf.old)) (blocks_of_sparse_device self.old) (blocks_of_sparse_device self.new) (is_err result) ∷ call_history_of_sparse_device self.old }
+        requires in_device { block < (sparse_geometry self.old).block_count }
+        requires in_block { off + length buf.old ≤ (sparse_geometry self.old).block_size }
+        ensures bytes { OnOk result (buf.new ≡ slice_range (block_bytes (sparse_blocks self.old) block) off (off + length buf.old)) }
+        ensures same { sparse_blocks self.new ≡ sparse_blocks self.old }
+        ensures geometry { sparse_geometry self.new ≡ sparse_geometry self.old }
+        ensures history { sparse_history self.new ≡ call_event (Read block off (length buf.old)) (sparse_blocks self.old) (sparse_blocks self.new) (is_err result) ∷ sparse_history self.old }
         ensures error { IfErr result (λ e. e ≡ Error.Io) }
     {
         let is_missing = !self.blocks[block as usize].read(off as usize, buf);
-        self.trace = Trace::with_history_chosen_by_proof(
+        self.trace = Trace::with_ghost_history(
             self,
             &(block, off, buf.len(), is_missing),
         );
@@ -147,28 +147,28 @@ impl BlockDevice for SparseDevice {
     }
 
     fn prog(&mut self, block: u32, off: u32, bytes: &[u8]) -> Result<(), Error>
-        requires in_device { block < (geometry_of_sparse_device self.old).block_count }
-        requires in_block { off + length bytes.now ≤ (geometry_of_sparse_device self.old).block_size }
-        requires begins { off % (geometry_of_sparse_device self.old).page ≡ 0 }
-        requires ends { (off + length bytes.now) % (geometry_of_sparse_device self.old).page ≡ 0 }
-        requires unprogrammed { AreBytesUnprogrammed (call_history_of_sparse_device self.old) block off (off + length bytes.now) }
+        requires in_device { block < (sparse_geometry self.old).block_count }
+        requires in_block { off + length bytes.now ≤ (sparse_geometry self.old).block_size }
+        requires begins { off % (sparse_geometry self.old).page ≡ 0 }
+        requires ends { (off + length bytes.now) % (sparse_geometry self.old).page ≡ 0 }
+        requires unprogrammed { AreUnprogrammed (sparse_history self.old) block off (off + length bytes.now) }
         ensures err { IsErrOf result Error.Io }
-        ensures same { blocks_of_sparse_device self.new ≡ blocks_of_sparse_device self.old }
-        ensures geometry { geometry_of_sparse_device self.new ≡ geometry_of_sparse_device self.old }
-        ensures history { call_history_of_sparse_device self.new ≡ device_call_event_with_blocks (Program block off bytes.now) (blocks_of_sparse_device self.old) (blocks_of_sparse_device self.new) true ∷ call_history_of_sparse_device self.old }
+        ensures same { sparse_blocks self.new ≡ sparse_blocks self.old }
+        ensures geometry { sparse_geometry self.new ≡ sparse_geometry self.old }
+        ensures history { sparse_history self.new ≡ call_event (Program block off bytes.now) (sparse_blocks self.old) (sparse_blocks self.new) true ∷ sparse_history self.old }
     {
-        self.trace = Trace::with_history_chosen_by_proof(self, &(block, off, bytes));
+        self.trace = Trace::with_ghost_history(self, &(block, off, bytes));
         Err(Error::Io)
     }
 
     fn erase(&mut self, block: u32) -> Result<(), Error>
-        requires { block < (geometry_of_sparse_device self.old).block_count }
+        requires { block < (sparse_geometry self.old).block_count }
         ensures err { IsErrOf result Error.Io }
-        ensures same { blocks_of_sparse_device self.new ≡ blocks_of_sparse_device self.old }
-        ensures geometry { geometry_of_sparse_device self.new ≡ geometry_of_sparse_device self.old }
-        ensures history { call_history_of_sparse_device self.new ≡ device_call_event_with_blocks (Erase block) (blocks_of_sparse_device self.old) (blocks_of_sparse_device self.new) true ∷ call_history_of_sparse_device self.old }
+        ensures same { sparse_blocks self.new ≡ sparse_blocks self.old }
+        ensures geometry { sparse_geometry self.new ≡ sparse_geometry self.old }
+        ensures history { sparse_history self.new ≡ call_event (Erase block) (sparse_blocks self.old) (sparse_blocks self.new) true ∷ sparse_history self.old }
     {
-        self.trace = Trace::with_history_chosen_by_proof(self, &block);
+        self.trace = Trace::with_ghost_history(self, &block);
         Err(Error::Io)
     }
 }

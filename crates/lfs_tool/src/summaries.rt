@@ -1,16 +1,16 @@
 // What an accepted image in memory has.
 
 ghost use Rattle.std.specs.Prelude.{◌≡◌, ◌↔◌, ◌≤◌, IfOk, IsTrue, OnOk, count_by, false, length};
-ghost use Rattle.lfs_model.specs.BlockSets.{AreExactlyTheUsedBlocks};
-ghost use Rattle.lfs_model.specs.Disk.{default_profile};
-ghost use Rattle.lfs_model.specs.ProfileBreaches.{IsBreachIfNotWritable};
-ghost use Rattle.lfs_model.specs.Shown.{used_blocks};
-ghost use Rattle.lfs_model.specs.Thread.{pair_count_before_root};
-ghost use Rattle.lfs_model.specs.View.{IsAcceptedImage};
+ghost use Rattle.lfs_model.specs.layers.BlockSets.{AreUsed};
+ghost use Rattle.lfs_model.specs.format.Disk.{default_profile};
+ghost use Rattle.lfs_model.specs.layers.ProfileBreaches.{IsBreachIfAny};
+ghost use Rattle.lfs_model.specs.tree.Shown.{used_blocks};
+ghost use Rattle.lfs_model.specs.format.Thread.{pair_count_before_root};
+ghost use Rattle.lfs_model.specs.tree.View.{IsAccepted};
 ghost use Rattle.lfs_tag.specs.FieldsView.{move_view};
-ghost use Rattle.lfs_thread.specs.Steps.{IsThreadOnlyRead};
-ghost use Rattle.lfs_lookup.specs.Items.{owned_struct_view};
-ghost use Rattle.lfs_tool.specs.ImageSummaries.{HasImageSummary, IsSuperblockToldOf, inline_max_if_less, is_file_item, is_file_struct, has_half_done_operation};
+ghost use Rattle.lfs_thread.specs.ThreadSteps.{OnlyReadsThread};
+ghost use Rattle.lfs_lookup.specs.Items.{owned_view};
+ghost use Rattle.lfs_tool.specs.ImageSummaries.{HasImageSummary, IsSuperblockTold, lesser_inline_max, is_file_item, is_file_struct, is_half_done};
 
 use crate::verdict::ImageSummary;
 use lfs_device::{Error, Geometry, Profile, RamDevice};
@@ -20,7 +20,7 @@ use lfs_thread::Thread;
 use std::alloc::Global;
 
 fn is_file(structure: &OwnedStruct) -> bool
-    ensures { result ≡ is_file_struct (owned_struct_view structure.now) }
+    ensures { result ≡ is_file_struct (owned_view structure.now) }
 {
     match structure {
         OwnedStruct::Inline(_) => true,
@@ -45,14 +45,14 @@ fn count_files(items: &[TreeItem]) -> usize
 
 // Returns whether a global state has an operation to end.
 fn has_unfinished_operation(state: &MoveState) -> bool
-    ensures { result ≡ has_half_done_operation (move_view state.now) }
+    ensures { result ≡ is_half_done (move_view state.now) }
 {
     state.sync || state.kind != 0
 }
 
 // Returns the profile's own limit of a file that is inline, where it is less than that of the blocks.
-fn inline_max_if_less(geometry: &Geometry) -> Option<u32>
-    ensures { result ≡ inline_max_if_less geometry.now.profile geometry.now.block_size }
+fn lesser_inline_max(geometry: &Geometry) -> Option<u32>
+    ensures { result ≡ lesser_inline_max geometry.now.profile geometry.now.block_size }
 {
     let most = (geometry.block_size / 8).min(1022);
     if geometry.profile.inline_max < most {
@@ -69,16 +69,16 @@ fn is_default_profile(profile: &Profile) -> bool
 }
 
 // Returns the superblock of the image, where the profile isn't the default one.
-fn superblock_to_tell_of(
+fn superblock_to_tell(
     alloc: Global,
     thread: &mut Thread<RamDevice>,
     root: usize,
 ) -> Result<Option<Superblock>, Error>
     requires works { thread.old.failed ≡ false }
-    requires accepted { IsAcceptedImage thread.old.kept.disk thread.old.kept.pairs }
+    requires accepted { IsAccepted thread.old.kept.disk thread.old.kept.pairs }
     requires root { root ≡ pair_count_before_root thread.old.kept.pairs }
-    ensures told { IfOk result (IsSuperblockToldOf thread.old.kept.disk.profile thread.old.kept.pairs) }
-    ensures only { (IsThreadOnlyRead thread.old.kept thread.new.kept) × (thread.new.failed ≡ false) }
+    ensures told { IfOk result (IsSuperblockTold thread.old.kept.disk.profile thread.old.kept.pairs) }
+    ensures only { (OnlyReadsThread thread.old.kept thread.new.kept) × (thread.new.failed ≡ false) }
 {
     let geometry = thread.geometry();
     if is_default_profile(&geometry.profile) {
@@ -91,19 +91,19 @@ fn superblock_to_tell_of(
 }
 
 // Returns what the image has.
-pub(crate) fn image_summary_of_thread(
+pub(crate) fn summary_of_thread(
     alloc: Global,
     thread: &mut Thread<RamDevice>,
 ) -> Result<ImageSummary, Error>
     requires works { thread.old.failed ≡ false }
-    requires accepted { IsAcceptedImage thread.old.kept.disk thread.old.kept.pairs }
-    requires used { AreExactlyTheUsedBlocks thread.old.kept.map (used_blocks thread.old.kept.disk thread.old.kept.pairs) }
+    requires accepted { IsAccepted thread.old.kept.disk thread.old.kept.pairs }
+    requires used { AreUsed thread.old.kept.map (used_blocks thread.old.kept.disk thread.old.kept.pairs) }
     ensures summary { IfOk result (HasImageSummary thread.old.kept.disk thread.old.kept.pairs) }
-    ensures only { OnOk result (IsThreadOnlyRead thread.old.kept thread.new.kept) }
+    ensures only { OnOk result (OnlyReadsThread thread.old.kept thread.new.kept) }
 {
     let items = walk_tree(alloc, thread)?;
     let root = find_root(alloc, thread)?;
-    let superblock = superblock_to_tell_of(alloc, thread, root)?;
+    let superblock = superblock_to_tell(alloc, thread, root)?;
     let breach = find_profile_breach(alloc, thread, root)?;
     let files = count_files(&items);
     let state = thread.state();
@@ -115,7 +115,7 @@ pub(crate) fn image_summary_of_thread(
         blocks: geometry.block_count,
         recover: has_unfinished_operation(&state),
         superblock,
-        inline_max: inline_max_if_less(&geometry),
+        inline_max: lesser_inline_max(&geometry),
         breach,
     })
 }

@@ -1,9 +1,9 @@
 // The numbers of a superblock, by its place in the bytes alone.
 
 ghost use Rattle.std.specs.Prelude.{◌≡◌, ◌⊎◌, ◌<◌, ◌/◌, ◌^◌, IfSome, None, length};
-ghost use Rattle.lfs_model.specs.EntryTypes.{SuperblockFields};
+ghost use Rattle.lfs_model.specs.format.EntryTypes.{SuperblockFields};
 ghost use Rattle.lfs_tag.specs.FieldsView.{superblock_view};
-ghost use Rattle.lfs_tool.specs.WrongNumbers.{HasSizesAndVersion, HasNoWrongNumberInImageBytes, IsWrongNumberInImageBytes, IsWrongSuperblockField, IsSuperblockAtOffset, IsSuperblockOfFirstBlocks};
+ghost use Rattle.lfs_tool.specs.WrongNumbers.{HasSizesVersion, NoWrongNumberIn, IsWrongNumberIn, IsWrongField, IsSuperblockAt, IsFirstSuperblock};
 
 use crate::wrong_number::WrongNumber;
 use lfs_device::AcceptedVersions;
@@ -14,14 +14,14 @@ use lfs_tag::{Superblock, superblock_of};
 const FIRST_ENTRIES: &[u8] = b"\xf0\x0f\xff\xf7littlefs\x2f\xe0\x00\x10";
 
 // Returns which of these fields is wrong for so many blocks of that size.
-pub(crate) fn wrong_number_in_superblock_fields(
+pub(crate) fn wrong_number_in(
     block_size: u32,
     count: usize,
     versions: AcceptedVersions,
     fields: &Superblock,
 ) -> Option<WrongNumber>
-    ensures found { IfSome result (IsWrongSuperblockField block_size count versions (superblock_view fields.now)) }
-    ensures none { result ≡ None → HasSizesAndVersion block_size count versions (superblock_view fields.now) }
+    ensures found { IfSome result (IsWrongField block_size count versions (superblock_view fields.now)) }
+    ensures none { result ≡ None → HasSizesVersion block_size count versions (superblock_view fields.now) }
 {
     if fields.block_size != block_size {
         return Some(WrongNumber::BlockSize(fields.block_size));
@@ -36,10 +36,10 @@ pub(crate) fn wrong_number_in_superblock_fields(
 }
 
 // Returns the fields of the superblock at the beginning of a block at that offset.
-fn superblock_fields_at_offset(bytes: &[u8], from: usize) -> Option<Superblock>
+fn fields_at_offset(bytes: &[u8], from: usize) -> Option<Superblock>
     requires { from < 2 ^ 32 }
-    ensures found { IfSome result (λ fields. IsSuperblockAtOffset bytes.now from (superblock_view fields)) }
-    ensures none { result ≡ None → (fields : SuperblockFields) → ¬ IsSuperblockAtOffset bytes.now from fields }
+    ensures found { IfSome result (λ fields. IsSuperblockAt bytes.now from (superblock_view fields)) }
+    ensures none { result ≡ None → (fields : SuperblockFields) → ¬ IsSuperblockAt bytes.now from fields }
 {
     if bytes.len() < from + 44 || &bytes[from + 4..from + 20] != FIRST_ENTRIES {
         return None;
@@ -51,17 +51,17 @@ fn superblock_fields_at_offset(bytes: &[u8], from: usize) -> Option<Superblock>
 }
 
 /// Returns the superblock with which block 0 begins, or block 1 where blocks are as large as it says. It is found by its
-/// place, as `wrong_superblock_number_in_image` finds it. So the size of the blocks needn't be known: in block 1 it is a
+/// place, as `image_wrong_number` finds it. So the size of the blocks needn't be known: in block 1 it is a
 /// power of two from 1024 to 65536.
-pub fn superblock_in_image(bytes: &[u8]) -> Option<Superblock>
-    ensures found { IfSome result (IsSuperblockOfFirstBlocks bytes.now) }
-    ensures none { result ≡ None → (fields : SuperblockFields) → ¬ IsSuperblockAtOffset bytes.now 0 fields }
+pub fn image_superblock_at(bytes: &[u8]) -> Option<Superblock>
+    ensures found { IfSome result (IsFirstSuperblock bytes.now) }
+    ensures none { result ≡ None → (fields : SuperblockFields) → ¬ IsSuperblockAt bytes.now 0 fields }
 {
-    if let Some(fields) = superblock_fields_at_offset(bytes, 0) {
+    if let Some(fields) = fields_at_offset(bytes, 0) {
         return Some(fields);
     }
     for size in [1024u32, 2048, 4096, 8192, 16384, 32768, 65536] {
-        match superblock_fields_at_offset(bytes, size as usize) {
+        match fields_at_offset(bytes, size as usize) {
             Some(fields) if fields.block_size == size => return Some(fields),
             _ => {}
         }
@@ -70,7 +70,7 @@ pub fn superblock_in_image(bytes: &[u8]) -> Option<Superblock>
 }
 
 // Returns which field of that superblock is wrong for the bytes.
-fn wrong_number_at_offset(
+fn wrong_number_at(
     bytes: &[u8],
     block_size: u32,
     versions: AcceptedVersions,
@@ -78,12 +78,12 @@ fn wrong_number_at_offset(
 ) -> Option<WrongNumber>
     requires size { 0 < block_size }
     requires from { (from ≡ 0) ⊎ (from ≡ block_size) }
-    ensures found { IfSome result (IsWrongNumberInImageBytes bytes.now block_size versions) }
-    ensures none { result ≡ None → (fields : SuperblockFields) → IsSuperblockAtOffset bytes.now from fields → HasSizesAndVersion block_size (length bytes.now / block_size) versions fields }
+    ensures found { IfSome result (IsWrongNumberIn bytes.now block_size versions) }
+    ensures none { result ≡ None → (fields : SuperblockFields) → IsSuperblockAt bytes.now from fields → HasSizesVersion block_size (length bytes.now / block_size) versions fields }
 {
     let count = bytes.len() / block_size as usize;
-    match superblock_fields_at_offset(bytes, from) {
-        Some(fields) => wrong_number_in_superblock_fields(block_size, count, versions, &fields),
+    match fields_at_offset(bytes, from) {
+        Some(fields) => wrong_number_in(block_size, count, versions, &fields),
         None => None,
     }
 }
@@ -95,19 +95,19 @@ fn wrong_number_at_offset(
 ///
 /// Returns None exactly where no number of these two superblocks is wrong: a block that doesn't begin
 /// with a superblock has none. Blocks of no bytes have none either.
-pub fn wrong_superblock_number_in_image(
+pub fn image_wrong_number(
     bytes: &[u8],
     block_size: u32,
     versions: AcceptedVersions,
 ) -> Option<WrongNumber>
-    ensures found { IfSome result (IsWrongNumberInImageBytes bytes.now block_size versions) }
-    ensures none { result ≡ None → HasNoWrongNumberInImageBytes bytes.now block_size versions }
+    ensures found { IfSome result (IsWrongNumberIn bytes.now block_size versions) }
+    ensures none { result ≡ None → NoWrongNumberIn bytes.now block_size versions }
 {
     if block_size == 0 {
         return None;
     }
-    match wrong_number_at_offset(bytes, block_size, versions, 0) {
+    match wrong_number_at(bytes, block_size, versions, 0) {
         Some(stated) => Some(stated),
-        None => wrong_number_at_offset(bytes, block_size, versions, block_size as usize),
+        None => wrong_number_at(bytes, block_size, versions, block_size as usize),
     }
 }

@@ -1,22 +1,22 @@
 // Images that are unpacked.
 
 ghost use Rattle.std.specs.Prelude.{◌≡◌, ◌⊎◌, ◌<◌, ◌^◌, IfErr, IfOk, IfSome, IsErrOf, OnErr, OnOk, false, length};
-ghost use Rattle.lfs_device.specs.RamDevice.{ram_blocks, geometry_of_ram_device};
-ghost use Rattle.lfs_device.specs.Shown.{disk_of_geometry_and_blocks as shown};
-ghost use Rattle.lfs_model.specs.View.{IsSkipListIfCtzStruct};
+ghost use Rattle.lfs_device.specs.RamDevice.{ram_blocks, ram_geometry};
+ghost use Rattle.lfs_device.specs.DeviceDisk.{disk_of_blocks as shown};
+ghost use Rattle.lfs_model.specs.tree.View.{IsWellFormedCtz};
 ghost use Rattle.lfs_tool_folders.specs.Actions.{AddsAction};
-ghost use Rattle.lfs_tool.specs.Unpackings.{HaveWellFormedSkipLists, FailsToUnpackDisk, FailsToUnpackImage, HasDoneBeginningOfUnpackingActions, HasDoneTheseFurtherUnpackingActions, FailsToUnpackKnownImage, HasUnpackedDisk, HasUnpackedImage, ReportsUnpackTargetFaults, unpacking_action_for_tree_entry, unpacking_actions_for_tree_entries};
-ghost use Rattle.lfs_thread.specs.Steps.{IsThreadOnlyRead};
-ghost use Rattle.lfs_lookup.specs.FileBytes.{file_bytes_of_struct};
-ghost use Rattle.lfs_lookup.specs.Items.{owned_struct_view};
-ghost use Rattle.lfs_lookup.specs.Walk.{tree_item_view, tree_items_view};
-ghost use Rattle.lfs_tool.specs.Reports.{IsReadToEndOrPastImageLimit, IsThisErrorExactlyIfOneCallFailed};
+ghost use Rattle.lfs_tool.specs.Unpackings.{HaveFormedLists, FailsToUnpackDisk, FailsToUnpackImage, HasBegunActions, HasDoneFurther, FailsToUnpackKnown, HasUnpackedDisk, HasUnpackedImage, ReportsTargetFaults, tree_entry_action, tree_entry_actions};
+ghost use Rattle.lfs_thread.specs.ThreadSteps.{OnlyReadsThread};
+ghost use Rattle.lfs_lookup.specs.FileBytes.{struct_file_bytes};
+ghost use Rattle.lfs_lookup.specs.Items.{owned_view};
+ghost use Rattle.lfs_lookup.specs.TreeWalk.{tree_item_view, tree_items_view};
+ghost use Rattle.lfs_tool.specs.Reports.{IsReadToEnd, ReportsOneFault};
 
-use crate::image_devices::{ram_device_of_image, tree_items_of_ram_device};
+use crate::image_devices::{ram_device_of, ram_tree_items};
 use crate::input::read_image;
 use crate::{FilesAndBytes, FollowsProgress, ImageInput, ImageLayout, ToolError};
 use lfs_device::{Error, RamDevice};
-use lfs_lookup::{OwnedStruct, TreeItem, read_file_bytes_of_struct};
+use lfs_lookup::{OwnedStruct, TreeItem, read_struct_bytes};
 use lfs_thread::Thread;
 use lfs_tool_folders::{Target, TargetError};
 use std::alloc::Global;
@@ -28,13 +28,13 @@ fn file_bytes(
     structure: &OwnedStruct,
 ) -> Result<Vec<u8>, ToolError>
     requires works { thread.old.failed ≡ false }
-    requires list { IsSkipListIfCtzStruct thread.old.kept.disk (owned_struct_view structure.now) }
-    ensures bytes { IfOk result (λ bytes. bytes.items ≡ file_bytes_of_struct thread.old.kept.disk (owned_struct_view structure.now)) }
-    ensures only { IsThreadOnlyRead thread.old.kept thread.new.kept }
+    requires list { IsWellFormedCtz thread.old.kept.disk (owned_view structure.now) }
+    ensures bytes { IfOk result (λ bytes. bytes.items ≡ struct_file_bytes thread.old.kept.disk (owned_view structure.now)) }
+    ensures only { OnlyReadsThread thread.old.kept thread.new.kept }
     ensures works { thread.new.failed ≡ false }
     ensures err { IfErr result (λ e. e ≡ ToolError.Fs Error.NoMemory) }
 {
-    match read_file_bytes_of_struct(alloc, thread, structure) {
+    match read_struct_bytes(alloc, thread, structure) {
         Ok(bytes) => Ok(bytes),
         Err(error) => {
             // The device had no fault, so memory ran out.
@@ -45,7 +45,7 @@ fn file_bytes(
 }
 
 // Returns the tool's error for a target's error.
-fn tool_error_of_target_error(error: TargetError) -> ToolError
+fn target_tool_error(error: TargetError) -> ToolError
     ensures { (error ≡ TargetError.Fault × (result ≡ ToolError.Output)) ⊎ (error ≡ TargetError.NoMemory × (result ≡ ToolError.Fs Error.NoMemory)) }
 {
     match error {
@@ -62,11 +62,11 @@ fn put_tree_item<T: Target>(
     target: &mut T,
 ) -> Result<(), ToolError>
     requires works { thread.old.failed ≡ false }
-    requires list { IsSkipListIfCtzStruct thread.old.kept.disk (owned_struct_view item.now.structure) }
-    ensures done { OnOk result (AddsAction (T.done target.old) (T.done target.new) (unpacking_action_for_tree_entry thread.old.kept.disk (tree_item_view item.now))) }
+    requires list { IsWellFormedCtz thread.old.kept.disk (owned_view item.now.structure) }
+    ensures done { OnOk result (AddsAction (T.done target.old) (T.done target.new) (tree_entry_action thread.old.kept.disk (tree_item_view item.now))) }
     ensures undone { OnErr result (T.done target.new ≡ T.done target.old) }
-    ensures only { (IsThreadOnlyRead thread.old.kept thread.new.kept) × (thread.new.failed ≡ false) }
-    ensures reports { ReportsUnpackTargetFaults (T.faults target.old) (T.faults target.new) result }
+    ensures only { (OnlyReadsThread thread.old.kept thread.new.kept) × (thread.new.failed ≡ false) }
+    ensures reports { ReportsTargetFaults (T.faults target.old) (T.faults target.new) result }
 {
     let result = match &item.structure {
         OwnedStruct::Branch(_) => target.make_folder(alloc, &item.path),
@@ -77,12 +77,12 @@ fn put_tree_item<T: Target>(
     };
     match result {
         Ok(()) => Ok(()),
-        Err(error) => Err(tool_error_of_target_error(error)),
+        Err(error) => Err(target_tool_error(error)),
     }
 }
 
 // Returns what an item is of the whole.
-fn file_and_byte_counts_of_item(item: &TreeItem) -> FilesAndBytes {
+fn counts_of_item(item: &TreeItem) -> FilesAndBytes {
     match &item.structure {
         OwnedStruct::Inline(bytes) => FilesAndBytes::one_file(bytes.len()),
         OwnedStruct::Ctz { size, .. } => FilesAndBytes::one_file(*size as usize),
@@ -91,10 +91,10 @@ fn file_and_byte_counts_of_item(item: &TreeItem) -> FilesAndBytes {
 }
 
 // Returns the whole of all items.
-fn file_and_byte_counts_of_items(items: &[TreeItem]) -> FilesAndBytes {
+fn counts_of_items(items: &[TreeItem]) -> FilesAndBytes {
     let mut whole = FilesAndBytes::none();
     for item in items {
-        whole = whole.plus(file_and_byte_counts_of_item(item));
+        whole = whole.plus(counts_of_item(item));
     }
     whole
 }
@@ -108,15 +108,15 @@ fn put_tree_items<T: Target, F: FollowsProgress>(
     progress: &mut F,
 ) -> Result<(), ToolError>
     requires works { thread.old.failed ≡ false }
-    requires lists { HaveWellFormedSkipLists thread.old.kept.disk (tree_items_view items.now) }
-    ensures done { OnOk result (HasDoneTheseFurtherUnpackingActions (T.done target.old) (T.done target.new) (unpacking_actions_for_tree_entries thread.old.kept.disk (tree_items_view items.now))) }
-    ensures begun { OnErr result (HasDoneBeginningOfUnpackingActions (T.done target.old) (T.done target.new) (unpacking_actions_for_tree_entries thread.old.kept.disk (tree_items_view items.now))) }
-    ensures reports { ReportsUnpackTargetFaults (T.faults target.old) (T.faults target.new) result }
+    requires lists { HaveFormedLists thread.old.kept.disk (tree_items_view items.now) }
+    ensures done { OnOk result (HasDoneFurther (T.done target.old) (T.done target.new) (tree_entry_actions thread.old.kept.disk (tree_items_view items.now))) }
+    ensures begun { OnErr result (HasBegunActions (T.done target.old) (T.done target.new) (tree_entry_actions thread.old.kept.disk (tree_items_view items.now))) }
+    ensures reports { ReportsTargetFaults (T.faults target.old) (T.faults target.new) result }
 {
-    progress.begin(file_and_byte_counts_of_items(items));
+    progress.begin(counts_of_items(items));
     for item in items {
         put_tree_item(alloc, thread, item, target)?;
-        progress.add(file_and_byte_counts_of_item(item));
+        progress.add(counts_of_item(item));
     }
     Ok(())
 }
@@ -128,11 +128,11 @@ fn unpack_ram_device<T: Target, F: FollowsProgress>(
     target: &mut T,
     progress: &mut F,
 ) -> Result<(), ToolError>
-    ensures done { OnOk result (HasUnpackedDisk (shown (geometry_of_ram_device device) (ram_blocks device)) (T.done target.old) (T.done target.new)) }
-    ensures failed { IfErr result (FailsToUnpackDisk (shown (geometry_of_ram_device device) (ram_blocks device)) (T.done target.old) (T.done target.new)) }
-    ensures output { IsThisErrorExactlyIfOneCallFailed ToolError.Output (T.faults target.old) (T.faults target.new) result }
+    ensures done { OnOk result (HasUnpackedDisk (shown (ram_geometry device) (ram_blocks device)) (T.done target.old) (T.done target.new)) }
+    ensures failed { IfErr result (FailsToUnpackDisk (shown (ram_geometry device) (ram_blocks device)) (T.done target.old) (T.done target.new)) }
+    ensures output { ReportsOneFault ToolError.Output (T.faults target.old) (T.faults target.new) result }
 {
-    match tree_items_of_ram_device(alloc, device) {
+    match ram_tree_items(alloc, device) {
         Ok((mut thread, items)) => put_tree_items(alloc, &mut thread, &items, target, progress),
         Err(error) => Err(ToolError::Fs(error)),
     }
@@ -149,9 +149,9 @@ fn unpack_image<T: Target, F: FollowsProgress>(
     requires { length image.items < 2 ^ 32 }
     ensures done { OnOk result (HasUnpackedImage layout image.items (T.done target.old) (T.done target.new)) }
     ensures failed { IfErr result (FailsToUnpackImage layout image.items (T.done target.old) (T.done target.new)) }
-    ensures output { IsThisErrorExactlyIfOneCallFailed ToolError.Output (T.faults target.old) (T.faults target.new) result }
+    ensures output { ReportsOneFault ToolError.Output (T.faults target.old) (T.faults target.new) result }
 {
-    match ram_device_of_image(image, layout) {
+    match ram_device_of(image, layout) {
         Ok(device) => unpack_ram_device(alloc, device, target, progress),
         Err(error) => Err(ToolError::Fs(error)),
     }
@@ -184,12 +184,12 @@ pub fn unpack<R: ImageInput, T: Target, F: FollowsProgress>(
     ensures done { OnOk result (IfSome (R.remaining image.old) (λ bytes. HasUnpackedImage layout bytes (T.done target.old) (T.done target.new))) }
 
     // Nothing is done, or a beginning of the actions, where the target failed or memory ran out.
-    ensures failed { IfErr result (FailsToUnpackKnownImage layout (R.remaining image.old) (T.done target.old) (T.done target.new)) }
+    ensures failed { IfErr result (FailsToUnpackKnown layout (R.remaining image.old) (T.done target.old) (T.done target.new)) }
 
     // When each error comes.
-    ensures input { IsThisErrorExactlyIfOneCallFailed ToolError.Input (R.faults image.old) (R.faults image.new) result }
-    ensures read { ¬ IsErrOf result ToolError.Input → ¬ IsErrOf result (ToolError.Fs Error.NoMemory) → IsReadToEndOrPastImageLimit (R.remaining image.old) (R.remaining image.new) }
-    ensures output { IsThisErrorExactlyIfOneCallFailed ToolError.Output (T.faults target.old) (T.faults target.new) result }
+    ensures input { ReportsOneFault ToolError.Input (R.faults image.old) (R.faults image.new) result }
+    ensures read { ¬ IsErrOf result ToolError.Input → ¬ IsErrOf result (ToolError.Fs Error.NoMemory) → IsReadToEnd (R.remaining image.old) (R.remaining image.new) }
+    ensures output { ReportsOneFault ToolError.Output (T.faults target.old) (T.faults target.new) result }
 {
     let bytes = read_image(alloc, image)?;
     unpack_image(alloc, bytes, layout, target, progress)

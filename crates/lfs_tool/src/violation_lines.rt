@@ -7,7 +7,7 @@ use crate::ImageLayout;
 use crate::check_result::GivenSizes;
 use crate::found_thread::{FoundSlot, FoundThread, current_block, escaped_name};
 use crate::number_text::{PairText, WrongNumberText};
-use crate::superblocks::wrong_number_in_superblock_fields;
+use crate::superblocks::wrong_number_in;
 use crate::verdict::BrokenRule;
 use crate::wrong_number::WrongNumber;
 use lfs_device::{BlockDevice, Error, Geometry, RamDevice};
@@ -87,12 +87,12 @@ fn no_superblock_line(alloc: Global) -> Result<String, AllocError> {
 }
 
 // Returns which number of a superblock's struct is wrong for the image.
-fn wrong_number_of_slot(geometry: &Geometry, slot: &FoundSlot) -> Option<WrongNumber> {
+fn wrong_slot_number(geometry: &Geometry, slot: &FoundSlot) -> Option<WrongNumber> {
     let OwnedStruct::Inline(bytes) = &slot.structure else {
         return None;
     };
     match <&[u8; 24]>::try_from(bytes.as_slice()) {
-        Ok(bytes) => wrong_number_in_superblock_fields(
+        Ok(bytes) => wrong_number_in(
             geometry.block_size,
             geometry.block_count as usize,
             geometry.profile.versions,
@@ -136,7 +136,7 @@ fn first_superblock_line(
             None,
         ));
     }
-    if let Some(stated) = wrong_number_of_slot(geometry, slot) {
+    if let Some(stated) = wrong_slot_number(geometry, slot) {
         return wrong_number_line(alloc, geometry, pair, stated);
     }
     let line = format!(in alloc; "{}, slot 0: no superblock's struct", PairText(pair))?;
@@ -151,7 +151,7 @@ fn other_superblock_line(
     pair: [u32; 2],
 ) -> Result<LineAndNumber, AllocError> {
     if let Some(slot) = thread.slot_at(pair, 0) {
-        if let Some(stated) = wrong_number_of_slot(geometry, slot) {
+        if let Some(stated) = wrong_slot_number(geometry, slot) {
             return wrong_number_line(alloc, geometry, pair, stated);
         }
     }

@@ -21,12 +21,12 @@ pub struct WatchedStream<T> {
 }
 
 impl<T> WatchedStream<T> {
-    ghost use Rattle.lfs_tool.specs.WatchedStreams.{watched_fault_count, watched_inner_stream};
+    ghost use Rattle.lfs_tool.specs.WatchedStreams.{watched_faults, watched_inner};
 
     /// Makes a reader or a writer of which no call was made yet.
     pub fn new(inner: T) -> WatchedStream<T>
-        ensures inner { watched_inner_stream result ≡ inner }
-        ensures faults { watched_fault_count result ≡ 0 }
+        ensures inner { watched_inner result ≡ inner }
+        ensures faults { watched_faults result ≡ 0 }
     {
         WatchedStream {
             inner,
@@ -37,25 +37,25 @@ impl<T> WatchedStream<T> {
 
     /// Borrows the reader or the writer.
     pub fn inner(&self) -> &T
-        ensures { result.now ≡ watched_inner_stream self.now }
+        ensures { result.now ≡ watched_inner self.now }
     {
         &self.inner
     }
 
     /// Returns the reader or the writer.
     pub fn into_inner(self) -> T
-        ensures { result ≡ watched_inner_stream self }
+        ensures { result ≡ watched_inner self }
     {
         self.inner
     }
 }
 
 impl<R: Read> ImageInput for WatchedStream<R> {
-    ghost use Rattle.lfs_tool.specs.WatchedStreams.{watched_fault_count, watched_inner_stream};
+    ghost use Rattle.lfs_tool.specs.WatchedStreams.{watched_faults, watched_inner};
 
-    ghost remaining = { λ w. R.remaining (watched_inner_stream w) };
+    ghost remaining = { λ w. R.remaining (watched_inner w) };
 
-    ghost faults = { watched_fault_count };
+    ghost faults = { watched_faults };
 
     fn read(&mut self, buf: &mut [u8]) -> io::Result<usize> {
         for _ in 0..u64::MAX {
@@ -75,13 +75,13 @@ impl<R: Read> ImageInput for WatchedStream<R> {
 }
 
 impl<W: Write> ToolOutput for WatchedStream<W> {
-    ghost use Rattle.lfs_tool.specs.WatchedStreams.{watched_fault_count, watched_inner_stream, written_value_count};
+    ghost use Rattle.lfs_tool.specs.WatchedStreams.{watched_faults, watched_inner, written_count};
 
-    ghost contents = { λ w. W.contents (watched_inner_stream w) };
+    ghost contents = { λ w. W.contents (watched_inner w) };
 
-    ghost faults = { watched_fault_count };
+    ghost faults = { watched_faults };
 
-    ghost shown = { written_value_count };
+    ghost shown = { written_count };
 
     // A writer that takes nothing of some bytes fails.
     fn write(&mut self, buf: &[u8]) -> io::Result<usize> {

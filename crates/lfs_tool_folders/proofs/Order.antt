@@ -10,31 +10,31 @@ use Rattle.std.proofs.lemmas.List.Kept.{AllPairs-cons}
 use Rattle.std.proofs.lemmas.List.Sums.{sum_by-cons}
 use Rattle.std.proofs.lemmas.List.Sorted.{IsPermutation-map, sum_by-IsPermutation}
 use Rattle.lfs_model.specs.declared.order.NameOrder.TheVariants.{ShorterFirst}
-use Rattle.lfs_model.specs.Names.{Name, name_cmp, same_name, is_path_component, is_less_ordering}
-use Rattle.lfs_model.specs.Source.{HaveBadOrRepeatedName, TreeSource, names_of_source_entries, occurrence_count_of_name}
-use Rattle.lfs_tool_folders.specs.SourceTrees.{listed_name_and_kind_view}
+use Rattle.lfs_model.specs.format.Names.{Name, name_cmp, same_name, is_component, is_less}
+use Rattle.lfs_model.specs.layers.Source.{HaveBadName, TreeSource, source_names, name_count}
+use Rattle.lfs_tool_folders.specs.SourceTrees.{listed_view}
 use Rattle.lfs_model.proofs.Counts.{Each, each_weaker}
 use Rattle.lfs_model.proofs.Paths.{name_from_equal, same_itself}
-use Rattle.lfs_tool_folders.specs.Entries.{ArePathComponentsInOrder, is_listed_name_before, name_bytes_of_listed_name, are_path_components_increasing_after_name}
+use Rattle.lfs_tool_folders.specs.SourceEntries.{AreRising, is_listed_before, listed_bytes, components_rise_after}
 use Rattle.lfs_tool_folders.specs.declared.source.ListedName.{ListedName}
 
 -- ---- in order
 
-less_from : (o : Ordering) → is_less_ordering o ≡ true → o ≡ Less
+less_from : (o : Ordering) → is_less o ≡ true → o ≡ Less
 less_from Less e = refl
 less_from Equal e = absurd (cc)
 less_from Greater e = absurd (cc)
 
 record Rises (last : Name) (ns : List Name) : Type 0 where
-  components : Each (λ n. is_path_component n ≡ true) ns
+  components : Each (λ n. is_component n ≡ true) ns
   above : Each (λ n. name_cmp ShorterFirst last n ≡ Less) ns
   pairs : AllPairs (λ a b. name_cmp ShorterFirst a b ≡ Less) ns
 
-rises_from : (last : Name) (ns : List Name) → are_path_components_increasing_after_name last ns ≡ true → Rises last ns
+rises_from : (last : Name) (ns : List Name) → components_rise_after last ns ≡ true → Rises last ns
 rises_from last [] e = record { components = tt; above = tt; pairs = λ i j d l m. absurd (omega arith) }
 rises_from last (n ∷ ns) e =
-    let one = and_parts (is_path_component n && is_less_ordering (name_cmp ShorterFirst last n)) (are_path_components_increasing_after_name n ns) e in
-    let two = and_parts (is_path_component n) (is_less_ordering (name_cmp ShorterFirst last n)) one.0 in
+    let one = and_parts (is_component n && is_less (name_cmp ShorterFirst last n)) (components_rise_after n ns) e in
+    let two = and_parts (is_component n) (is_less (name_cmp ShorterFirst last n)) one.0 in
     let less = less_from (name_cmp ShorterFirst last n) two.1 in
     let rest = rises_from n ns one.1 in
     record {
@@ -43,88 +43,88 @@ rises_from last (n ∷ ns) e =
       pairs = AllPairs-cons (λ a b. name_cmp ShorterFirst a b ≡ Less) n ns (All-from_recursion (λ m. name_cmp ShorterFirst n m ≡ Less) ns rest.above) rest.pairs;
     }
 
-pub in_order : (ns : List Name) → are_path_components_increasing_after_name [] ns ≡ true → ArePathComponentsInOrder ns
+pub in_order : (ns : List Name) → components_rise_after [] ns ≡ true → AreRising ns
 in_order ns e =
     let r = rises_from [] ns e in
-    record { components = All-from_recursion (λ n. is_path_component n ≡ true) ns r.components; rise = r.pairs }
+    record { components = All-from_recursion (λ n. is_component n ≡ true) ns r.components; rise = r.pairs }
 
 -- ---- not in order
 
 abbrev NeverFall : List Name → Type 0
 NeverFall [] = Unit {0}
 NeverFall (n ∷ []) = Unit {0}
-NeverFall (n ∷ m ∷ ns) = (is_less_ordering (name_cmp ShorterFirst m n) ≡ false) × NeverFall (m ∷ ns)
+NeverFall (n ∷ m ∷ ns) = (is_less (name_cmp ShorterFirst m n) ≡ false) × NeverFall (m ∷ ns)
 
-never_fall : (xs : List ListedName) → IsSortedBy is_listed_name_before xs → NeverFall (map name_bytes_of_listed_name xs)
+never_fall : (xs : List ListedName) → IsSortedBy is_listed_before xs → NeverFall (map listed_bytes xs)
 never_fall [] h = tt
 never_fall (x ∷ []) h = tt
 never_fall (x ∷ y ∷ xs) h = (
   h 0 x (omega arith) (omega arith),
   never_fall (y ∷ xs) (λ k d l m.
       let next : suc k + 1 ≡ suc (k + 1) = omega arith in
-      subst (λ i. is_listed_name_before (get_or (x ∷ y ∷ xs) i d) (get_or (y ∷ xs) k d) ≡ false) next (h (suc k) d (omega arith) (omega arith))),
+      subst (λ i. is_listed_before (get_or (x ∷ y ∷ xs) i d) (get_or (y ∷ xs) k d) ≡ false) next (h (suc k) d (omega arith) (omega arith))),
 )
 
-times_more : (name n : Name) (ns : List Name) → occurrence_count_of_name name (n ∷ ns) ≡ cond (same_name name n) 1 0 + occurrence_count_of_name name ns
+times_more : (name n : Name) (ns : List Name) → name_count name (n ∷ ns) ≡ cond (same_name name n) 1 0 + name_count name ns
 times_more name n ns = sum_by-cons (λ m. cond (same_name name m) 1 0) n ns
 
-here_too : (n : Name) (ns : List Name) → occurrence_count_of_name n (n ∷ ns) ≡ 1 + occurrence_count_of_name n ns
-here_too n ns = times_more n n ns ∙ ap (λ b. cond b 1 0 + occurrence_count_of_name n ns) (same_itself n)
+here_too : (n : Name) (ns : List Name) → name_count n (n ∷ ns) ≡ 1 + name_count n ns
+here_too n ns = times_more n n ns ∙ ap (λ b. cond b 1 0 + name_count n ns) (same_itself n)
 
-bad_later : (n : Name) (ns : List Name) → HaveBadOrRepeatedName ns → HaveBadOrRepeatedName (n ∷ ns)
+bad_later : (n : Name) (ns : List Name) → HaveBadName ns → HaveBadName (n ∷ ns)
 bad_later n ns (inl h) = inl (h.0, h.1, omega (arith, h.2, times_more h.0 n ns))
 bad_later n ns (inr h) = inr (h.0, omega (arith, h.1, times_more h.0 n ns))
 
-odd_here : (n : Name) (ns : List Name) → is_path_component n ≡ false → HaveBadOrRepeatedName (n ∷ ns)
+odd_here : (n : Name) (ns : List Name) → is_component n ≡ false → HaveBadName (n ∷ ns)
 odd_here n ns e = inl (n, e, omega (arith, here_too n ns))
 
-twice : (n : Name) (ns : List Name) → HaveBadOrRepeatedName (n ∷ n ∷ ns)
+twice : (n : Name) (ns : List Name) → HaveBadName (n ∷ n ∷ ns)
 twice n ns = inr (n, omega (arith, here_too n (n ∷ ns), here_too n ns))
 
-bad_behind : (last : Name) (ns : List Name) → NeverFall (last ∷ ns) → are_path_components_increasing_after_name last ns ≡ false → HaveBadOrRepeatedName (last ∷ ns)
+bad_behind : (last : Name) (ns : List Name) → NeverFall (last ∷ ns) → components_rise_after last ns ≡ false → HaveBadName (last ∷ ns)
 bad_behind last [] h e = absurd (cc)
-bad_behind last (n ∷ ns) h e = go (is_path_component n) (name_cmp ShorterFirst last n) refl refl e (bad_behind n ns h.1)
+bad_behind last (n ∷ ns) h e = go (is_component n) (name_cmp ShorterFirst last n) refl refl e (bad_behind n ns h.1)
   where
-    go : (c : Bool) (o : Ordering) → is_path_component n ≡ c → name_cmp ShorterFirst last n ≡ o → (c && is_less_ordering o && are_path_components_increasing_after_name n ns) ≡ false → (are_path_components_increasing_after_name n ns ≡ false → HaveBadOrRepeatedName (n ∷ ns)) → HaveBadOrRepeatedName (last ∷ n ∷ ns)
+    go : (c : Bool) (o : Ordering) → is_component n ≡ c → name_cmp ShorterFirst last n ≡ o → (c && is_less o && components_rise_after n ns) ≡ false → (components_rise_after n ns ≡ false → HaveBadName (n ∷ ns)) → HaveBadName (last ∷ n ∷ ns)
     go false o is cmp f next = bad_later last (n ∷ ns) (odd_here n ns is)
     go true Less is cmp f next = bad_later last (n ∷ ns) (next f)
-    go true Equal is cmp f next = subst (λ m. HaveBadOrRepeatedName (last ∷ m ∷ ns)) (name_from_equal last n cmp) (twice last ns)
+    go true Equal is cmp f next = subst (λ m. HaveBadName (last ∷ m ∷ ns)) (name_from_equal last n cmp) (twice last ns)
     go true Greater is cmp f next =
         let back : name_cmp ShorterFirst n last ≡ Less = nat_list_cmp_total.antisymm n last ∙ ap ordering_reverse cmp in
-        let wrong : true ≡ false = sym (ap is_less_ordering back) ∙ h.0 in
+        let wrong : true ≡ false = sym (ap is_less back) ∙ h.0 in
         absurd (cc)
 
-above_nothing : (n : Name) → is_path_component n ≡ true → is_less_ordering (name_cmp ShorterFirst [] n) ≡ true
+above_nothing : (n : Name) → is_component n ≡ true → is_less (name_cmp ShorterFirst [] n) ≡ true
 above_nothing [] e = absurd (cc)
 above_nothing (b ∷ n) e = refl
 
-bad_from : (ns : List Name) → NeverFall ns → are_path_components_increasing_after_name [] ns ≡ false → HaveBadOrRepeatedName ns
+bad_from : (ns : List Name) → NeverFall ns → components_rise_after [] ns ≡ false → HaveBadName ns
 bad_from [] h e = absurd (cc)
-bad_from (n ∷ ns) h e = go (is_path_component n) refl e
+bad_from (n ∷ ns) h e = go (is_component n) refl e
   where
-    go : (c : Bool) → is_path_component n ≡ c → (c && is_less_ordering (name_cmp ShorterFirst [] n) && are_path_components_increasing_after_name n ns) ≡ false → HaveBadOrRepeatedName (n ∷ ns)
+    go : (c : Bool) → is_component n ≡ c → (c && is_less (name_cmp ShorterFirst [] n) && components_rise_after n ns) ≡ false → HaveBadName (n ∷ ns)
     go false is f = odd_here n ns is
-    go true is f = bad_behind n ns h (sym (ap (λ b. b && are_path_components_increasing_after_name n ns) (above_nothing n is)) ∙ f)
+    go true is f = bad_behind n ns h (sym (ap (λ b. b && components_rise_after n ns) (above_nothing n is)) ∙ f)
 
-pub bad_names : (xs : List ListedName) → IsSortedBy is_listed_name_before xs → are_path_components_increasing_after_name [] (map name_bytes_of_listed_name xs) ≡ false → HaveBadOrRepeatedName (map name_bytes_of_listed_name xs)
-bad_names xs h e = bad_from (map name_bytes_of_listed_name xs) (never_fall xs h) e
+pub bad_names : (xs : List ListedName) → IsSortedBy is_listed_before xs → components_rise_after [] (map listed_bytes xs) ≡ false → HaveBadName (map listed_bytes xs)
+bad_names xs h e = bad_from (map listed_bytes xs) (never_fall xs h) e
 
 -- ---- in another order
 
-same_times : (xs ys : List ListedName) (name : Name) → IsPermutation xs ys → occurrence_count_of_name name (map name_bytes_of_listed_name ys) ≡ occurrence_count_of_name name (map name_bytes_of_listed_name xs)
-same_times xs ys name h = sum_by-IsPermutation (λ n. cond (same_name name n) 1 0) (map name_bytes_of_listed_name xs) (map name_bytes_of_listed_name ys) (IsPermutation-map name_bytes_of_listed_name xs ys h)
+same_times : (xs ys : List ListedName) (name : Name) → IsPermutation xs ys → name_count name (map listed_bytes ys) ≡ name_count name (map listed_bytes xs)
+same_times xs ys name h = sum_by-IsPermutation (λ n. cond (same_name name n) 1 0) (map listed_bytes xs) (map listed_bytes ys) (IsPermutation-map listed_bytes xs ys h)
 
-bad_before : (xs ys : List ListedName) → IsPermutation xs ys → HaveBadOrRepeatedName (map name_bytes_of_listed_name ys) → HaveBadOrRepeatedName (map name_bytes_of_listed_name xs)
+bad_before : (xs ys : List ListedName) → IsPermutation xs ys → HaveBadName (map listed_bytes ys) → HaveBadName (map listed_bytes xs)
 bad_before xs ys h (inl b) = inl (b.0, b.1, omega (arith, b.2, same_times xs ys b.0 h))
 bad_before xs ys h (inr b) = inr (b.0, omega (arith, b.1, same_times xs ys b.0 h))
 
-pub names_given : (xs : List ListedName) → names_of_source_entries (map listed_name_and_kind_view xs) ≡ map name_bytes_of_listed_name xs
+pub names_given : (xs : List ListedName) → source_names (map listed_view xs) ≡ map listed_bytes xs
 names_given [] = refl
 names_given (x ∷ xs) = ap (λ ns. x.name.items ∷ ns) (names_given xs)
 
 -- what is bad once it is sorted was bad as it was given
-pub bad_given : (known : Option TreeSource) (folder : List ℕ) (xs ys zs : List ListedName) → IfSome known (λ s. map listed_name_and_kind_view xs ≡ s.names folder) → IsPermutation xs ys → zs ≡ ys → HaveBadOrRepeatedName (map name_bytes_of_listed_name zs)
-    → IfSome known (λ s. HaveBadOrRepeatedName (names_of_source_entries (s.names folder)))
+pub bad_given : (known : Option TreeSource) (folder : List ℕ) (xs ys zs : List ListedName) → IfSome known (λ s. map listed_view xs ≡ s.names folder) → IsPermutation xs ys → zs ≡ ys → HaveBadName (map listed_bytes zs)
+    → IfSome known (λ s. HaveBadName (source_names (s.names folder)))
 bad_given None folder xs ys zs e h same b = tt
 bad_given (Some s) folder xs ys zs e h same b =
-    subst (λ g. HaveBadOrRepeatedName (names_of_source_entries g)) e (subst HaveBadOrRepeatedName (sym (names_given xs)) (bad_before xs ys h (subst (λ v. HaveBadOrRepeatedName (map name_bytes_of_listed_name v)) same b)))
+    subst (λ g. HaveBadName (source_names g)) e (subst HaveBadName (sym (names_given xs)) (bad_before xs ys h (subst (λ v. HaveBadName (map listed_bytes v)) same b)))

@@ -1,6 +1,6 @@
 -- The actions on a target.
 use Rattle.std.specs.Prelude.{◌≡◌, ◌++◌, [], ◌∷◌, List, Option, Some, None}
-use Rattle.lfs_model.specs.Listing.{UnpackingAction, MakeDirectory, PutFile}
+use Rattle.lfs_model.specs.layers.Listing.{UnpackingAction, MakeDirectory, PutFile}
 use Rattle.lfs_tool_folders.specs.declared.target_memory.TargetAction.{TargetAction}
 use Rattle.lfs_tool_folders.specs.declared.target_memory.TargetAction.TheVariants as variant
 

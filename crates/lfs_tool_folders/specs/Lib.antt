@@ -1,8 +1,8 @@
 pub mod SourceTrees
 pub mod MemorySources
-pub mod Entries
+pub mod SourceEntries
 pub mod Actions
 pub mod Roots
 pub mod TemporaryNames
-pub mod Paths
+pub mod ImagePaths
 pub mod PathStates

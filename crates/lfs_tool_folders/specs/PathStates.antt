@@ -9,10 +9,10 @@ use Rattle.lfs_tool_folders.specs.declared.path_state.PathState.{PathState}
 use Rattle.lfs_tool_folders.specs.declared.path_state.PathState.TheVariants.{File, Nothing, Other}
 
 -- a file is told with its permissions; nothing, only where the system says so
-abbrev pub IsStateOfPath : Result Metadata Error → PathState → Type 0
-IsStateOfPath (Ok there) Nothing = ⊥
-IsStateOfPath (Ok there) (File permissions) = IsFile (file_type there) × (permissions_mode permissions ≡ metadata_mode there)
-IsStateOfPath (Ok there) Other = ¬ IsFile (file_type there)
-IsStateOfPath (Err error) Nothing = error_kind error ≡ NotFound
-IsStateOfPath (Err error) (File permissions) = ⊥
-IsStateOfPath (Err error) Other = error_kind error ≢ NotFound
+abbrev pub IsPathState : Result Metadata Error → PathState → Type 0
+IsPathState (Ok there) Nothing = ⊥
+IsPathState (Ok there) (File permissions) = IsFile (file_type there) × (permissions_mode permissions ≡ metadata_mode there)
+IsPathState (Ok there) Other = ¬ IsFile (file_type there)
+IsPathState (Err error) Nothing = error_kind error ≡ NotFound
+IsPathState (Err error) (File permissions) = ⊥
+IsPathState (Err error) Other = error_kind error ≢ NotFound

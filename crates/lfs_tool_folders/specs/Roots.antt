@@ -5,13 +5,13 @@ use Rattle.lfs_tool_folders.specs.declared.source_folder.Folder.{Folder}
 use Rattle.lfs_tool_folders.specs.declared.target_folder.TargetFolder.{TargetFolder}
 
 -- the path at which a folder is read
-abbrev pub root_path_of_source_folder : {R : Type 0} → Folder R → List ℕ
-root_path_of_source_folder f = string_bytes f.root
+abbrev pub source_root : {R : Type 0} → Folder R → List ℕ
+source_root f = string_bytes f.root
 
 -- how many bytes the image has that it is read for
-abbrev pub image_size_of_source_folder : {R : Type 0} → Folder R → ℕ
-image_size_of_source_folder f = f.image
+abbrev pub source_image_size : {R : Type 0} → Folder R → ℕ
+source_image_size f = f.image
 
 -- the path at which one is written
-abbrev pub root_path_of_target_folder : {R : Type 0} → TargetFolder R → List ℕ
-root_path_of_target_folder t = string_bytes t.root
+abbrev pub target_root : {R : Type 0} → TargetFolder R → List ℕ
+target_root t = string_bytes t.root

@@ -1,10 +1,10 @@
 ghost use Rattle.std.specs.Prelude.{◌≡◌, ◌++◌, ◌∷◌, [], IfOk, IfSome, IsErrOf, OnOk, map, reverse, true};
-ghost use Rattle.lfs_model.specs.Source.{HaveBadOrRepeatedName, names_of_source_entries, source_path_in_folder};
-ghost use Rattle.lfs_tool_folders.specs.SourceTrees.{IsKnownSourceTreeUnchanged, is_folder, listed_name_and_kind_view};
-ghost use Rattle.lfs_tool_folders.specs.MemorySources.{optional_bytes_view};
-ghost use Rattle.lfs_tool_folders.specs.Entries.{AreAllEntriesOfSource, AreNamesInFolder, HasOneMoreFaultOrPropertyHolds, HasFolderWithBadNames, HasContentsInSource, path_and_is_folder_of_waiting_entry, paths_of_names_in_folder};
+ghost use Rattle.lfs_model.specs.layers.Source.{HaveBadName, source_names, path_in_folder};
+ghost use Rattle.lfs_tool_folders.specs.SourceTrees.{IsSourceUnchanged, is_folder, listed_view};
+ghost use Rattle.lfs_tool_folders.specs.MemorySources.{optional_view};
+ghost use Rattle.lfs_tool_folders.specs.SourceEntries.{AreSourceEntries, AreFolderNames, HasFaultOr, HasBadNames, HasSourceContents, waiting_view, paths_in_folder};
 
-use crate::names::{are_listed_names_path_components_in_order, sort_names};
+use crate::names::{names_in_order, sort_names};
 use crate::{ListedName, Source, SourceError, SourceKind};
 use std::alloc::Global;
 
@@ -27,7 +27,7 @@ struct WaitingEntry {
 
 // Returns the path of a name in a folder.
 fn join_path(alloc: Global, folder: &[u8], name: &[u8]) -> Result<Vec<u8>, SourceError>
-    ensures path { IfOk result (λ v. v.items ≡ source_path_in_folder folder.now name.now) }
+    ensures path { IfOk result (λ v. v.items ≡ path_in_folder folder.now name.now) }
     ensures memory { (e : _) → result ≡ Err e → e ≡ SourceError.NoMemory }
 {
     let len = folder.len().saturating_add(1).saturating_add(name.len());
@@ -41,21 +41,21 @@ fn join_path(alloc: Global, folder: &[u8], name: &[u8]) -> Result<Vec<u8>, Sourc
 }
 
 // Returns the names in a folder, in order.
-fn sorted_names_in_folder<S: Source>(
+fn sorted_names<S: Source>(
     alloc: Global,
     source: &mut S,
     folder: &[u8],
 ) -> Result<Vec<ListedName>, SourceError>
-    ensures names { IfOk result (λ v. AreNamesInFolder (S.shown source.old) folder.now (map listed_name_and_kind_view v.items)) }
-    ensures shown { IsKnownSourceTreeUnchanged (S.shown source.old) (S.shown source.new) }
+    ensures names { IfOk result (λ v. AreFolderNames (S.shown source.old) folder.now (map listed_view v.items)) }
+    ensures shown { IsSourceUnchanged (S.shown source.old) (S.shown source.new) }
     ensures kept { OnOk result (S.faults source.new ≡ S.faults source.old) }
     ensures fault { IsErrOf result SourceError.Fault
-        → HasOneMoreFaultOrPropertyHolds (S.faults source.old) (S.faults source.new) (IfSome (S.shown source.old) (λ s. HaveBadOrRepeatedName (names_of_source_entries (s.names folder.now)))) }
+        → HasFaultOr (S.faults source.old) (S.faults source.new) (IfSome (S.shown source.old) (λ s. HaveBadName (source_names (s.names folder.now)))) }
     ensures no_memory { IsErrOf result SourceError.NoMemory → S.faults source.new ≡ S.faults source.old }
 {
     let mut names = source.list(alloc, folder)?;
     sort_names(&mut names);
-    if !are_listed_names_path_components_in_order(names.as_slice()) {
+    if !names_in_order(names.as_slice()) {
         return Err(SourceError::Fault);
     }
     Ok(names)
@@ -68,13 +68,13 @@ fn push_waiting_entry(waiting: &mut Vec<WaitingEntry>, one: WaitingEntry) -> Res
     waiting.push(one).map_err(|_| SourceError::NoMemory)
 }
 
-fn push_names_as_waiting(
+fn push_names_waiting(
     alloc: Global,
     folder: &[u8],
     names: &[ListedName],
     waiting: &mut Vec<WaitingEntry>,
 ) -> Result<(), SourceError>
-    ensures places { OnOk result (map path_and_is_folder_of_waiting_entry waiting.new.items ≡ map path_and_is_folder_of_waiting_entry waiting.old.items ++ paths_of_names_in_folder folder.now (map listed_name_and_kind_view names.now)) }
+    ensures places { OnOk result (map waiting_view waiting.new.items ≡ map waiting_view waiting.old.items ++ paths_in_folder folder.now (map listed_view names.now)) }
     ensures memory { (e : _) → result ≡ Err e → e ≡ SourceError.NoMemory }
 {
     for one in names {
@@ -87,23 +87,23 @@ fn push_names_as_waiting(
 }
 
 // Adds the names in a folder to the pending ones, the first name last.
-fn push_folder_names_as_waiting<S: Source>(
+fn push_folder_names<S: Source>(
     alloc: Global,
     source: &mut S,
     folder: &[u8],
     waiting: &mut Vec<WaitingEntry>,
 ) -> Result<(), SourceError>
-    ensures within { OnOk result ((within : _) × (AreNamesInFolder (S.shown source.old) folder.now within
-        × (map path_and_is_folder_of_waiting_entry waiting.new.items ≡ map path_and_is_folder_of_waiting_entry waiting.old.items ++ reverse (paths_of_names_in_folder folder.now within)))) }
-    ensures shown { IsKnownSourceTreeUnchanged (S.shown source.old) (S.shown source.new) }
+    ensures within { OnOk result ((within : _) × (AreFolderNames (S.shown source.old) folder.now within
+        × (map waiting_view waiting.new.items ≡ map waiting_view waiting.old.items ++ reverse (paths_in_folder folder.now within)))) }
+    ensures shown { IsSourceUnchanged (S.shown source.old) (S.shown source.new) }
     ensures kept { OnOk result (S.faults source.new ≡ S.faults source.old) }
     ensures fault { IsErrOf result SourceError.Fault
-        → HasOneMoreFaultOrPropertyHolds (S.faults source.old) (S.faults source.new) (IfSome (S.shown source.old) (λ s. HaveBadOrRepeatedName (names_of_source_entries (s.names folder.now)))) }
+        → HasFaultOr (S.faults source.old) (S.faults source.new) (IfSome (S.shown source.old) (λ s. HaveBadName (source_names (s.names folder.now)))) }
     ensures no_memory { IsErrOf result SourceError.NoMemory → S.faults source.new ≡ S.faults source.old }
 {
-    let mut names = sorted_names_in_folder(alloc, source, folder)?;
+    let mut names = sorted_names(alloc, source, folder)?;
     names.reverse();
-    push_names_as_waiting(alloc, folder, names.as_slice(), waiting)?;
+    push_names_waiting(alloc, folder, names.as_slice(), waiting)?;
     Ok(())
 }
 
@@ -114,18 +114,18 @@ fn read_waiting_entry<S: Source>(
     one: &WaitingEntry,
     waiting: &mut Vec<WaitingEntry>,
 ) -> Result<Option<Vec<u8>>, SourceError>
-    ensures holds { IfOk result (λ bytes. (within : _) × (HasContentsInSource (S.shown source.old) one.now.path.items (is_folder one.now.kind) (optional_bytes_view bytes) within
-        × (map path_and_is_folder_of_waiting_entry waiting.new.items ≡ map path_and_is_folder_of_waiting_entry waiting.old.items ++ reverse (paths_of_names_in_folder one.now.path.items within)))) }
-    ensures shown { IsKnownSourceTreeUnchanged (S.shown source.old) (S.shown source.new) }
+    ensures holds { IfOk result (λ bytes. (within : _) × (HasSourceContents (S.shown source.old) one.now.path.items (is_folder one.now.kind) (optional_view bytes) within
+        × (map waiting_view waiting.new.items ≡ map waiting_view waiting.old.items ++ reverse (paths_in_folder one.now.path.items within)))) }
+    ensures shown { IsSourceUnchanged (S.shown source.old) (S.shown source.new) }
     ensures kept { OnOk result (S.faults source.new ≡ S.faults source.old) }
     ensures fault { IsErrOf result SourceError.Fault
-        → HasOneMoreFaultOrPropertyHolds (S.faults source.old) (S.faults source.new)
-        ((is_folder one.now.kind ≡ true) × IfSome (S.shown source.old) (λ s. HaveBadOrRepeatedName (names_of_source_entries (s.names one.now.path.items)))) }
+        → HasFaultOr (S.faults source.old) (S.faults source.new)
+        ((is_folder one.now.kind ≡ true) × IfSome (S.shown source.old) (λ s. HaveBadName (source_names (s.names one.now.path.items)))) }
     ensures no_memory { IsErrOf result SourceError.NoMemory → S.faults source.new ≡ S.faults source.old }
 {
     match one.kind {
         SourceKind::Folder => {
-            push_folder_names_as_waiting(alloc, source, one.path.as_slice(), waiting)?;
+            push_folder_names(alloc, source, one.path.as_slice(), waiting)?;
             Ok(None)
         }
         SourceKind::File => {
@@ -135,7 +135,7 @@ fn read_waiting_entry<S: Source>(
     }
 }
 
-fn push_entry_to_source_entries(
+fn push_source_entry(
     entries: &mut Vec<SourceEntry>,
     entry: SourceEntry,
 ) -> Result<(), SourceError>
@@ -152,15 +152,15 @@ fn push_entry_to_source_entries(
 ///   `..`, or has a byte 0x00 or `/`.
 /// - `NoMemory` where memory isn't granted.
 pub fn read_tree<S: Source>(alloc: Global, source: &mut S) -> Result<Vec<SourceEntry>, SourceError>
-    ensures entries { IfOk result (λ v. AreAllEntriesOfSource (S.shown source.old) v.items) }
-    ensures shown { IsKnownSourceTreeUnchanged (S.shown source.old) (S.shown source.new) }
+    ensures entries { IfOk result (λ v. AreSourceEntries (S.shown source.old) v.items) }
+    ensures shown { IsSourceUnchanged (S.shown source.old) (S.shown source.new) }
     ensures kept { OnOk result (S.faults source.new ≡ S.faults source.old) }
-    ensures fault { IsErrOf result SourceError.Fault → HasOneMoreFaultOrPropertyHolds (S.faults source.old) (S.faults source.new) (IfSome (S.shown source.old) HasFolderWithBadNames) }
+    ensures fault { IsErrOf result SourceError.Fault → HasFaultOr (S.faults source.old) (S.faults source.new) (IfSome (S.shown source.old) HasBadNames) }
     ensures no_memory { IsErrOf result SourceError.NoMemory → S.faults source.new ≡ S.faults source.old }
 {
     let mut entries = Vec::new(alloc);
     let mut waiting = Vec::new(alloc);
-    push_folder_names_as_waiting(alloc, source, b"", &mut waiting)?;
+    push_folder_names(alloc, source, b"", &mut waiting)?;
     // Each round holds an entry, so memory ends before the rounds do.
     for _ in 0..u64::MAX {
         let Some(one) = waiting.pop() else {
@@ -168,7 +168,7 @@ pub fn read_tree<S: Source>(alloc: Global, source: &mut S) -> Result<Vec<SourceE
         };
         let bytes = read_waiting_entry(alloc, source, &one, &mut waiting)?;
         let path = one.path;
-        push_entry_to_source_entries(&mut entries, SourceEntry { path, bytes })?;
+        push_source_entry(&mut entries, SourceEntry { path, bytes })?;
     }
     Err(SourceError::NoMemory)
 }

@@ -1,6 +1,6 @@
 ghost use Rattle.std.specs.Prelude.{◌≡◌, IfOk};
 
-use crate::full_path::full_path_joined_with_name_unless_empty;
+use crate::full_path::joined_path;
 use std::alloc::{AllocError, Global};
 use std::cell::RefCell;
 use std::io;
@@ -22,7 +22,7 @@ pub struct FaultLog {
     first: RefCell<Result<Option<PathFault>, AllocError>>,
 }
 
-fn path_fault_of_error(
+fn path_fault_of(
     alloc: Global,
     path: &[u8],
     error: &io::Error,
@@ -48,7 +48,7 @@ impl FaultLog {
     /// Notes a fault at a path, unless something is noted already. Where memory runs out it notes that.
     pub fn note(&self, alloc: Global, path: &[u8], error: &io::Error) {
         if self.is_empty() {
-            match path_fault_of_error(alloc, path, error) {
+            match path_fault_of(alloc, path, error) {
                 Ok(fault) => {
                     let _ = self.first.try_replace(Ok(Some(fault)));
                 }
@@ -92,7 +92,7 @@ impl FaultLog {
         name: &[u8],
         error: &io::Error,
     ) {
-        match full_path_joined_with_name_unless_empty(alloc, root, path, name) {
+        match joined_path(alloc, root, path, name) {
             Ok(full) => self.note(alloc, full.as_slice(), error),
             Err(AllocError) => self.note_lost_fault(),
         }

@@ -19,7 +19,7 @@ pub(crate) fn full_path(alloc: Global, folder: &str, path: &[u8]) -> io::Result<
 }
 
 // Returns the path below a folder's, with a name in it, unless that is empty.
-pub(crate) fn full_path_joined_with_name_unless_empty(
+pub(crate) fn joined_path(
     alloc: Global,
     folder: &str,
     path: &[u8],

@@ -2,10 +2,10 @@ ghost use Rattle.std.specs.Prelude.{◌≡◌, IfErr, IfOk, None, OnOk, false, o
 ghost use Rattle.std.specs.Io.{WritesAtMost};
 ghost use Rattle.std.specs.Io.KnownBytes.{Keeps, WriteAppends};
 ghost use Rattle.std.specs.String.{string_bytes};
-ghost use Rattle.lfs_tool_folders.specs.TemporaryNames.{IsNumberedTemporaryPath};
-ghost use Rattle.lfs_tool_folders.specs.Paths.{image_path};
+ghost use Rattle.lfs_tool_folders.specs.TemporaryNames.{IsNumberedPath};
+ghost use Rattle.lfs_tool_folders.specs.ImagePaths.{image_path};
 
-use crate::temporary_files::{ImagePaths, create_image_file, move_temporary_to_path};
+use crate::temporary_files::{ImagePaths, create_image_file, move_to_path};
 use std::alloc::{AllocError, Global};
 use std::io::{ErrorKind, Write};
 use std::rt::Files;
@@ -67,13 +67,13 @@ impl<'a, R: Files> NewImage<'a, R> {
     /// Those of the system. The old file stays then, unless the system can't rename. The image is copied to
     /// its path then, and that may end early, or the file beside the path may be left.
     pub fn place(mut self) -> io::Result<()> {
-        self.move_image_to_final_path()
+        self.move_to_final()
     }
 
     // Makes the file.
-    fn create_and_keep_file(&mut self) -> io::Result<()>
+    fn create_kept_file(&mut self) -> io::Result<()>
         ensures path { self.new.paths.path ≡ self.old.paths.path }
-        ensures beside { OnOk result (self.new.is_beside ≡ true → IsNumberedTemporaryPath (string_bytes self.old.paths.path) (string_bytes self.new.paths.beside)) }
+        ensures beside { OnOk result (self.new.is_beside ≡ true → IsNumberedPath (string_bytes self.old.paths.path) (string_bytes self.new.paths.beside)) }
         ensures err { IfErr result (λ _. (self.new.file ≡ self.old.file) × (self.new.is_beside ≡ self.old.is_beside)) }
     {
         let (file, is_beside) = create_image_file(self.files, &mut self.paths)?;
@@ -83,13 +83,13 @@ impl<'a, R: Files> NewImage<'a, R> {
     }
 
     // Puts the file at its path, where it isn't there.
-    fn move_image_to_final_path(&mut self) -> io::Result<()>
+    fn move_to_final(&mut self) -> io::Result<()>
         ensures file { (self.new.file ≡ self.old.file) × (self.new.paths ≡ self.old.paths) }
         ensures placed { OnOk result (self.new.is_beside ≡ false) }
         ensures err { IfErr result (λ _. self.new ≡ self.old) }
     {
         if self.is_beside {
-            move_temporary_to_path(self.files, &self.paths)?;
+            move_to_path(self.files, &self.paths)?;
         }
         self.is_beside = false;
         Ok(())
@@ -106,7 +106,7 @@ impl<'a, R: Files> Write for NewImage<'a, R> {
         ensures path { self.new.paths.path ≡ self.old.paths.path }
     {
         if self.file.is_none() {
-            self.create_and_keep_file()?;
+            self.create_kept_file()?;
         }
         match &mut self.file {
             Some(file) => file.write(buf),

@@ -1,6 +1,6 @@
 // What stands at a path before it is written.
 
-ghost use Rattle.lfs_tool_folders.specs.PathStates.{IsStateOfPath};
+ghost use Rattle.lfs_tool_folders.specs.PathStates.{IsPathState};
 
 use std::fs::{Metadata, Permissions};
 use std::io;
@@ -18,8 +18,8 @@ pub(crate) enum PathState {
 }
 
 // What stands at a path, by what the system says of the path itself: a link is one, wherever it leads.
-pub(crate) fn path_state_of_metadata(found: io::Result<Metadata>) -> PathState
-    ensures { IsStateOfPath found result }
+pub(crate) fn state_of_metadata(found: io::Result<Metadata>) -> PathState
+    ensures { IsPathState found result }
 {
     match found {
         Ok(there) if there.is_file() => PathState::File(there.permissions()),

@@ -1,10 +1,10 @@
 ghost use Rattle.std.specs.Prelude.{◌≡◌, ◌↔◌, IfOk, suc};
 ghost use Rattle.std.specs.IoError.{error_kind};
-ghost use Rattle.lfs_tool_folders.specs.Roots.{image_size_of_source_folder, root_path_of_source_folder};
+ghost use Rattle.lfs_tool_folders.specs.Roots.{source_image_size, source_root};
 
 use crate::file_bytes::read_at_most;
-use crate::full_path::{full_path, full_path_joined_with_name_unless_empty};
-use crate::zeros::zeros_of_too_long_file;
+use crate::full_path::{full_path, joined_path};
+use crate::zeros::zeros_of_file;
 use crate::{FaultLog, FolderRules, Links, ListedName, Source, SourceError, SourceKind, Tally};
 use std::alloc::{AllocError, Global};
 use std::fs::{File, FileType, Metadata, OpenFile};
@@ -32,7 +32,7 @@ pub struct Folder<'a, R> {
     faults: Tally,
 }
 
-fn source_kind_of_file_type(kind: FileType) -> io::Result<SourceKind> {
+fn file_type_kind(kind: FileType) -> io::Result<SourceKind> {
     if kind.is_dir() {
         Ok(SourceKind::Folder)
     } else if kind.is_file() {
@@ -43,13 +43,13 @@ fn source_kind_of_file_type(kind: FileType) -> io::Result<SourceKind> {
 }
 
 // Returns an entry of a folder: its name, kind and length.
-fn listed_name_with_kind_and_length(
+fn listed_name_of(
     alloc: Global,
     name: &[u8],
     metadata: io::Result<Metadata>,
 ) -> io::Result<ListedName> {
     let metadata = metadata?;
-    let kind = source_kind_of_file_type(metadata.file_type())?;
+    let kind = file_type_kind(metadata.file_type())?;
     let name = name.to_vec(alloc)?;
     let len = metadata.len();
     Ok(ListedName { name, kind, len })
@@ -58,20 +58,20 @@ fn listed_name_with_kind_and_length(
 impl<'a, R: Files + AllocGlobal + Clone + Drop> Folder<'a, R> {
     /// Makes a source of the folder at a path of the file system. Nothing is read yet.
     pub fn new(rt: &'a R, log: &'a FaultLog, root: &str) -> Result<Folder<'a, R>, AllocError>
-        ensures root { IfOk result (λ f. root_path_of_source_folder f ≡ root.now) }
+        ensures root { IfOk result (λ f. source_root f ≡ root.now) }
     {
-        Folder::for_image_of_size(rt, log, root, u64::MAX)
+        Folder::for_image_size(rt, log, root, u64::MAX)
     }
 
     /// Makes the same source for an image of so many bytes.
-    pub fn for_image_of_size(
+    pub fn for_image_size(
         rt: &'a R,
         log: &'a FaultLog,
         root: &str,
         image: u64,
     ) -> Result<Folder<'a, R>, AllocError>
-        ensures root { IfOk result (λ f. root_path_of_source_folder f ≡ root.now) }
-        ensures image { IfOk result (λ f. image_size_of_source_folder f ≡ image) }
+        ensures root { IfOk result (λ f. source_root f ≡ root.now) }
+        ensures image { IfOk result (λ f. source_image_size f ≡ image) }
     {
         Ok(Folder {
             rt,
@@ -91,14 +91,14 @@ impl<'a, R: Files + AllocGlobal + Clone + Drop> Folder<'a, R> {
     }
 
     // Returns the entry of a name, or none where it is left out.
-    fn listed_name_by_rules(
+    fn name_by_rules(
         &self,
         folder: &[u8],
         name: &[u8],
         own: io::Result<Metadata>,
     ) -> io::Result<Option<ListedName>> {
         let alloc = self.rt.alloc();
-        let path = full_path_joined_with_name_unless_empty(alloc, "", folder, name)?;
+        let path = joined_path(alloc, "", folder, name)?;
         if self.rules.leave_out(path.as_slice(), name) {
             return Ok(None);
         }
@@ -118,7 +118,7 @@ impl<'a, R: Files + AllocGlobal + Clone + Drop> Folder<'a, R> {
                 return Err(io::Error::new(ErrorKind::InvalidInput, "the folder is in itself"));
             }
         }
-        let listed = listed_name_with_kind_and_length(alloc, name, metadata)?;
+        let listed = listed_name_of(alloc, name, metadata)?;
         Ok(Some(listed))
     }
 
@@ -141,22 +141,22 @@ impl<'a, R: Files + AllocGlobal + Clone + Drop> Folder<'a, R> {
     }
 
     /// Returns the length of the first file that was longer than the image, of those that were read.
-    pub fn first_too_long_file(&self) -> Option<u64> {
+    pub fn first_long_file(&self) -> Option<u64> {
         self.too_long
     }
 
-    fn list_names_in_folder(&self, alloc: Global, path: &[u8]) -> io::Result<Vec<ListedName>> {
+    fn list_names(&self, alloc: Global, path: &[u8]) -> io::Result<Vec<ListedName>> {
         let full = full_path(self.rt.alloc(), self.root.as_str(), path)?;
         let mut names = Vec::new(alloc);
         for entry in fs::read_dir(self.rt, full.as_str())? {
             if entry.is_err() {
-                self.note_name_not_utf8(path)?;
+                self.note_bad_name(path)?;
             }
             let entry = entry?;
             let name = entry.file_name();
-            let listed = self.listed_name_by_rules(path, name.as_bytes(), entry.metadata());
+            let listed = self.name_by_rules(path, name.as_bytes(), entry.metadata());
             if let Err(error) = &listed {
-                self.note_error_at_name(path, name.as_bytes(), error);
+                self.note_name_error(path, name.as_bytes(), error);
             }
             if let Some(listed) = listed? {
                 names.push(listed)?;
@@ -166,7 +166,7 @@ impl<'a, R: Files + AllocGlobal + Clone + Drop> Folder<'a, R> {
     }
 
     // Notes the first name in a folder that isn't UTF-8, where there is one.
-    fn note_name_not_utf8(&self, path: &[u8]) -> io::Result<()> {
+    fn note_bad_name(&self, path: &[u8]) -> io::Result<()> {
         let mut full = full_path(self.rt.alloc(), self.root.as_str(), path)?;
         // As `fs::read_dir` opens it.
         full.push('/')?;
@@ -175,14 +175,14 @@ impl<'a, R: Files + AllocGlobal + Clone + Drop> Folder<'a, R> {
         for name in names.split(|byte| *byte == 0) {
             if str::from_utf8(name).is_err() {
                 let error = io::Error::new(ErrorKind::InvalidFilename, "the name is not UTF-8");
-                self.note_error_at_name(path, name, &error);
+                self.note_name_error(path, name, &error);
             }
         }
         Ok(())
     }
 
     // Notes a fault of a name in a folder. With no name it is the fault of the path itself.
-    fn note_error_at_name(&self, path: &[u8], name: &[u8], error: &io::Error) {
+    fn note_name_error(&self, path: &[u8], name: &[u8], error: &io::Error) {
         let root = self.root.as_str();
         self.log
             .note_below_root(self.rt.alloc(), root, path, name, error);
@@ -200,7 +200,7 @@ impl<'a, R: Files + AllocGlobal + Clone + Drop> Folder<'a, R> {
         } else {
             listed_len
         };
-        if let Some(zeros) = zeros_of_too_long_file(self.rt.alloc(), len, self.image)? {
+        if let Some(zeros) = zeros_of_file(self.rt.alloc(), len, self.image)? {
             self.too_long = self.too_long.or(Some(len));
             return Ok(zeros);
         }
@@ -210,7 +210,7 @@ impl<'a, R: Files + AllocGlobal + Clone + Drop> Folder<'a, R> {
     }
 
     // Returns the source's error for an error of std.
-    fn note_fault_and_return_source_error(&mut self, path: &[u8], error: io::Error) -> SourceError
+    fn source_error_noted(&mut self, path: &[u8], error: io::Error) -> SourceError
         ensures kind { (error_kind error ≡ ErrorKind.OutOfMemory) ↔ (result ≡ SourceError.NoMemory) }
         ensures fault { result ≡ SourceError.Fault → self.new.faults.count ≡ suc self.old.faults.count }
         ensures no_memory { result ≡ SourceError.NoMemory → self.new.faults.count ≡ self.old.faults.count }
@@ -218,7 +218,7 @@ impl<'a, R: Files + AllocGlobal + Clone + Drop> Folder<'a, R> {
         if error.kind() == ErrorKind::OutOfMemory {
             return SourceError::NoMemory;
         }
-        self.note_error_at_name(path, b"", &error);
+        self.note_name_error(path, b"", &error);
         self.faults = self.faults.one_more();
         SourceError::Fault
     }
@@ -228,9 +228,9 @@ impl<'a, R: Files + AllocGlobal + Clone + Drop> Source for Folder<'a, R> {
     ghost faults = { λ s. s.faults.count };
 
     fn list(&mut self, alloc: Global, folder: &[u8]) -> Result<Vec<ListedName>, SourceError> {
-        match self.list_names_in_folder(alloc, folder) {
+        match self.list_names(alloc, folder) {
             Ok(names) => Ok(names),
-            Err(error) => Err(self.note_fault_and_return_source_error(folder, error)),
+            Err(error) => Err(self.source_error_noted(folder, error)),
         }
     }
 
@@ -242,7 +242,7 @@ impl<'a, R: Files + AllocGlobal + Clone + Drop> Source for Folder<'a, R> {
     ) -> Result<Vec<u8>, SourceError> {
         match self.read_file_bytes(file, listed_len) {
             Ok(bytes) => Ok(bytes),
-            Err(error) => Err(self.note_fault_and_return_source_error(file, error)),
+            Err(error) => Err(self.source_error_noted(file, error)),
         }
     }
 }

@@ -1,8 +1,8 @@
 ghost use Rattle.std.specs.Prelude.{◌≡◌, ◌+◌, ◌++◌, ◌∷◌, [], IfOk, IsErrOf, MatchOption, None, OnOk, Some, drop, false, length, map, suc, true, ◌==◌};
 ghost use Rattle.std.specs.List.{list_any};
-ghost use Rattle.lfs_model.specs.Names.{slash_byte};
-ghost use Rattle.lfs_tool_folders.specs.SourceTrees.{is_folder, listed_name_and_kind_view};
-ghost use Rattle.lfs_tool_folders.specs.MemorySources.{bytes_of_first_file_at_path, are_optional_bytes_absent, is_directly_in_folder, path_and_bytes_of_memory_entry, name_of_item_directly_in_folder, names_of_items_directly_in_folder, source_of_paths_and_bytes};
+ghost use Rattle.lfs_model.specs.format.Names.{slash_byte};
+ghost use Rattle.lfs_tool_folders.specs.SourceTrees.{is_folder, listed_view};
+ghost use Rattle.lfs_tool_folders.specs.MemorySources.{file_bytes_at, are_absent, is_directly_in, memory_view, name_in_folder, names_in_folder, source_of_files};
 
 use crate::{ListedName, Source, SourceError, SourceKind, Tally};
 use std::alloc::Global;
@@ -48,9 +48,9 @@ fn has_slash(name: &[u8]) -> bool
 }
 
 // Returns the name of the path, where it is directly in the folder.
-fn name_if_directly_in_folder<'a>(folder: &[u8], path: &'a [u8]) -> Option<&'a [u8]>
-    ensures { MatchOption result (is_directly_in_folder folder.now path.now ≡ false)
-        (λ name. (is_directly_in_folder folder.now path.now ≡ true) × (name.now ≡ drop (length folder.now + 1) path.now)) }
+fn direct_name<'a>(folder: &[u8], path: &'a [u8]) -> Option<&'a [u8]>
+    ensures { MatchOption result (is_directly_in folder.now path.now ≡ false)
+        (λ name. (is_directly_in folder.now path.now ≡ true) × (name.now ≡ drop (length folder.now + 1) path.now)) }
 {
     let at = folder.len();
     if at >= path.len() || &path[..at] != folder || path[at] != b'/' {
@@ -67,8 +67,8 @@ fn copy_bytes(alloc: Global, bytes: &[u8]) -> Result<Vec<u8>, SourceError>
     bytes.to_vec(alloc).map_err(|_| SourceError::NoMemory)
 }
 
-fn source_kind_of_memory_entry(held: &MemorySourceEntry) -> SourceKind
-    ensures { is_folder result ≡ are_optional_bytes_absent (path_and_bytes_of_memory_entry held.now).1 }
+fn memory_entry_kind(held: &MemorySourceEntry) -> SourceKind
+    ensures { is_folder result ≡ are_absent (memory_view held.now).1 }
 {
     match &held.bytes {
         Some(_) => SourceKind::File,
@@ -77,61 +77,61 @@ fn source_kind_of_memory_entry(held: &MemorySourceEntry) -> SourceKind
 }
 
 // Adds the name of an entry, where it is directly in the folder.
-fn push_name_if_in_folder(
+fn push_direct_name(
     alloc: Global,
     names: &mut Vec<ListedName>,
     folder: &[u8],
     held: &MemorySourceEntry,
 ) -> Result<(), SourceError>
-    ensures names { OnOk result (map listed_name_and_kind_view names.new.items ≡ map listed_name_and_kind_view names.old.items ++ name_of_item_directly_in_folder folder.now (path_and_bytes_of_memory_entry held.now)) }
+    ensures names { OnOk result (map listed_view names.new.items ≡ map listed_view names.old.items ++ name_in_folder folder.now (memory_view held.now)) }
     ensures memory { (e : _) → result ≡ Err e → e ≡ SourceError.NoMemory }
 {
-    let Some(name) = name_if_directly_in_folder(folder, held.path.as_slice()) else {
+    let Some(name) = direct_name(folder, held.path.as_slice()) else {
         return Ok(());
     };
     let name = copy_bytes(alloc, name)?;
-    let kind = source_kind_of_memory_entry(held);
+    let kind = memory_entry_kind(held);
     names
         .push(ListedName { name, kind, len: 0 })
         .map_err(|_| SourceError::NoMemory)
 }
 
 // Returns the names of the entries that are directly in the folder.
-fn names_directly_in_folder(
+fn direct_names(
     alloc: Global,
     held: &[MemorySourceEntry],
     folder: &[u8],
 ) -> Result<Vec<ListedName>, SourceError>
-    ensures names { IfOk result (λ v. map listed_name_and_kind_view v.items ≡ names_of_items_directly_in_folder (map path_and_bytes_of_memory_entry held.now) folder.now) }
+    ensures names { IfOk result (λ v. map listed_view v.items ≡ names_in_folder (map memory_view held.now) folder.now) }
     ensures memory { (e : _) → result ≡ Err e → e ≡ SourceError.NoMemory }
 {
     let mut names = Vec::new(alloc);
     for one in held {
-        push_name_if_in_folder(alloc, &mut names, folder, one)?;
+        push_direct_name(alloc, &mut names, folder, one)?;
     }
     Ok(names)
 }
 
 impl Source for MemorySource {
-    ghost shown = { λ s. Some (source_of_paths_and_bytes (map path_and_bytes_of_memory_entry s.held.items)) };
+    ghost shown = { λ s. Some (source_of_files (map memory_view s.held.items)) };
 
     ghost faults = { λ s. s.faults.count };
 
     fn list(&mut self, alloc: Global, folder: &[u8]) -> Result<Vec<ListedName>, SourceError>
-        ensures names { IfOk result (λ v. map listed_name_and_kind_view v.items ≡ names_of_items_directly_in_folder (map path_and_bytes_of_memory_entry self.old.held.items) folder.now) }
+        ensures names { IfOk result (λ v. map listed_view v.items ≡ names_in_folder (map memory_view self.old.held.items) folder.now) }
         ensures held { self.new.held ≡ self.old.held }
         ensures kept { self.new.faults.count ≡ self.old.faults.count }
         ensures never { ¬ IsErrOf result SourceError.Fault }
     {
-        let names = names_directly_in_folder(alloc, self.held.as_slice(), folder)?;
+        let names = direct_names(alloc, self.held.as_slice(), folder)?;
         Ok(names)
     }
 
     fn read(&mut self, alloc: Global, file: &[u8], _listed_len: u64) -> Result<Vec<u8>, SourceError>
-        ensures bytes { IfOk result (λ v. bytes_of_first_file_at_path (map path_and_bytes_of_memory_entry self.old.held.items) file.now ≡ Some v.items) }
+        ensures bytes { IfOk result (λ v. file_bytes_at (map memory_view self.old.held.items) file.now ≡ Some v.items) }
         ensures held { self.new.held ≡ self.old.held }
         ensures kept { OnOk result (self.new.faults.count ≡ self.old.faults.count) }
-        ensures missing { IsErrOf result SourceError.Fault → bytes_of_first_file_at_path (map path_and_bytes_of_memory_entry self.old.held.items) file.now ≡ None }
+        ensures missing { IsErrOf result SourceError.Fault → file_bytes_at (map memory_view self.old.held.items) file.now ≡ None }
         ensures fault { IsErrOf result SourceError.Fault → self.new.faults.count ≡ suc self.old.faults.count }
         ensures no_memory { IsErrOf result SourceError.NoMemory → self.new.faults.count ≡ self.old.faults.count }
     {

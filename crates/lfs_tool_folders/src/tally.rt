@@ -19,18 +19,18 @@ impl Tally {
     pub fn none() -> Tally
         ensures { result.count ≡ 0 }
     {
-        Tally::with_count_given_by_proof(&(), &())
+        Tally::with_ghost_count(&(), &())
     }
 
     /// Counts one more.
     pub fn one_more(&self) -> Tally
         ensures { result.count ≡ suc self.now.count }
     {
-        Tally::with_count_given_by_proof(self, &())
+        Tally::with_ghost_count(self, &())
     }
 
     // Makes any count. The caller's proof picks the count from what the reference points to.
-    fn with_count_given_by_proof<S, T>(_before: &S, _counted: &T) -> Tally
+    fn with_ghost_count<S, T>(_before: &S, _counted: &T) -> Tally
         ghost count: { ℕ }
         ensures { result.count ≡ count }
     {

@@ -1,5 +1,5 @@
 ghost use Rattle.std.specs.Prelude.{◌≡◌, ℕ, IsErrOf, List, None, OnErr, OnOk, Option, suc};
-ghost use Rattle.lfs_model.specs.Listing.{UnpackingAction, MakeDirectory, PutFile};
+ghost use Rattle.lfs_model.specs.layers.Listing.{UnpackingAction, MakeDirectory, PutFile};
 ghost use Rattle.lfs_tool_folders.specs.Actions.{AddsAction};
 
 use std::alloc::Global;

@@ -1,6 +1,6 @@
 ghost use Rattle.std.specs.Prelude.{◌≡◌, ◌↔◌, IfOk, suc};
 ghost use Rattle.std.specs.IoError.{error_kind};
-ghost use Rattle.lfs_tool_folders.specs.Roots.{root_path_of_target_folder};
+ghost use Rattle.lfs_tool_folders.specs.Roots.{target_root};
 
 use crate::full_path::full_path;
 use crate::{FaultLog, Tally, Target, TargetError};
@@ -22,7 +22,7 @@ pub struct TargetFolder<'a, R> {
 }
 
 // Makes a folder, unless there is one.
-fn make_folder_unless_present<R: Files>(rt: &R, path: &str) -> io::Result<()> {
+fn ensure_folder<R: Files>(rt: &R, path: &str) -> io::Result<()> {
     let Err(error) = fs::create_dir(rt, path) else {
         return Ok(());
     };
@@ -33,8 +33,8 @@ fn make_folder_unless_present<R: Files>(rt: &R, path: &str) -> io::Result<()> {
 }
 
 // Makes a folder and those above it, unless there is one, or a link to one.
-fn make_folder_and_parents<R: Files>(rt: &R, path: &str) -> io::Result<()> {
-    match make_folder_unless_present(rt, path) {
+fn make_folders<R: Files>(rt: &R, path: &str) -> io::Result<()> {
+    match ensure_folder(rt, path) {
         Err(error) if error.kind() == ErrorKind::NotFound => fs::create_dir_all(rt, path),
         Err(error) => match fs::metadata(rt, path) {
             Ok(there) if there.is_dir() => Ok(()),
@@ -45,7 +45,7 @@ fn make_folder_and_parents<R: Files>(rt: &R, path: &str) -> io::Result<()> {
 }
 
 // Refuses a path that has something else than a file.
-fn check_path_is_file_or_free<R: Files>(rt: &R, path: &str) -> io::Result<()> {
+fn check_free_path<R: Files>(rt: &R, path: &str) -> io::Result<()> {
     match fs::symlink_metadata(rt, path) {
         Ok(there) if !there.is_file() => Err(io::Error::new(
             ErrorKind::InvalidInput,
@@ -58,7 +58,7 @@ fn check_path_is_file_or_free<R: Files>(rt: &R, path: &str) -> io::Result<()> {
 impl<'a, R: Files + AllocGlobal + Clone + Drop> TargetFolder<'a, R> {
     /// Makes a target of the folder at a path of the file system. Nothing is made yet.
     pub fn new(rt: &'a R, log: &'a FaultLog, root: &str) -> Result<TargetFolder<'a, R>, AllocError>
-        ensures root { IfOk result (λ f. root_path_of_target_folder f ≡ root.now) }
+        ensures root { IfOk result (λ f. target_root f ≡ root.now) }
     {
         Ok(TargetFolder {
             rt,
@@ -69,40 +69,40 @@ impl<'a, R: Files + AllocGlobal + Clone + Drop> TargetFolder<'a, R> {
     }
 
     // Returns the path in the file system, where it is text. The folder itself is there then.
-    fn make_target_folder_and_return_full_path(&self, path: &[u8]) -> io::Result<String> {
+    fn make_target_folder(&self, path: &[u8]) -> io::Result<String> {
         let full = full_path(self.rt.alloc(), self.root.as_str(), path)?;
-        if let Err(error) = make_folder_and_parents(self.rt, self.root.as_str()) {
-            self.note_error_at_target_path(b"", &error);
+        if let Err(error) = make_folders(self.rt, self.root.as_str()) {
+            self.note_target_error(b"", &error);
             return Err(error);
         }
         Ok(full)
     }
 
     // Notes a fault at a path.
-    fn note_error_at_target_path(&self, path: &[u8], error: &io::Error) {
+    fn note_target_error(&self, path: &[u8], error: &io::Error) {
         let root = self.root.as_str();
         self.log
             .note_below_root(self.rt.alloc(), root, path, b"", error);
     }
 
     // Makes the folder at a path. The empty path is that of the target itself.
-    fn make_folder_at_path(&self, path: &[u8]) -> io::Result<()> {
-        let full = self.make_target_folder_and_return_full_path(path)?;
+    fn make_folder_at(&self, path: &[u8]) -> io::Result<()> {
+        let full = self.make_target_folder(path)?;
         if path.is_empty() {
             return Ok(());
         }
-        make_folder_unless_present(self.rt, full.as_str())
+        ensure_folder(self.rt, full.as_str())
     }
 
-    fn write_file_at_path(&self, path: &[u8], bytes: &[u8]) -> io::Result<()> {
-        let full = self.make_target_folder_and_return_full_path(path)?;
-        check_path_is_file_or_free(self.rt, full.as_str())?;
+    fn write_file_at(&self, path: &[u8], bytes: &[u8]) -> io::Result<()> {
+        let full = self.make_target_folder(path)?;
+        check_free_path(self.rt, full.as_str())?;
         let mut file = File::create(self.rt, full.as_str())?;
         file.write_all(bytes)
     }
 
     // Returns the target's error for an error of std.
-    fn note_fault_and_return_target_error(&mut self, path: &[u8], error: io::Error) -> TargetError
+    fn target_error_noted(&mut self, path: &[u8], error: io::Error) -> TargetError
         ensures kind { (error_kind error ≡ ErrorKind.OutOfMemory) ↔ (result ≡ TargetError.NoMemory) }
         ensures fault { result ≡ TargetError.Fault → self.new.faults.count ≡ suc self.old.faults.count }
         ensures no_memory { result ≡ TargetError.NoMemory → self.new.faults.count ≡ self.old.faults.count }
@@ -110,7 +110,7 @@ impl<'a, R: Files + AllocGlobal + Clone + Drop> TargetFolder<'a, R> {
         if error.kind() == ErrorKind::OutOfMemory {
             return TargetError::NoMemory;
         }
-        self.note_error_at_target_path(path, &error);
+        self.note_target_error(path, &error);
         self.faults = self.faults.one_more();
         TargetError::Fault
     }
@@ -120,16 +120,16 @@ impl<'a, R: Files + AllocGlobal + Clone + Drop> Target for TargetFolder<'a, R> {
     ghost faults = { λ t. t.faults.count };
 
     fn make_folder(&mut self, _alloc: Global, path: &[u8]) -> Result<(), TargetError> {
-        match self.make_folder_at_path(path) {
+        match self.make_folder_at(path) {
             Ok(()) => Ok(()),
-            Err(error) => Err(self.note_fault_and_return_target_error(path, error)),
+            Err(error) => Err(self.target_error_noted(path, error)),
         }
     }
 
     fn put_file(&mut self, _alloc: Global, path: &[u8], bytes: &[u8]) -> Result<(), TargetError> {
-        match self.write_file_at_path(path, bytes) {
+        match self.write_file_at(path, bytes) {
             Ok(()) => Ok(()),
-            Err(error) => Err(self.note_fault_and_return_target_error(path, error)),
+            Err(error) => Err(self.target_error_noted(path, error)),
         }
     }
 }

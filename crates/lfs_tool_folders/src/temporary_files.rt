@@ -3,9 +3,9 @@
 ghost use Rattle.std.specs.Prelude.{◌≡◌, ◌++◌, IfOk, OnOk, false, true};
 ghost use Rattle.std.specs.Fmt.{decimal};
 ghost use Rattle.std.specs.String.{string_bytes};
-ghost use Rattle.lfs_tool_folders.specs.TemporaryNames.{IsNumberedTemporaryPath, temporary_path_prefix};
+ghost use Rattle.lfs_tool_folders.specs.TemporaryNames.{IsNumberedPath, temporary_prefix};
 
-use crate::path_state::{PathState, path_state_of_metadata};
+use crate::path_state::{PathState, state_of_metadata};
 use std::alloc::{AllocError, Global};
 use std::fs::{File, OpenFile, OpenOptions, Permissions};
 use std::io::ErrorKind;
@@ -29,7 +29,7 @@ pub(crate) struct ImagePaths {
     start: String,
     // The path beside it that was tried last.
     pub(crate) beside: String,
-    ghost is_start: { string_bytes start ≡ temporary_path_prefix (string_bytes path) },
+    ghost is_start: { string_bytes start ≡ temporary_prefix (string_bytes path) },
 }
 
 impl ImagePaths {
@@ -49,9 +49,9 @@ impl ImagePaths {
     }
 
     // Takes the path beside it of that number.
-    fn set_number_of_temporary_path(&mut self, number: u32) -> Result<(), AllocError>
+    fn set_temporary_number(&mut self, number: u32) -> Result<(), AllocError>
         ensures path { self.new.path ≡ self.old.path }
-        ensures beside { OnOk result (string_bytes self.new.beside ≡ temporary_path_prefix (string_bytes self.old.path) ++ decimal number) }
+        ensures beside { OnOk result (string_bytes self.new.beside ≡ temporary_prefix (string_bytes self.old.path) ++ decimal number) }
     {
         self.beside.clear();
         self.beside.push_str(self.start.as_str())?;
@@ -63,10 +63,10 @@ impl ImagePaths {
 // Makes a new file beside a path, under the first name that is free.
 fn create_temporary_file<R: Files>(files: &R, paths: &mut ImagePaths) -> io::Result<R::File>
     ensures path { paths.new.path ≡ paths.old.path }
-    ensures beside { OnOk result (IsNumberedTemporaryPath (string_bytes paths.old.path) (string_bytes paths.new.beside)) }
+    ensures beside { OnOk result (IsNumberedPath (string_bytes paths.old.path) (string_bytes paths.new.beside)) }
 {
     for number in 0..NAMES {
-        paths.set_number_of_temporary_path(number)?;
+        paths.set_temporary_number(number)?;
         match File::create_new(files, paths.beside.as_str()) {
             Ok(file) => return Ok(file),
             Err(error) if error.kind() == ErrorKind::AlreadyExists => {}
@@ -78,12 +78,12 @@ fn create_temporary_file<R: Files>(files: &R, paths: &mut ImagePaths) -> io::Res
 
 // Makes a new file beside a path. Where the folder takes no new file, makes or empties the one at the
 // path. Returns whether the file is beside it.
-fn create_temporary_or_final_file<R: Files>(
+fn create_new_file<R: Files>(
     files: &R,
     paths: &mut ImagePaths,
 ) -> io::Result<(R::File, bool)>
     ensures path { paths.new.path ≡ paths.old.path }
-    ensures beside { IfOk result (λ made. made.1 ≡ true → IsNumberedTemporaryPath (string_bytes paths.old.path) (string_bytes paths.new.beside)) }
+    ensures beside { IfOk result (λ made. made.1 ≡ true → IsNumberedPath (string_bytes paths.old.path) (string_bytes paths.new.beside)) }
 {
     match create_temporary_file(files, paths) {
         Ok(file) => Ok((file, true)),
@@ -101,29 +101,29 @@ fn create_replacement_file<R: Files>(
     permissions: Permissions,
 ) -> io::Result<(R::File, bool)>
     ensures path { paths.new.path ≡ paths.old.path }
-    ensures beside { IfOk result (λ made. made.1 ≡ true → IsNumberedTemporaryPath (string_bytes paths.old.path) (string_bytes paths.new.beside)) }
+    ensures beside { IfOk result (λ made. made.1 ≡ true → IsNumberedPath (string_bytes paths.old.path) (string_bytes paths.new.beside)) }
 {
     let _there = OpenOptions::new()
         .write(true)
         .open(files, paths.path.as_str())?;
-    let made = create_temporary_or_final_file(files, paths)?;
+    let made = create_new_file(files, paths)?;
     // Where the system knows no permissions, the file has those of a new one.
     let _ = made.0.set_permissions(permissions);
     Ok(made)
 }
 
 // Makes the file that is to stand at a path where that stands there now.
-fn create_file_by_path_state<R: Files>(
+fn create_by_state<R: Files>(
     files: &R,
     paths: &mut ImagePaths,
     standing: PathState,
 ) -> io::Result<(R::File, bool)>
     ensures path { paths.new.path ≡ paths.old.path }
-    ensures beside { IfOk result (λ made. made.1 ≡ true → IsNumberedTemporaryPath (string_bytes paths.old.path) (string_bytes paths.new.beside)) }
+    ensures beside { IfOk result (λ made. made.1 ≡ true → IsNumberedPath (string_bytes paths.old.path) (string_bytes paths.new.beside)) }
     ensures there { standing ≡ PathState.Other → IfOk result (λ made. made.1 ≡ false) }
 {
     match standing {
-        PathState::Nothing => create_temporary_or_final_file(files, paths),
+        PathState::Nothing => create_new_file(files, paths),
         PathState::File(permissions) => create_replacement_file(files, paths, permissions),
         PathState::Other => Ok((File::create(files, paths.path.as_str())?, false)),
     }
@@ -136,15 +136,15 @@ pub(crate) fn create_image_file<R: Files>(
     paths: &mut ImagePaths,
 ) -> io::Result<(R::File, bool)>
     ensures path { paths.new.path ≡ paths.old.path }
-    ensures beside { IfOk result (λ made. made.1 ≡ true → IsNumberedTemporaryPath (string_bytes paths.old.path) (string_bytes paths.new.beside)) }
+    ensures beside { IfOk result (λ made. made.1 ≡ true → IsNumberedPath (string_bytes paths.old.path) (string_bytes paths.new.beside)) }
 {
     let found = fs::symlink_metadata(files, paths.path.as_str());
-    create_file_by_path_state(files, paths, path_state_of_metadata(found))
+    create_by_state(files, paths, state_of_metadata(found))
 }
 
 // Puts the file beside a path in its place. Where the system refuses that, as at a file that is mounted
 // alone, its bytes are copied there.
-pub(crate) fn move_temporary_to_path<R: Files>(files: &R, paths: &ImagePaths) -> io::Result<()> {
+pub(crate) fn move_to_path<R: Files>(files: &R, paths: &ImagePaths) -> io::Result<()> {
     let (beside, path) = (paths.beside.as_str(), paths.path.as_str());
     if fs::rename(files, beside, path).is_ok() {
         return Ok(());

@@ -6,7 +6,7 @@ use std::alloc::{AllocError, Global};
 
 // Returns the zeros that stand for a file of `len` bytes where the image is too short for it. They are too many for
 // the image, too.
-pub(crate) fn zeros_of_too_long_file(
+pub(crate) fn zeros_of_file(
     alloc: Global,
     len: u64,
     image: u64,

@@ -3,44 +3,44 @@ use Rattle.std.proofs.Common.{◌≡◌, ◌∷◌, [], None, Some, List, refl, 
 use Rattle.clap.specs.Words.{Text, first_of}
 use Rattle.clap.specs.declared.error.ErrorKind.TheVariants as kind
 use Rattle.clap.proofs.OnLiterals.{clap_on_literals}
-use Rattle.lfs_tool_line.specs.Command.{mklittlefs, with_board_and_version_options, with_extra_options, with_limit_options, with_mode_options, with_mode_size_and_order_options, with_path_mode_options, with_size_options}
-use Rattle.lfs_tool_line.specs.Matches.{faults, given_mode_count, rows}
-use Rattle.lfs_tool_line.specs.Numbers.{number_in_text, within_32_bits}
-use Rattle.lfs_tool_line.specs.Values.{is_option_auto, number_or, numeric_option_value_in_rows}
+use Rattle.lfs_tool_line.specs.Command.{mklittlefs, with_board_options, with_extra_options, with_limit_options, with_mode_options, with_common_options, with_path_modes, with_size_options}
+use Rattle.lfs_tool_line.specs.Matches.{faults, mode_count, rows}
+use Rattle.lfs_tool_line.specs.Numbers.{number_in_text, fits_word}
+use Rattle.lfs_tool_line.specs.Values.{is_option_auto, number_or, number_in_rows}
 
 abbrev create_line : List Text
 create_line = codes "mklittlefs" ∷ codes "-cdir" ∷ codes "-b=512" ∷ codes "-p" ∷ codes "+16" ∷ codes "disk.img" ∷ []
 
-created : (numeric_option_value_in_rows (codes "block_size") (rows create_line) ≡ Some 512) × (numeric_option_value_in_rows (codes "page") (rows create_line) ≡ Some 16)
+created : (number_in_rows (codes "block_size") (rows create_line) ≡ Some 512) × (number_in_rows (codes "page") (rows create_line) ≡ Some 16)
     × (number_or 65536 (codes "size") (rows create_line) ≡ 65536) × (first_of (codes "create") (rows create_line) ≡ Some (codes "dir"))
-    × (given_mode_count (rows create_line) ≡ 1) × (faults create_line ≡ [])
-unfolding clap_on_literals mklittlefs with_mode_size_and_order_options with_mode_options with_path_mode_options with_size_options with_limit_options with_board_and_version_options with_extra_options rows faults number_in_text
+    × (mode_count (rows create_line) ≡ 1) × (faults create_line ≡ [])
+unfolding clap_on_literals mklittlefs with_common_options with_mode_options with_path_modes with_size_options with_limit_options with_board_options with_extra_options rows faults number_in_text
 created = (refl, refl, refl, refl, refl, refl)
 
 too_large : faults (codes "m" ∷ codes "-l" ∷ codes "-s4294967296" ∷ codes "i" ∷ []) ≡ kind.ValueValidation ∷ []
-unfolding clap_on_literals mklittlefs with_mode_size_and_order_options with_mode_options with_path_mode_options with_size_options with_limit_options with_board_and_version_options with_extra_options rows faults number_in_text
+unfolding clap_on_literals mklittlefs with_common_options with_mode_options with_path_modes with_size_options with_limit_options with_board_options with_extra_options rows faults number_in_text
 too_large = refl
 
 no_image : faults (codes "m" ∷ codes "-l" ∷ []) ≡ kind.MissingRequiredArgument ∷ []
-unfolding clap_on_literals mklittlefs with_mode_size_and_order_options with_mode_options with_path_mode_options with_size_options with_limit_options with_board_and_version_options with_extra_options faults
+unfolding clap_on_literals mklittlefs with_common_options with_mode_options with_path_modes with_size_options with_limit_options with_board_options with_extra_options faults
 no_image = refl
 
-no_mode : (faults (codes "m" ∷ codes "i" ∷ []) ≡ []) × (given_mode_count (rows (codes "m" ∷ codes "i" ∷ [])) ≡ 0)
-unfolding clap_on_literals mklittlefs with_mode_size_and_order_options with_mode_options with_path_mode_options with_size_options with_limit_options with_board_and_version_options with_extra_options rows faults
+no_mode : (faults (codes "m" ∷ codes "i" ∷ []) ≡ []) × (mode_count (rows (codes "m" ∷ codes "i" ∷ [])) ≡ 0)
+unfolding clap_on_literals mklittlefs with_common_options with_mode_options with_path_modes with_size_options with_limit_options with_board_options with_extra_options rows faults
 no_mode = (refl, refl)
 
 -- the size of a block may be that of the superblock
 auto_size : (is_option_auto (codes "block_size") (rows (codes "m" ∷ codes "-l" ∷ codes "-bauto" ∷ codes "i" ∷ [])) ≡ true) × (faults (codes "m" ∷ codes "-l" ∷ codes "-bauto" ∷ codes "i" ∷ []) ≡ [])
     × (faults (codes "m" ∷ codes "-l" ∷ codes "-pauto" ∷ codes "i" ∷ []) ≡ kind.ValueValidation ∷ [])
-unfolding clap_on_literals mklittlefs with_mode_size_and_order_options with_mode_options with_path_mode_options with_size_options with_limit_options with_board_and_version_options with_extra_options rows faults number_in_text
+unfolding clap_on_literals mklittlefs with_common_options with_mode_options with_path_modes with_size_options with_limit_options with_board_options with_extra_options rows faults number_in_text
 auto_size = (refl, refl, refl)
 
 -- the size may be the one that is enough, with blocks to spare
 abbrev fitted_line : List Text
 fitted_line = codes "m" ∷ codes "-cdir" ∷ codes "-sauto" ∷ codes "--spare" ∷ codes "4" ∷ codes "i" ∷ []
 
-fitted : (is_option_auto (codes "size") (rows fitted_line) ≡ true) × (numeric_option_value_in_rows (codes "spare") (rows fitted_line) ≡ Some 4) × (faults fitted_line ≡ [])
-unfolding clap_on_literals mklittlefs with_mode_size_and_order_options with_mode_options with_path_mode_options with_size_options with_limit_options with_board_and_version_options with_extra_options rows faults number_in_text
+fitted : (is_option_auto (codes "size") (rows fitted_line) ≡ true) × (number_in_rows (codes "spare") (rows fitted_line) ≡ Some 4) × (faults fitted_line ≡ [])
+unfolding clap_on_literals mklittlefs with_common_options with_mode_options with_path_modes with_size_options with_limit_options with_board_options with_extra_options rows faults number_in_text
 fitted = (refl, refl, refl)
 
 -- each form of a number
@@ -63,19 +63,19 @@ unfolding number_in_text
 no_numbers = (refl, refl, refl, refl, refl, refl, refl, refl, refl, refl, refl, refl)
 
 -- the largest number in each form, and the next one
-largest : (within_32_bits (number_in_text (codes "0xffffffff")) ≡ Some 4294967295) × (within_32_bits (number_in_text (codes "0x100000000")) ≡ None)
-    × (within_32_bits (number_in_text (codes "4095.5M")) ≡ Some 4294443008) × (within_32_bits (number_in_text (codes "4096M")) ≡ None)
+largest : (fits_word (number_in_text (codes "0xffffffff")) ≡ Some 4294967295) × (fits_word (number_in_text (codes "0x100000000")) ≡ None)
+    × (fits_word (number_in_text (codes "4095.5M")) ≡ Some 4294443008) × (fits_word (number_in_text (codes "4096M")) ≡ None)
 unfolding number_in_text
 largest = (refl, refl, refl, refl)
 
 broken_size : faults (codes "m" ∷ codes "-l" ∷ codes "--page=1.3k" ∷ codes "i" ∷ []) ≡ kind.ValueValidation ∷ []
-unfolding clap_on_literals mklittlefs with_mode_size_and_order_options with_mode_options with_path_mode_options with_size_options with_limit_options with_board_and_version_options with_extra_options rows faults number_in_text
+unfolding clap_on_literals mklittlefs with_common_options with_mode_options with_path_modes with_size_options with_limit_options with_board_options with_extra_options rows faults number_in_text
 broken_size = refl
 
 abbrev forms_line : List Text
 forms_line = codes "mklittlefs" ∷ codes "-cdir" ∷ codes "-s0x160000" ∷ codes "-b=4K" ∷ codes "--file-max" ∷ codes "1.5M" ∷ codes "disk.img" ∷ []
 
-formed : (numeric_option_value_in_rows (codes "size") (rows forms_line) ≡ Some 1441792) × (numeric_option_value_in_rows (codes "block_size") (rows forms_line) ≡ Some 4096)
-    × (numeric_option_value_in_rows (codes "file_max") (rows forms_line) ≡ Some 1572864) × (faults forms_line ≡ [])
-unfolding clap_on_literals mklittlefs with_mode_size_and_order_options with_mode_options with_path_mode_options with_size_options with_limit_options with_board_and_version_options with_extra_options rows faults number_in_text
+formed : (number_in_rows (codes "size") (rows forms_line) ≡ Some 1441792) × (number_in_rows (codes "block_size") (rows forms_line) ≡ Some 4096)
+    × (number_in_rows (codes "file_max") (rows forms_line) ≡ Some 1572864) × (faults forms_line ≡ [])
+unfolding clap_on_literals mklittlefs with_common_options with_mode_options with_path_modes with_size_options with_limit_options with_board_options with_extra_options rows faults number_in_text
 formed = (refl, refl, refl, refl)

@@ -2,56 +2,56 @@
 use Rattle.std.specs.Prelude.{◌≡◌, ◌&&◌, ◌||◌, if◌then◌else◌, ℕ, Bool, List, Option, Some, None, codes, false, is_some, not}
 use Rattle.std.specs.Str.{bytes_eq}
 use Rattle.clap.specs.Words.{Row, Text, first_of}
-use Rattle.lfs_tool_line.specs.Values.{flag_value_in_rows, is_option_auto, number_or}
+use Rattle.lfs_tool_line.specs.Values.{flag_in_rows, is_option_auto, number_or}
 use Rattle.lfs_tool_line.specs.declared.extras.Extras.{Extras}
 use Rattle.lfs_tool_line.specs.declared.extras.Misuse.{Misuse}
 use Rattle.lfs_tool_line.specs.declared.extras.Misuse.TheVariants as misuse
 
 -- each flag and number is the one that the words give
-pub record AreExtrasOfParsedArguments (rows : List Row) (extras : Extras) : Type 0 where
+pub record AreExtrasOf (rows : List Row) (extras : Extras) : Type 0 where
   pub is_size_auto : is_option_auto (codes "size") rows ≡ extras.is_size_auto
   pub spare : number_or 0 (codes "spare") rows ≡ extras.spare
-  pub follow_links : flag_value_in_rows (codes "follow-links") rows ≡ extras.follow_links
-  pub skip_links : flag_value_in_rows (codes "skip-links") rows ≡ extras.skip_links
-  pub times : flag_value_in_rows (codes "times") rows ≡ extras.times
-  pub json : flag_value_in_rows (codes "json") rows ≡ extras.json
+  pub follow_links : flag_in_rows (codes "follow-links") rows ≡ extras.follow_links
+  pub skip_links : flag_in_rows (codes "skip-links") rows ≡ extras.skip_links
+  pub times : flag_in_rows (codes "times") rows ≡ extras.times
+  pub json : flag_in_rows (codes "json") rows ≡ extras.json
 
 -- an option with a text is given
 abbrev pub is_given : Text → List Row → Bool
 is_given id rows = is_some (first_of id rows)
 
 -- the text of a file names a standard stream
-abbrev pub is_text_standard_stream : Option Text → Bool
-is_text_standard_stream None = false
-is_text_standard_stream (Some text) = bytes_eq text (codes "-")
+abbrev pub is_stream_text : Option Text → Bool
+is_stream_text None = false
+is_stream_text (Some text) = bytes_eq text (codes "-")
 
 abbrev pub is_standard_stream : Text → List Row → Bool
-is_standard_stream id rows = is_text_standard_stream (first_of id rows)
+is_standard_stream id rows = is_stream_text (first_of id rows)
 
 -- the first option of those for sizes, times and files that has no meaning where it is given
-abbrev pub misused_size_or_file : List Row → Option Misuse
-misused_size_or_file rows =
+abbrev pub misused_pair : List Row → Option Misuse
+misused_pair rows =
     if not (is_given (codes "create") rows) && is_option_auto (codes "size") rows then Some misuse.Size else
     (if is_given (codes "spare") rows && not (is_option_auto (codes "size") rows) then Some misuse.Spare else
-    (if flag_value_in_rows (codes "times") rows && not (is_given (codes "create") rows || is_given (codes "unpack") rows) then Some misuse.Times else
+    (if flag_in_rows (codes "times") rows && not (is_given (codes "create") rows || is_given (codes "unpack") rows) then Some misuse.Times else
     (if is_standard_stream (codes "put") rows && is_standard_stream (codes "image") rows then Some misuse.Streams else None)))
 
 -- the first option that has no meaning where it is given
 abbrev pub misused_option : List Row → Option Misuse
 misused_option rows =
     if not (is_given (codes "create") rows)
-    && (is_given (codes "exclude") rows || (flag_value_in_rows (codes "follow-links") rows || flag_value_in_rows (codes "skip-links") rows))
+    && (is_given (codes "exclude") rows || (flag_in_rows (codes "follow-links") rows || flag_in_rows (codes "skip-links") rows))
     then Some misuse.Folder else
-    (if flag_value_in_rows (codes "follow-links") rows && flag_value_in_rows (codes "skip-links") rows then Some misuse.Links else
-    (if flag_value_in_rows (codes "json") rows && not (flag_value_in_rows (codes "list") rows || flag_value_in_rows (codes "check") rows)
-    then Some misuse.Json else misused_size_or_file rows))
+    (if flag_in_rows (codes "follow-links") rows && flag_in_rows (codes "skip-links") rows then Some misuse.Links else
+    (if flag_in_rows (codes "json") rows && not (flag_in_rows (codes "list") rows || flag_in_rows (codes "check") rows)
+    then Some misuse.Json else misused_pair rows))
 
 -- where the option has a meaning
-abbrev pub rule_of_misuse : Misuse → List ℕ
-rule_of_misuse misuse.Folder = codes "--exclude, --follow-links and --skip-links are for -c"
-rule_of_misuse misuse.Links = codes "give one of --follow-links and --skip-links"
-rule_of_misuse misuse.Json = codes "--json is for -l and --check"
-rule_of_misuse misuse.Size = codes "--size auto is for -c"
-rule_of_misuse misuse.Spare = codes "--spare is for -c with --size auto"
-rule_of_misuse misuse.Times = codes "--times is for -c and -u"
-rule_of_misuse misuse.Streams = codes "--put takes - as FILE or as IMAGE, not as both"
+abbrev pub misuse_rule : Misuse → List ℕ
+misuse_rule misuse.Folder = codes "--exclude, --follow-links and --skip-links are for -c"
+misuse_rule misuse.Links = codes "give one of --follow-links and --skip-links"
+misuse_rule misuse.Json = codes "--json is for -l and --check"
+misuse_rule misuse.Size = codes "--size auto is for -c"
+misuse_rule misuse.Spare = codes "--spare is for -c with --size auto"
+misuse_rule misuse.Times = codes "--times is for -c and -u"
+misuse_rule misuse.Streams = codes "--put takes - as FILE or as IMAGE, not as both"

@@ -1,10 +1,10 @@
 -- The limits that options give, and their rules.
 use Rattle.std.specs.Prelude.{◌/◌, ◌&&◌, if◌then◌else◌, nat_le, min, ℕ, List, Bool, true, Option, Some, None, codes}
-use Rattle.lfs_model.specs.Disk.{attribute_size_limit, file_size_limit}
-use Rattle.lfs_model.specs.Names.{name_limit}
-use Rattle.lfs_model.specs.Tag.{tag_data_limit}
+use Rattle.lfs_model.specs.format.Disk.{attribute_limit, size_limit}
+use Rattle.lfs_model.specs.format.Names.{name_limit}
+use Rattle.lfs_model.specs.format.Tag.{tag_data_limit}
 use Rattle.clap.specs.Words.{Row}
-use Rattle.lfs_tool_line.specs.Values.{numeric_option_value_in_rows}
+use Rattle.lfs_tool_line.specs.Values.{number_in_rows}
 use Rattle.lfs_tool_line.specs.declared.limits.Limit.{Limit}
 use Rattle.lfs_tool_line.specs.declared.limits.Limit.TheVariants as limit
 
@@ -16,10 +16,10 @@ is_limit_within most (Some n) = nat_le 1 n && nat_le n most
 -- the first limit that breaks its rule, with blocks of this size
 abbrev pub first_broken_limit : ℕ → List Row → Option Limit
 first_broken_limit block_size rows =
-    if is_limit_within name_limit (numeric_option_value_in_rows (codes "name_max") rows) then
-    (if is_limit_within file_size_limit (numeric_option_value_in_rows (codes "file_max") rows) then
-    (if is_limit_within attribute_size_limit (numeric_option_value_in_rows (codes "attr_max") rows) then
-    (if is_limit_within (min (block_size / 8) tag_data_limit) (numeric_option_value_in_rows (codes "inline_max") rows) then None
+    if is_limit_within name_limit (number_in_rows (codes "name_max") rows) then
+    (if is_limit_within size_limit (number_in_rows (codes "file_max") rows) then
+    (if is_limit_within attribute_limit (number_in_rows (codes "attr_max") rows) then
+    (if is_limit_within (min (block_size / 8) tag_data_limit) (number_in_rows (codes "inline_max") rows) then None
     else Some limit.Inline) else Some limit.Attr) else Some limit.File) else Some limit.Name
 
 -- what the limit's rule says

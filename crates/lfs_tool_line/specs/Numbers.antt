@@ -3,9 +3,9 @@ use Rattle.std.specs.Prelude.{◌+◌, ◌-◌, ◌*◌, ◌/◌, ◌%◌, ◌^�
 use Rattle.std.specs.Char.{digit_value}
 
 -- the number, where it has 32 bits
-abbrev pub within_32_bits : Option ℕ → Option ℕ
-within_32_bits None = None
-within_32_bits (Some n) = if nat_lt n (2 ^ 32) then Some n else None
+abbrev pub fits_word : Option ℕ → Option ℕ
+fits_word None = None
+fits_word (Some n) = if nat_lt n (2 ^ 32) then Some n else None
 
 -- the number that digits name behind those of n
 abbrev pub number_after : ℕ → ℕ → List ℕ → Option ℕ
@@ -47,21 +47,21 @@ pointed_number unit (c ∷ cs) [] = None
 pointed_number unit (c ∷ cs) (d ∷ ds) = bytes_of_parts unit (10 ^ length (d ∷ ds)) (number_of_digits 10 ((c ∷ cs) ++ (d ∷ ds)))
 
 -- the number that the text before a unit's letter names, with its first point at this place
-abbrev pub number_by_point : ℕ → List ℕ → Option ℕ → Option ℕ
-number_by_point unit text None = option_map (λ n. n * unit) (number_of_digits 10 text)
-number_by_point unit text (Some i) = pointed_number unit (take i text) (drop (i + 1) text)
+abbrev pub by_point : ℕ → List ℕ → Option ℕ → Option ℕ
+by_point unit text None = option_map (λ n. n * unit) (number_of_digits 10 text)
+by_point unit text (Some i) = pointed_number unit (take i text) (drop (i + 1) text)
 
 -- the number that a text names whose last letter is that of this unit, or of none
-abbrev pub number_by_unit : List ℕ → Option ℕ → Option ℕ
-number_by_unit text None = decimal_number text
-number_by_unit text (Some unit) = let front = take (length text - 1) text in number_by_point unit front (position (λ c. c == 46) front)
+abbrev pub by_unit : List ℕ → Option ℕ → Option ℕ
+by_unit text None = decimal_number text
+by_unit text (Some unit) = let front = take (length text - 1) text in by_point unit front (position (λ c. c == 46) front)
 
 -- the text begins with 0x or 0X
-abbrev pub has_hex_prefix : List ℕ → Bool
-has_hex_prefix text = slice_index text 0 == 48 && (slice_index text 1 == 120 || slice_index text 1 == 88)
+abbrev pub is_hex : List ℕ → Bool
+is_hex text = slice_index text 0 == 48 && (slice_index text 1 == 120 || slice_index text 1 == 88)
 
 -- the number that a text names
 unfoldable pub number_in_text : List ℕ → Option ℕ
 number_in_text text =
-    if has_hex_prefix text then number_of_digits 16 (drop 2 text)
-    else number_by_unit text (bytes_of_unit (slice_index text (length text - 1)))
+    if is_hex text then number_of_digits 16 (drop 2 text)
+    else by_unit text (bytes_of_unit (slice_index text (length text - 1)))

@@ -1,15 +1,15 @@
 -- The rules for the sizes of an image, and the lines that say which is broken.
 use Rattle.std.specs.Prelude.{◌≡◌, ◌<◌, ◌≢◌, ◌⊎◌, ◌*◌, ◌/◌, ◌%◌, ◌++◌, ℕ, [], List, false, codes}
 use Rattle.std.specs.Fmt.{decimal}
-use Rattle.lfs_model.specs.Geometry.{IsValidGeometry, is_valid_page_size}
-use Rattle.lfs_model.specs.Listing.{newline}
+use Rattle.lfs_model.specs.format.Geometry.{IsValidGeometry, is_page}
+use Rattle.lfs_model.specs.layers.Listing.{newline}
 use Rattle.lfs_tool_line.specs.declared.sizes.Sizes.{Sizes}
 use Rattle.lfs_tool_line.specs.declared.sizes.SizeRule.{SizeRule}
 use Rattle.lfs_tool_line.specs.declared.sizes.SizeRule.TheVariants as rule
 
 -- the sizes break the rule
 abbrev pub BreaksSizeRule : Sizes → SizeRule → Type 0
-BreaksSizeRule s rule.PageSize = is_valid_page_size s.page ≡ false
+BreaksSizeRule s rule.PageSize = is_page s.page ≡ false
 BreaksSizeRule s rule.BlockSize = (s.block_size < 1024) ⊎ (65536 < s.block_size)
 BreaksSizeRule s rule.EightPages = s.block_size < 8 * s.page
 BreaksSizeRule s rule.WholePages = s.block_size % s.page ≢ 0
@@ -18,50 +18,50 @@ BreaksSizeRule s rule.WholeBlocks = s.size % s.block_size ≢ 0
 BreaksSizeRule s rule.BlockCount = (s.size / s.block_size < 2) ⊎ (65536 < s.size / s.block_size)
 
 -- the rule's place among the rules
-abbrev pub index_of_size_rule : SizeRule → ℕ
-index_of_size_rule rule.PageSize = 0
-index_of_size_rule rule.BlockSize = 1
-index_of_size_rule rule.EightPages = 2
-index_of_size_rule rule.WholePages = 3
-index_of_size_rule rule.ImageSize = 4
-index_of_size_rule rule.WholeBlocks = 5
-index_of_size_rule rule.BlockCount = 6
+abbrev pub size_rule_index : SizeRule → ℕ
+size_rule_index rule.PageSize = 0
+size_rule_index rule.BlockSize = 1
+size_rule_index rule.EightPages = 2
+size_rule_index rule.WholePages = 3
+size_rule_index rule.ImageSize = 4
+size_rule_index rule.WholeBlocks = 5
+size_rule_index rule.BlockCount = 6
 
 -- the sizes break no rule before this place
-abbrev pub BreaksNoSizeRuleBeforeIndex : Sizes → ℕ → Type 0
-BreaksNoSizeRuleBeforeIndex s place = (rule : SizeRule) → index_of_size_rule rule < place → ¬ BreaksSizeRule s rule
+abbrev pub BreaksNoneBefore : Sizes → ℕ → Type 0
+BreaksNoneBefore s place = (rule : SizeRule) → size_rule_index rule < place → ¬ BreaksSizeRule s rule
 
 -- the sizes break the rule, and none before it
-abbrev pub IsFirstBrokenSizeRule : Sizes → SizeRule → Type 0
-IsFirstBrokenSizeRule s rule = BreaksSizeRule s rule × BreaksNoSizeRuleBeforeIndex s (index_of_size_rule rule)
+abbrev pub IsFirstBroken : Sizes → SizeRule → Type 0
+IsFirstBroken s rule = BreaksSizeRule s rule × BreaksNoneBefore s (size_rule_index rule)
 
 -- there are images of these sizes
-abbrev pub AreSizesOfSomeImage : Sizes → Type 0
-AreSizesOfSomeImage s = (s.size % s.block_size ≡ 0) × IsValidGeometry s.block_size s.page (s.size / s.block_size)
+abbrev pub AreImageSizes : Sizes → Type 0
+AreImageSizes s = (s.size % s.block_size ≡ 0) × IsValidGeometry s.block_size s.page (s.size / s.block_size)
 
-abbrev pub labelled_number_text : List ℕ → ℕ → List ℕ
-labelled_number_text before n = before ++ decimal n
+abbrev pub number_text : List ℕ → ℕ → List ℕ
+number_text before n = before ++ decimal n
 
 -- the sizes that the rule is about
-abbrev pub sizes_in_rule_text : Sizes → SizeRule → List ℕ
-sizes_in_rule_text s rule.PageSize = labelled_number_text (codes "page ") s.page
-sizes_in_rule_text s rule.BlockSize = labelled_number_text (codes "block ") s.block_size
-sizes_in_rule_text s rule.EightPages = labelled_number_text (codes "block ") s.block_size ++ labelled_number_text (codes ", page ") s.page
-sizes_in_rule_text s rule.WholePages = labelled_number_text (codes "block ") s.block_size ++ labelled_number_text (codes ", page ") s.page
-sizes_in_rule_text s rule.ImageSize = []
-sizes_in_rule_text s rule.WholeBlocks = labelled_number_text (codes "size ") s.size ++ labelled_number_text (codes ", block ") s.block_size
-sizes_in_rule_text s rule.BlockCount = labelled_number_text (codes "size ") s.size ++ labelled_number_text (codes ", block ") s.block_size
+abbrev pub rule_sizes_text : Sizes → SizeRule → List ℕ
+rule_sizes_text s rule.PageSize = number_text (codes "page ") s.page
+rule_sizes_text s rule.BlockSize = number_text (codes "block ") s.block_size
+rule_sizes_text s rule.EightPages = number_text (codes "block ") s.block_size ++ number_text (codes ", page ") s.page
+rule_sizes_text s rule.WholePages = number_text (codes "block ") s.block_size ++ number_text (codes ", page ") s.page
+rule_sizes_text s rule.ImageSize = []
+rule_sizes_text s rule.WholeBlocks = number_text (codes "size ") s.size ++ number_text (codes ", block ") s.block_size
+rule_sizes_text s rule.BlockCount = number_text (codes "size ") s.size ++ number_text (codes ", block ") s.block_size
 
 -- what the rule says
-abbrev pub size_rule_words : SizeRule → List ℕ
-size_rule_words rule.PageSize = codes ": a page has 8, 16, 32, 64, 128, 256 or 512 bytes" ++ newline
-size_rule_words rule.BlockSize = codes ": a block has from 1024 to 65536 bytes" ++ newline
-size_rule_words rule.EightPages = codes ": a page is at most an eighth of a block" ++ newline
-size_rule_words rule.WholePages = codes ": a block is a whole number of pages" ++ newline
-size_rule_words rule.ImageSize = codes "an image has at most 268435456 bytes" ++ newline
-size_rule_words rule.WholeBlocks = codes ": an image is a whole number of blocks" ++ newline
-size_rule_words rule.BlockCount = codes ": an image has from 2 to 65536 blocks" ++ newline
+abbrev pub rule_words : SizeRule → List ℕ
+rule_words rule.PageSize = codes ": a page has 8, 16, 32, 64, 128, 256 or 512 bytes" ++ newline
+rule_words rule.BlockSize = codes ": a block has from 1024 to 65536 bytes" ++ newline
+rule_words rule.EightPages = codes ": a page is at most an eighth of a block" ++ newline
+rule_words rule.WholePages = codes ": a block is a whole number of pages" ++ newline
+rule_words rule.ImageSize = codes "an image has at most 268435456 bytes" ++ newline
+rule_words rule.WholeBlocks = codes ": an image is a whole number of blocks" ++ newline
+rule_words rule.BlockCount = codes ": an image has from 2 to 65536 blocks" ++ newline
 
 -- the line that says that the sizes break the rule
-abbrev pub broken_size_rule_line : Sizes → SizeRule → List ℕ
-broken_size_rule_line s r = sizes_in_rule_text s r ++ size_rule_words r
+abbrev pub broken_rule_line : Sizes → SizeRule → List ℕ
+broken_rule_line s r = rule_sizes_text s r ++ rule_words r

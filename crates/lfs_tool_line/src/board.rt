@@ -1,7 +1,7 @@
 // The numbers of boards and of firmware.
 
 ghost use Rattle.std.specs.Prelude.{◌≡◌};
-ghost use Rattle.lfs_tool_line.specs.Boards.{block_size_of_board, board_with_name, profile_of_board, profile_of_firmware};
+ghost use Rattle.lfs_tool_line.specs.Boards.{board_block_size, board_named, board_profile, profile_of_firmware};
 
 use lfs_model::{AcceptedVersions, Profile};
 
@@ -38,7 +38,7 @@ fn firmware_profile(name_max: u32, inline_max: u32) -> Profile
 impl Board {
     // Returns the board of this name.
     pub(crate) fn with_name(text: &str) -> Option<Board>
-        ensures { result ≡ board_with_name text.now }
+        ensures { result ≡ board_named text.now }
     {
         if text == "esp8266" {
             Some(Board::Esp8266)
@@ -55,7 +55,7 @@ impl Board {
 
     // Returns the size of a block in bytes.
     pub(crate) fn block_size(self) -> u32
-        ensures { result ≡ block_size_of_board self }
+        ensures { result ≡ board_block_size self }
     {
         match self {
             Board::Esp8266 => 8192,
@@ -66,7 +66,7 @@ impl Board {
     // Returns the limits and the versions. The name's is LFS_NAME_MAX of the firmware, and the inline file's
     // its cache_size.
     pub(crate) fn profile(self) -> Profile
-        ensures { result ≡ profile_of_board self }
+        ensures { result ≡ board_profile self }
     {
         match self {
             Board::Unnamed => Profile::new(),

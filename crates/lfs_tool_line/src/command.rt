@@ -2,13 +2,13 @@
 
 ghost use Rattle.std.specs.Prelude.{◌≡◌, IfOk, codes, map, false};
 ghost use Rattle.clap.specs.Words.{FailsBy, app_of, fault_of, found_of, kind_of, new_app, rows_of, rule_of, with_rule};
-ghost use Rattle.lfs_tool_line.specs.Command.{rule_of_check_option, rule_of_explain_option, rule_of_folder_option, rule_of_image_argument, rule_of_list_option, mklittlefs, rule_of_number_option, rule_of_order_option, with_mode_options, with_mode_size_and_order_options, with_size_options, with_version_option};
-ghost use Rattle.lfs_tool_line.specs.Matches.{HasGivenImage, faults, rows};
+ghost use Rattle.lfs_tool_line.specs.Command.{check_rule, explain_rule, folder_rule, image_rule, list_rule, mklittlefs, number_rule, order_rule, with_mode_options, with_common_options, with_size_options, with_version_option};
+ghost use Rattle.lfs_tool_line.specs.Matches.{HasImage, faults, rows};
 
 use crate::extra_options::with_extra_options;
-use crate::mode_options::with_path_mode_options;
+use crate::mode_options::with_path_modes;
 use crate::options::{
-    number_arg, with_board_and_version_options, with_limit_option, with_limit_options,
+    number_arg, with_board_options, with_limit_option, with_limit_options,
 };
 use crate::values::first_bad_number;
 use clap::error::ErrorKind;
@@ -104,7 +104,7 @@ Progress:
   At a terminal -c and -u show how much is done, once a second has gone by.";
 
 fn folder_arg<'a>(alloc: Global, id: &'a str, short: char, help: &'a str) -> Arg<'a>
-    ensures rule { rule_of result ≡ rule_of_folder_option id.entry.now short }
+    ensures rule { rule_of result ≡ folder_rule id.entry.now short }
     ensures local { result.global ≡ false }
 {
     Arg::new(alloc, id)
@@ -123,7 +123,7 @@ fn with_folder_option<'a>(
     short: char,
     help: &'a str,
 ) -> Result<Command<'a>, AllocError>
-    ensures { IfOk result (λ c. app_of c ≡ with_rule (app_of command.entry) (rule_of_folder_option id.entry.now short)) }
+    ensures { IfOk result (λ c. app_of c ≡ with_rule (app_of command.entry) (folder_rule id.entry.now short)) }
 {
     command.arg(folder_arg(alloc, id, short, help))
 }
@@ -136,13 +136,13 @@ fn with_number_option<'a>(
     names: (char, &'a str),
     help: &'a str,
 ) -> Result<Command<'a>, AllocError>
-    ensures { IfOk result (λ c. app_of c ≡ with_rule (app_of command.entry) (rule_of_number_option id.entry.now names.entry.0 names.entry.1.now)) }
+    ensures { IfOk result (λ c. app_of c ≡ with_rule (app_of command.entry) (number_rule id.entry.now names.entry.0 names.entry.1.now)) }
 {
     command.arg(number_arg(alloc, id, names.1, help).short(names.0))
 }
 
-fn arg_of_list_option<'a>(alloc: Global) -> Arg<'a>
-    ensures rule { rule_of result ≡ rule_of_list_option }
+fn list_arg<'a>(alloc: Global) -> Arg<'a>
+    ensures rule { rule_of result ≡ list_rule }
     ensures local { result.global ≡ false }
 {
     Arg::new(alloc, "list")
@@ -153,13 +153,13 @@ fn arg_of_list_option<'a>(alloc: Global) -> Arg<'a>
 }
 
 fn with_list_option<'a>(alloc: Global, command: Command<'a>) -> Result<Command<'a>, AllocError>
-    ensures { IfOk result (λ c. app_of c ≡ with_rule (app_of command.entry) rule_of_list_option) }
+    ensures { IfOk result (λ c. app_of c ≡ with_rule (app_of command.entry) list_rule) }
 {
-    command.arg(arg_of_list_option(alloc))
+    command.arg(list_arg(alloc))
 }
 
-fn arg_of_check_option<'a>(alloc: Global) -> Arg<'a>
-    ensures rule { rule_of result ≡ rule_of_check_option }
+fn check_arg<'a>(alloc: Global) -> Arg<'a>
+    ensures rule { rule_of result ≡ check_rule }
     ensures local { result.global ≡ false }
 {
     Arg::new(alloc, "check")
@@ -169,13 +169,13 @@ fn arg_of_check_option<'a>(alloc: Global) -> Arg<'a>
 }
 
 fn with_check_option<'a>(alloc: Global, command: Command<'a>) -> Result<Command<'a>, AllocError>
-    ensures { IfOk result (λ c. app_of c ≡ with_rule (app_of command.entry) rule_of_check_option) }
+    ensures { IfOk result (λ c. app_of c ≡ with_rule (app_of command.entry) check_rule) }
 {
-    command.arg(arg_of_check_option(alloc))
+    command.arg(check_arg(alloc))
 }
 
-fn name_order_option_arg<'a>(alloc: Global) -> Arg<'a>
-    ensures rule { rule_of result ≡ rule_of_order_option }
+fn name_order_arg<'a>(alloc: Global) -> Arg<'a>
+    ensures rule { rule_of result ≡ order_rule }
     ensures local { result.global ≡ false }
 {
     Arg::new(alloc, "order")
@@ -186,17 +186,17 @@ fn name_order_option_arg<'a>(alloc: Global) -> Arg<'a>
         .help("Order of names in the image that -c makes")
 }
 
-fn add_name_order_option_to_command<'a>(
+fn add_order_option<'a>(
     alloc: Global,
     command: Command<'a>,
 ) -> Result<Command<'a>, AllocError>
-    ensures { IfOk result (λ c. app_of c ≡ with_rule (app_of command.entry) rule_of_order_option) }
+    ensures { IfOk result (λ c. app_of c ≡ with_rule (app_of command.entry) order_rule) }
 {
-    command.arg(name_order_option_arg(alloc))
+    command.arg(name_order_arg(alloc))
 }
 
-fn arg_of_explain_option<'a>(alloc: Global) -> Arg<'a>
-    ensures rule { rule_of result ≡ rule_of_explain_option }
+fn explain_arg<'a>(alloc: Global) -> Arg<'a>
+    ensures rule { rule_of result ≡ explain_rule }
     ensures local { result.global ≡ false }
 {
     Arg::new(alloc, "explain")
@@ -205,17 +205,17 @@ fn arg_of_explain_option<'a>(alloc: Global) -> Arg<'a>
         .help("Say why after the line of an error")
 }
 
-fn add_explain_option_to_command<'a>(
+fn add_explain_option<'a>(
     alloc: Global,
     command: Command<'a>,
 ) -> Result<Command<'a>, AllocError>
-    ensures { IfOk result (λ c. app_of c ≡ with_rule (app_of command.entry) rule_of_explain_option) }
+    ensures { IfOk result (λ c. app_of c ≡ with_rule (app_of command.entry) explain_rule) }
 {
-    command.arg(arg_of_explain_option(alloc))
+    command.arg(explain_arg(alloc))
 }
 
 fn image_arg<'a>(alloc: Global) -> Arg<'a>
-    ensures rule { rule_of result ≡ rule_of_image_argument }
+    ensures rule { rule_of result ≡ image_rule }
     ensures local { result.global ≡ false }
 {
     Arg::new(alloc, "image")
@@ -225,17 +225,17 @@ fn image_arg<'a>(alloc: Global) -> Arg<'a>
         .help("The file with the image, or - for standard input or output")
 }
 
-fn add_image_argument_to_command<'a>(
+fn add_image_argument<'a>(
     alloc: Global,
     command: Command<'a>,
 ) -> Result<Command<'a>, AllocError>
-    ensures { IfOk result (λ c. app_of c ≡ with_rule (app_of command.entry) rule_of_image_argument) }
+    ensures { IfOk result (λ c. app_of c ≡ with_rule (app_of command.entry) image_rule) }
 {
     command.arg(image_arg(alloc))
 }
 
 // Makes the command without its arguments, with the texts of its help.
-fn clap_command_before_arguments_are_added<'a>(alloc: Global) -> Command<'a>
+fn bare_command<'a>(alloc: Global) -> Command<'a>
     ensures { app_of result ≡ with_version_option (new_app (codes "mklittlefs")) }
 {
     Command::new(alloc, "mklittlefs")
@@ -248,7 +248,7 @@ fn clap_command_before_arguments_are_added<'a>(alloc: Global) -> Command<'a>
 }
 
 // Adds the options of which exactly one has to be given.
-fn with_create_unpack_list_and_check_options<'a>(
+fn with_four_modes<'a>(
     alloc: Global,
     command: Command<'a>,
 ) -> Result<Command<'a>, AllocError>
@@ -281,16 +281,16 @@ fn with_size_options<'a>(alloc: Global, command: Command<'a>) -> Result<Command<
 }
 
 // Makes the command with the options of modes, sizes and orders.
-fn with_mode_size_and_order_options<'a>(alloc: Global) -> Result<Command<'a>, AllocError>
-    ensures { IfOk result (λ c. app_of c ≡ with_mode_size_and_order_options) }
+fn with_common_options<'a>(alloc: Global) -> Result<Command<'a>, AllocError>
+    ensures { IfOk result (λ c. app_of c ≡ with_common_options) }
 {
-    let command = with_create_unpack_list_and_check_options(
+    let command = with_four_modes(
         alloc,
-        clap_command_before_arguments_are_added(alloc),
+        bare_command(alloc),
     )?;
-    let command = with_path_mode_options(alloc, command)?;
+    let command = with_path_modes(alloc, command)?;
     let command = with_size_options(alloc, command)?;
-    let command = add_name_order_option_to_command(alloc, command)?;
+    let command = add_order_option(alloc, command)?;
     Ok(command)
 }
 
@@ -298,12 +298,12 @@ fn with_mode_size_and_order_options<'a>(alloc: Global) -> Result<Command<'a>, Al
 fn mklittlefs_command<'a>(alloc: Global) -> Result<Command<'a>, AllocError>
     ensures { IfOk result (λ c. app_of c ≡ mklittlefs) }
 {
-    let command = with_mode_size_and_order_options(alloc)?;
+    let command = with_common_options(alloc)?;
     let command = with_limit_options(alloc, command)?;
-    let command = with_board_and_version_options(alloc, command)?;
+    let command = with_board_options(alloc, command)?;
     let command = with_extra_options(alloc, command)?;
-    let command = add_explain_option_to_command(alloc, command)?;
-    let command = add_image_argument_to_command(alloc, command)?;
+    let command = add_explain_option(alloc, command)?;
+    let command = add_image_argument(alloc, command)?;
     Ok(command)
 }
 
@@ -314,7 +314,7 @@ fn number_error(alloc: Global, option: &str, text: &str) -> Result<Error, AllocE
     let message = format!(in alloc;
         "invalid value '{text}' for '--{option} <N>': a number is 4096, 0x1000, 4k or 1.5M, and at most 4294967295"
     )?;
-    let mut command = clap_command_before_arguments_are_added(alloc);
+    let mut command = bare_command(alloc);
     command.error(ErrorKind::ValueValidation, message.as_str())
 }
 
@@ -322,19 +322,19 @@ fn number_error(alloc: Global, option: &str, text: &str) -> Result<Error, AllocE
 fn clap_matches<'a, S: AsStr>(alloc: Global, words: &'a [S]) -> Result<ArgMatches<'a>, Error>
     ensures kinds { FailsBy (fault_of mklittlefs (map S.text words.entry.now)) result }
     ensures matches { IfOk result (λ m. rows_of (found_of m) ≡ rows (map S.text words.entry.now)) }
-    ensures image { IfOk result (λ m. HasGivenImage (found_of m)) }
+    ensures image { IfOk result (λ m. HasImage (found_of m)) }
 {
     mklittlefs_command(alloc)?.try_get_matches_from(words)
 }
 
 // Returns the matches of the words, where each number is one.
-pub(crate) fn parse_command_line_words<'a, S: AsStr>(
+pub(crate) fn parse_words<'a, S: AsStr>(
     alloc: Global,
     words: &'a [S],
 ) -> Result<ArgMatches<'a>, Error>
     ensures kinds { FailsBy (faults (map S.text words.entry.now)) result }
     ensures matches { IfOk result (λ m. rows_of (found_of m) ≡ rows (map S.text words.entry.now)) }
-    ensures image { IfOk result (λ m. HasGivenImage (found_of m)) }
+    ensures image { IfOk result (λ m. HasImage (found_of m)) }
 {
     let matches = match clap_matches(alloc, words) {
         Ok(matches) => matches,

@@ -2,9 +2,9 @@
 
 ghost use Rattle.std.specs.Prelude.{◌≡◌, IfOk};
 ghost use Rattle.clap.specs.Words.{found_of, rows_of};
-ghost use Rattle.lfs_tool_line.specs.Extras.{AreExtrasOfParsedArguments, is_given, is_standard_stream, misused_option, misused_size_or_file, rule_of_misuse};
+ghost use Rattle.lfs_tool_line.specs.Extras.{AreExtrasOf, is_given, is_standard_stream, misused_option, misused_pair, misuse_rule};
 
-use crate::values::{argument_text, flag_value_in_matches, given_or_other_number, is_auto};
+use crate::values::{argument_text, flag_value, number_given_or, is_auto};
 use clap::ArgMatches;
 use std::alloc::{AllocError, Global};
 
@@ -49,7 +49,7 @@ pub enum Misuse {
 impl Misuse {
     /// Returns where the option has a meaning.
     pub fn rule(self) -> &'static str
-        ensures { result.now ≡ rule_of_misuse self }
+        ensures { result.now ≡ misuse_rule self }
     {
         match self {
             Misuse::Folder => "--exclude, --follow-links and --skip-links are for -c",
@@ -81,8 +81,8 @@ fn is_standard_stream(matches: &ArgMatches<'_>, id: &str) -> bool
 }
 
 // Returns the first option of those for sizes, times and files that has no meaning where it is given.
-fn misused_size_or_file(matches: &ArgMatches<'_>) -> Option<Misuse>
-    ensures { result ≡ misused_size_or_file (rows_of (found_of matches.now)) }
+fn misused_pair(matches: &ArgMatches<'_>) -> Option<Misuse>
+    ensures { result ≡ misused_pair (rows_of (found_of matches.now)) }
 {
     let creates = is_given(matches, "create");
     let is_size_auto = is_auto(matches, "size");
@@ -92,7 +92,7 @@ fn misused_size_or_file(matches: &ArgMatches<'_>) -> Option<Misuse>
     if is_given(matches, "spare") && !is_size_auto {
         return Some(Misuse::Spare);
     }
-    if flag_value_in_matches(matches, "times") && !(creates || is_given(matches, "unpack")) {
+    if flag_value(matches, "times") && !(creates || is_given(matches, "unpack")) {
         return Some(Misuse::Times);
     }
     if is_standard_stream(matches, "put") && is_standard_stream(matches, "image") {
@@ -105,8 +105,8 @@ fn misused_size_or_file(matches: &ArgMatches<'_>) -> Option<Misuse>
 pub(crate) fn misused_option(matches: &ArgMatches<'_>) -> Option<Misuse>
     ensures { result ≡ misused_option (rows_of (found_of matches.now)) }
 {
-    let follow = flag_value_in_matches(matches, "follow-links");
-    let skip = flag_value_in_matches(matches, "skip-links");
+    let follow = flag_value(matches, "follow-links");
+    let skip = flag_value(matches, "skip-links");
     let creates = is_given(matches, "create");
     if !creates && (is_given(matches, "exclude") || follow || skip) {
         return Some(Misuse::Folder);
@@ -114,11 +114,11 @@ pub(crate) fn misused_option(matches: &ArgMatches<'_>) -> Option<Misuse>
     if follow && skip {
         return Some(Misuse::Links);
     }
-    let shows = flag_value_in_matches(matches, "list") || flag_value_in_matches(matches, "check");
-    if flag_value_in_matches(matches, "json") && !shows {
+    let shows = flag_value(matches, "list") || flag_value(matches, "check");
+    if flag_value(matches, "json") && !shows {
         return Some(Misuse::Json);
     }
-    misused_size_or_file(matches)
+    misused_pair(matches)
 }
 
 // Returns what the matches request beside the image.
@@ -126,7 +126,7 @@ pub(crate) fn extras_of_matches<'a>(
     alloc: Global,
     matches: &ArgMatches<'a>,
 ) -> Result<Extras<'a>, AllocError>
-    ensures { IfOk result (AreExtrasOfParsedArguments (rows_of (found_of matches.now))) }
+    ensures { IfOk result (AreExtrasOf (rows_of (found_of matches.now))) }
 {
     let exclude = match matches.get_strs("exclude") {
         Some(patterns) => Vec::from_slice(alloc, patterns)?,
@@ -134,11 +134,11 @@ pub(crate) fn extras_of_matches<'a>(
     };
     Ok(Extras {
         is_size_auto: is_auto(matches, "size"),
-        spare: given_or_other_number(matches, "spare", 0),
+        spare: number_given_or(matches, "spare", 0),
         exclude,
-        follow_links: flag_value_in_matches(matches, "follow-links"),
-        skip_links: flag_value_in_matches(matches, "skip-links"),
-        times: flag_value_in_matches(matches, "times"),
-        json: flag_value_in_matches(matches, "json"),
+        follow_links: flag_value(matches, "follow-links"),
+        skip_links: flag_value(matches, "skip-links"),
+        times: flag_value(matches, "times"),
+        json: flag_value(matches, "json"),
     })
 }

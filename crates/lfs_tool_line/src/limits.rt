@@ -3,9 +3,9 @@
 ghost use Rattle.std.specs.Prelude.{◌≡◌};
 ghost use Rattle.clap.specs.Words.{found_of, rows_of};
 ghost use Rattle.lfs_tool_line.specs.Limits.{first_broken_limit, is_limit_within, rule_of_limit};
-ghost use Rattle.lfs_tool_line.specs.Matches.{given_or_other_profile, given_or_other_versions};
+ghost use Rattle.lfs_tool_line.specs.Matches.{profile_given_or, versions_given_or};
 
-use crate::values::{flag_value_in_matches, given_number, given_or_other_number};
+use crate::values::{flag_value, given_number, number_given_or};
 use clap::ArgMatches;
 use lfs_model::{AcceptedVersions, Profile};
 
@@ -69,10 +69,10 @@ pub(crate) fn first_broken_limit(matches: &ArgMatches<'_>, block_size: u32) -> O
 }
 
 // Returns the versions that are accepted: 2.1, too, where that is given.
-fn given_or_other_versions(matches: &ArgMatches<'_>, other: AcceptedVersions) -> AcceptedVersions
-    ensures { result ≡ given_or_other_versions other (rows_of (found_of matches.now)) }
+fn versions_given_or(matches: &ArgMatches<'_>, other: AcceptedVersions) -> AcceptedVersions
+    ensures { result ≡ versions_given_or other (rows_of (found_of matches.now)) }
 {
-    if flag_value_in_matches(matches, "later") {
+    if flag_value(matches, "later") {
         AcceptedVersions::AlsoTwoOne
     } else {
         other
@@ -80,15 +80,15 @@ fn given_or_other_versions(matches: &ArgMatches<'_>, other: AcceptedVersions) ->
 }
 
 // Returns the profile with the limits and versions that are given.
-pub(crate) fn given_or_other_profile(matches: &ArgMatches<'_>, other: Profile) -> Profile
-    ensures { result ≡ given_or_other_profile other (rows_of (found_of matches.now)) }
+pub(crate) fn profile_given_or(matches: &ArgMatches<'_>, other: Profile) -> Profile
+    ensures { result ≡ profile_given_or other (rows_of (found_of matches.now)) }
 {
     Profile {
-        versions: given_or_other_versions(matches, other.versions),
-        name_max: given_or_other_number(matches, "name_max", other.name_max),
-        file_max: given_or_other_number(matches, "file_max", other.file_max),
-        attr_max: given_or_other_number(matches, "attr_max", other.attr_max),
-        inline_max: given_or_other_number(matches, "inline_max", other.inline_max),
+        versions: versions_given_or(matches, other.versions),
+        name_max: number_given_or(matches, "name_max", other.name_max),
+        file_max: number_given_or(matches, "file_max", other.file_max),
+        attr_max: number_given_or(matches, "attr_max", other.attr_max),
+        inline_max: number_given_or(matches, "inline_max", other.inline_max),
         pair_cycles: other.pair_cycles,
     }
 }

@@ -1,14 +1,14 @@
 ghost use Rattle.std.specs.Prelude.{◌≡◌, List, IfErr, IfOk, Some, false, map};
 ghost use Rattle.clap.specs.Words.{Text, found_of, rows_of};
-ghost use Rattle.lfs_tool_line.specs.Choices.{AreChoicesOfParsedArguments};
-ghost use Rattle.lfs_tool_line.specs.Matches.{HasGivenImage, IsLineErrorOfWords, IsCommandLineOfParsedArguments, IsRequestOfParsedArguments, ParserAcceptsWords, makes_part_of_file, broken_limit, given_board, given_name_order, name_order_of_text, rows};
+ghost use Rattle.lfs_tool_line.specs.Choices.{AreChoicesOf};
+ghost use Rattle.lfs_tool_line.specs.Matches.{HasImage, IsLineError, IsCommandLineOf, IsRequestOf, ParserAccepts, makes_part, broken_limit, given_board, given_order, name_order_of_text, rows};
 
 use crate::board::Board;
-use crate::command::parse_command_line_words;
+use crate::command::parse_words;
 use crate::extras::{Extras, Misuse, extras_of_matches, misused_option};
-use crate::limits::{Limit, first_broken_limit, given_or_other_profile};
+use crate::limits::{Limit, first_broken_limit, profile_given_or};
 use crate::modes::mode_of_matches;
-use crate::values::{argument_text, flag_value_in_matches, given_or_other_number, is_auto};
+use crate::values::{argument_text, flag_value, number_given_or, is_auto};
 use clap::ArgMatches;
 use lfs_model::{NameOrder, Profile};
 use std::alloc::Global;
@@ -106,7 +106,7 @@ pub enum LineError {
 }
 
 // Returns the order that a text names.
-fn name_order_named_by_text(text: &str) -> Option<NameOrder>
+fn order_of_text(text: &str) -> Option<NameOrder>
     ensures { result ≡ name_order_of_text text.now }
 {
     if text == "longer-first" {
@@ -119,11 +119,11 @@ fn name_order_named_by_text(text: &str) -> Option<NameOrder>
 }
 
 // Returns the order that is given, or the default.
-fn name_order_of_matches(matches: &ArgMatches<'_>) -> Option<NameOrder>
-    ensures { result ≡ given_name_order (rows_of (found_of matches.now)) }
+fn order_of_matches(matches: &ArgMatches<'_>) -> Option<NameOrder>
+    ensures { result ≡ given_order (rows_of (found_of matches.now)) }
 {
     match argument_text(matches, "order") {
-        Some(text) => name_order_named_by_text(text),
+        Some(text) => order_of_text(text),
         None => None,
     }
 }
@@ -140,13 +140,13 @@ fn board_of_matches(matches: &ArgMatches<'_>) -> Option<Board>
 
 // Returns the choices of the matches, or the first one that is wrong.
 fn choices_of_matches<'a>(matches: &ArgMatches<'a>) -> Result<Choices<'a>, LineError>
-    ensures ok { IfOk result (AreChoicesOfParsedArguments (rows_of (found_of matches.now))) }
-    ensures err { (words : List Text) → ParserAcceptsWords words → rows_of (found_of matches.now) ≡ rows words → IfErr result (IsLineErrorOfWords words) }
+    ensures ok { IfOk result (AreChoicesOf (rows_of (found_of matches.now))) }
+    ensures err { (words : List Text) → ParserAccepts words → rows_of (found_of matches.now) ≡ rows words → IfErr result (IsLineError words) }
 {
     let Some(mode) = mode_of_matches(matches) else {
         return Err(LineError::Modes);
     };
-    let Some(order) = name_order_of_matches(matches) else {
+    let Some(order) = order_of_matches(matches) else {
         return Err(LineError::Order);
     };
     match board_of_matches(matches) {
@@ -156,8 +156,8 @@ fn choices_of_matches<'a>(matches: &ArgMatches<'a>) -> Result<Choices<'a>, LineE
 }
 
 // Returns whether a line's mode writes an image, and a part of a file is given.
-fn makes_part_of_file(line: &Line<'_>) -> bool
-    ensures { result ≡ makes_part_of_file line.now }
+fn makes_part(line: &Line<'_>) -> bool
+    ensures { result ≡ makes_part line.now }
 {
     match line.mode {
         Mode::Create(_) | Mode::Put(..) | Mode::Remove(_) | Mode::Mkdir(_) => {
@@ -168,17 +168,17 @@ fn makes_part_of_file(line: &Line<'_>) -> bool
 }
 
 // Returns the line of the matches, or the first limit that breaks its rule.
-fn command_line_of_matches<'a>(
+fn line_of_matches<'a>(
     matches: &ArgMatches<'a>,
     choices: Choices<'a>,
 ) -> Result<Line<'a>, Limit>
-    requires image { HasGivenImage (found_of matches.now) }
-    requires choices { AreChoicesOfParsedArguments (rows_of (found_of matches.now)) choices }
-    ensures ok { IfOk result (IsCommandLineOfParsedArguments (rows_of (found_of matches.now))) }
+    requires image { HasImage (found_of matches.now) }
+    requires choices { AreChoicesOf (rows_of (found_of matches.now)) choices }
+    ensures ok { IfOk result (IsCommandLineOf (rows_of (found_of matches.now))) }
     ensures err { IfErr result (λ limit. broken_limit (rows_of (found_of matches.now)) ≡ Some limit) }
 {
     let board = choices.board;
-    let block_size = given_or_other_number(matches, "block_size", board.block_size());
+    let block_size = number_given_or(matches, "block_size", board.block_size());
     if let Some(limit) = first_broken_limit(matches, block_size) {
         return Err(limit);
     }
@@ -186,12 +186,12 @@ fn command_line_of_matches<'a>(
         mode: choices.mode,
         block_size,
         is_auto: is_auto(matches, "block_size"),
-        offset: given_or_other_number(matches, "offset", 0),
-        page: given_or_other_number(matches, "page", 256),
-        size: given_or_other_number(matches, "size", 65536),
+        offset: number_given_or(matches, "offset", 0),
+        page: number_given_or(matches, "page", 256),
+        size: number_given_or(matches, "size", 65536),
         order: choices.order,
-        explain: flag_value_in_matches(matches, "explain"),
-        profile: given_or_other_profile(matches, board.profile()),
+        explain: flag_value(matches, "explain"),
+        profile: profile_given_or(matches, board.profile()),
         image: argument_text(matches, "image").unwrap(),
     })
 }
@@ -217,11 +217,11 @@ fn command_line_of_matches<'a>(
 /// `LineError::Limit` where a limit that is given is 0 or too large. `LineError::Part` where the mode writes an image, and
 /// `-b auto` or an offset other than 0 is given. `LineError::Misuse` where another option is given with a mode for which it has no meaning.
 pub fn read_request<'a, S: AsStr>(alloc: Global, words: &'a [S]) -> Result<Request<'a>, LineError>
-    ensures ok { IfOk result (λ request. ParserAcceptsWords (map S.text words.entry.now)
-        × IsRequestOfParsedArguments (rows (map S.text words.entry.now)) request) }
-    ensures err { IfErr result (IsLineErrorOfWords (map S.text words.entry.now)) }
+    ensures ok { IfOk result (λ request. ParserAccepts (map S.text words.entry.now)
+        × IsRequestOf (rows (map S.text words.entry.now)) request) }
+    ensures err { IfErr result (IsLineError (map S.text words.entry.now)) }
 {
-    let matches = match parse_command_line_words(alloc, words) {
+    let matches = match parse_words(alloc, words) {
         Ok(matches) => matches,
         Err(error) => return Err(LineError::Parser(error)),
     };
@@ -229,11 +229,11 @@ pub fn read_request<'a, S: AsStr>(alloc: Global, words: &'a [S]) -> Result<Reque
         Ok(choices) => choices,
         Err(error) => return Err(error),
     };
-    let line = match command_line_of_matches(&matches, choices) {
+    let line = match line_of_matches(&matches, choices) {
         Ok(line) => line,
         Err(limit) => return Err(LineError::Limit(limit)),
     };
-    if makes_part_of_file(&line) {
+    if makes_part(&line) {
         return Err(LineError::Part);
     }
     if let Some(misuse) = misused_option(&matches) {
@@ -250,9 +250,9 @@ pub fn read_request<'a, S: AsStr>(alloc: Global, words: &'a [S]) -> Result<Reque
 /// # Errors
 /// Those of `read_request`.
 pub fn read_line<'a, S: AsStr>(alloc: Global, words: &'a [S]) -> Result<Line<'a>, LineError>
-    ensures ok { IfOk result (λ line. ParserAcceptsWords (map S.text words.entry.now)
-        × IsCommandLineOfParsedArguments (rows (map S.text words.entry.now)) line × (makes_part_of_file line ≡ false)) }
-    ensures err { IfErr result (IsLineErrorOfWords (map S.text words.entry.now)) }
+    ensures ok { IfOk result (λ line. ParserAccepts (map S.text words.entry.now)
+        × IsCommandLineOf (rows (map S.text words.entry.now)) line × (makes_part line ≡ false)) }
+    ensures err { IfErr result (IsLineError (map S.text words.entry.now)) }
 {
     match read_request(alloc, words) {
         Ok(request) => Ok(request.line),

@@ -2,7 +2,7 @@
 
 ghost use Rattle.std.specs.Prelude.{◌≡◌, IfOk, false};
 ghost use Rattle.clap.specs.Words.{app_of, rule_of, with_rule};
-ghost use Rattle.lfs_tool_line.specs.Command.{rule_of_limit_option, rule_of_put_option, with_path_mode_options};
+ghost use Rattle.lfs_tool_line.specs.Command.{limit_option_rule, put_rule, with_path_modes};
 
 use clap::{Arg, ArgAction, Command};
 use std::alloc::{AllocError, Global};
@@ -14,7 +14,7 @@ fn with_path_option<'a>(
     id: &'a str,
     help: &'a str,
 ) -> Result<Command<'a>, AllocError>
-    ensures { IfOk result (λ c. app_of c ≡ with_rule (app_of command.entry) (rule_of_limit_option id.entry.now id.entry.now)) }
+    ensures { IfOk result (λ c. app_of c ≡ with_rule (app_of command.entry) (limit_option_rule id.entry.now id.entry.now)) }
 {
     let arg = Arg::new(alloc, id)
         .long(id)
@@ -25,7 +25,7 @@ fn with_path_option<'a>(
 }
 
 fn put_arg<'a>(alloc: Global) -> Arg<'a>
-    ensures rule { rule_of result ≡ rule_of_put_option }
+    ensures rule { rule_of result ≡ put_rule }
     ensures local { result.global ≡ false }
 {
     Arg::new(alloc, "put")
@@ -36,17 +36,17 @@ fn put_arg<'a>(alloc: Global) -> Arg<'a>
 }
 
 fn with_put_option<'a>(alloc: Global, command: Command<'a>) -> Result<Command<'a>, AllocError>
-    ensures { IfOk result (λ c. app_of c ≡ with_rule (app_of command.entry) rule_of_put_option) }
+    ensures { IfOk result (λ c. app_of c ≡ with_rule (app_of command.entry) put_rule) }
 {
     command.arg(put_arg(alloc))
 }
 
 // Adds the options for a path in an image.
-pub(crate) fn with_path_mode_options<'a>(
+pub(crate) fn with_path_modes<'a>(
     alloc: Global,
     command: Command<'a>,
 ) -> Result<Command<'a>, AllocError>
-    ensures { IfOk result (λ c. app_of c ≡ with_path_mode_options (app_of command.entry)) }
+    ensures { IfOk result (λ c. app_of c ≡ with_path_modes (app_of command.entry)) }
 {
     let cat = "Write the bytes of the file at PATH in IMAGE to standard output";
     let remove = "Remove the file or the empty folder at PATH in IMAGE";

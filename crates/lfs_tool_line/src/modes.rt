@@ -2,10 +2,10 @@
 
 ghost use Rattle.std.specs.Prelude.{◌≡◌, MatchOption, Some, map, option_map};
 ghost use Rattle.clap.specs.Words.{found_of, rows_of};
-ghost use Rattle.lfs_tool_line.specs.Matches.{AreGivenModes, HasOneMode, IsModeOfParsedArguments, folder_mode_flags, given_pair, pair_of_two, path_mode_flags};
+ghost use Rattle.lfs_tool_line.specs.Matches.{AreGivenModes, OneMode, IsModeOf, folder_flags, given_pair, only_pair, path_flags};
 
 use crate::line::Mode;
-use crate::values::{argument_text, flag_value_in_matches};
+use crate::values::{argument_text, flag_value};
 use clap::ArgMatches;
 
 // What is given of some modes.
@@ -18,12 +18,12 @@ enum GivenModes<'a> {
 
 // Returns what is given of the modes for a whole image.
 fn given_folder_modes<'a>(matches: &ArgMatches<'a>) -> GivenModes<'a>
-    ensures { AreGivenModes (folder_mode_flags (rows_of (found_of matches.now))) (rows_of (found_of matches.now)) result }
+    ensures { AreGivenModes (folder_flags (rows_of (found_of matches.now))) (rows_of (found_of matches.now)) result }
 {
     let create = argument_text(matches, "create");
     let unpack = argument_text(matches, "unpack");
-    let list = flag_value_in_matches(matches, "list");
-    let check = flag_value_in_matches(matches, "check");
+    let list = flag_value(matches, "list");
+    let check = flag_value(matches, "check");
     match (create, unpack, list, check) {
         (None, None, false, false) => GivenModes::None,
         (Some(dir), None, false, false) => GivenModes::One(Mode::Create(dir)),
@@ -36,7 +36,7 @@ fn given_folder_modes<'a>(matches: &ArgMatches<'a>) -> GivenModes<'a>
 
 // Returns the texts of a list of two.
 fn two_texts<'a>(texts: &[&'a str]) -> Option<(&'a str, &'a str)>
-    ensures { option_map (λ two. (two.0.now, two.1.now)) result ≡ pair_of_two (Some (map (λ t. t.now) texts.now)) }
+    ensures { option_map (λ two. (two.0.now, two.1.now)) result ≡ only_pair (Some (map (λ t. t.now) texts.now)) }
 {
     if texts.len() == 2 {
         Some((texts[0], texts[1]))
@@ -57,7 +57,7 @@ fn pair_of_texts<'a>(matches: &ArgMatches<'a>, id: &str) -> Option<(&'a str, &'a
 
 // Returns what is given of the modes for a path in an image.
 fn given_path_modes<'a>(matches: &ArgMatches<'a>) -> GivenModes<'a>
-    ensures { AreGivenModes (path_mode_flags (rows_of (found_of matches.now))) (rows_of (found_of matches.now)) result }
+    ensures { AreGivenModes (path_flags (rows_of (found_of matches.now))) (rows_of (found_of matches.now)) result }
 {
     let cat = argument_text(matches, "cat");
     let put = pair_of_texts(matches, "put");
@@ -75,8 +75,8 @@ fn given_path_modes<'a>(matches: &ArgMatches<'a>) -> GivenModes<'a>
 
 // Returns the mode, where exactly one is given.
 pub(crate) fn mode_of_matches<'a>(matches: &ArgMatches<'a>) -> Option<Mode<'a>>
-    ensures { MatchOption result (¬ HasOneMode (rows_of (found_of matches.now)))
-        (λ mode. HasOneMode (rows_of (found_of matches.now)) × IsModeOfParsedArguments (rows_of (found_of matches.now)) mode) }
+    ensures { MatchOption result (¬ OneMode (rows_of (found_of matches.now)))
+        (λ mode. OneMode (rows_of (found_of matches.now)) × IsModeOf (rows_of (found_of matches.now)) mode) }
 {
     let (folder, path) = (given_folder_modes(matches), given_path_modes(matches));
     match (folder, path) {

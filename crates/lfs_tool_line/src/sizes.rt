@@ -1,8 +1,8 @@
 // The rules for the sizes of an image.
 
 ghost use Rattle.std.specs.Prelude.{◌≡◌, ◌≤◌, ◌*◌, ◌++◌, ◌/◌, ◌%◌, IfSome, None, OnOk};
-ghost use Rattle.lfs_model.specs.Geometry.{is_valid_page_size};
-ghost use Rattle.lfs_tool_line.specs.Sizes.{AreSizesOfSomeImage, IsFirstBrokenSizeRule, BreaksNoSizeRuleBeforeIndex, labelled_number_text, index_of_size_rule, size_rule_words, broken_size_rule_line, sizes_in_rule_text};
+ghost use Rattle.lfs_model.specs.format.Geometry.{is_page};
+ghost use Rattle.lfs_tool_line.specs.Sizes.{AreImageSizes, IsFirstBroken, BreaksNoneBefore, number_text, size_rule_index, rule_words, broken_rule_line, rule_sizes_text};
 
 use std::alloc::AllocError;
 use std::io::Write;
@@ -34,15 +34,15 @@ pub enum SizeRule {
     BlockCount,
 }
 
-fn is_allowed_page_size(page: u32) -> bool
-    ensures { result ≡ is_valid_page_size page }
+fn is_page_size(page: u32) -> bool
+    ensures { result ≡ is_page page }
 {
     page == 8 || page == 16 || page == 32 || page == 64 || page == 128 || page == 256 || page == 512
 }
 
 // Adds a text and a number behind it.
-fn push_label_and_number(text: &mut Vec<u8>, before: &str, number: usize) -> Result<(), AllocError>
-    ensures { OnOk result (text.new.items ≡ text.old.items ++ labelled_number_text before.now number) }
+fn push_labelled(text: &mut Vec<u8>, before: &str, number: usize) -> Result<(), AllocError>
+    ensures { OnOk result (text.new.items ≡ text.old.items ++ number_text before.now number) }
 {
     text.extend_from_slice(before.as_bytes())?;
     if write!(text, "{}", number).is_err() {
@@ -52,8 +52,8 @@ fn push_label_and_number(text: &mut Vec<u8>, before: &str, number: usize) -> Res
 }
 
 // Returns what the rule says.
-fn words_of_size_rule(rule: SizeRule) -> &'static str
-    ensures { result.now ≡ size_rule_words rule }
+fn size_rule_text(rule: SizeRule) -> &'static str
+    ensures { result.now ≡ rule_words rule }
 {
     match rule {
         SizeRule::PageSize => ": a page has 8, 16, 32, 64, 128, 256 or 512 bytes\n",
@@ -68,39 +68,39 @@ fn words_of_size_rule(rule: SizeRule) -> &'static str
 
 impl Sizes {
     // Adds the sizes that the rule is about.
-    fn push_sizes_in_rule(self, text: &mut Vec<u8>, rule: SizeRule) -> Result<(), AllocError>
-        ensures { OnOk result (text.new.items ≡ text.old.items ++ sizes_in_rule_text self rule) }
+    fn push_rule_sizes(self, text: &mut Vec<u8>, rule: SizeRule) -> Result<(), AllocError>
+        ensures { OnOk result (text.new.items ≡ text.old.items ++ rule_sizes_text self rule) }
     {
         let (block_size, page) = (self.block_size as usize, self.page as usize);
         match rule {
-            SizeRule::PageSize => push_label_and_number(text, "page ", page),
-            SizeRule::BlockSize => push_label_and_number(text, "block ", block_size),
+            SizeRule::PageSize => push_labelled(text, "page ", page),
+            SizeRule::BlockSize => push_labelled(text, "block ", block_size),
             SizeRule::EightPages | SizeRule::WholePages => {
-                push_label_and_number(text, "block ", block_size)?;
-                push_label_and_number(text, ", page ", page)
+                push_labelled(text, "block ", block_size)?;
+                push_labelled(text, ", page ", page)
             }
             SizeRule::WholeBlocks | SizeRule::BlockCount => {
-                push_label_and_number(text, "size ", self.size)?;
-                push_label_and_number(text, ", block ", block_size)
+                push_labelled(text, "size ", self.size)?;
+                push_labelled(text, ", block ", block_size)
             }
             SizeRule::ImageSize => Ok(()),
         }
     }
 
     /// Adds the line that says that the sizes break the rule.
-    pub fn push_broken_rule_line(self, text: &mut Vec<u8>, rule: SizeRule) -> Result<(), AllocError>
-        ensures { OnOk result (text.new.items ≡ text.old.items ++ broken_size_rule_line self rule) }
+    pub fn push_rule_line(self, text: &mut Vec<u8>, rule: SizeRule) -> Result<(), AllocError>
+        ensures { OnOk result (text.new.items ≡ text.old.items ++ broken_rule_line self rule) }
     {
-        self.push_sizes_in_rule(text, rule)?;
-        text.extend_from_slice(words_of_size_rule(rule).as_bytes())?;
+        self.push_rule_sizes(text, rule)?;
+        text.extend_from_slice(size_rule_text(rule).as_bytes())?;
         Ok(())
     }
 
     // Returns the first rule that the image's size breaks, where those of blocks and pages break none.
-    fn first_rule_that_image_size_breaks(self) -> Option<SizeRule>
-        requires { BreaksNoSizeRuleBeforeIndex self (index_of_size_rule SizeRule.ImageSize) }
-        ensures broken { IfSome result (IsFirstBrokenSizeRule self) }
-        ensures fits { result ≡ None → AreSizesOfSomeImage self }
+    fn first_broken_rule(self) -> Option<SizeRule>
+        requires { BreaksNoneBefore self (size_rule_index SizeRule.ImageSize) }
+        ensures broken { IfSome result (IsFirstBroken self) }
+        ensures fits { result ≡ None → AreImageSizes self }
     {
         let block_size = self.block_size as usize;
         if self.size > 268_435_456 {
@@ -119,11 +119,11 @@ impl Sizes {
     /// Returns the first rule that the sizes break, in the order of `SizeRule`. None comes exactly
     /// where there are images of these sizes.
     pub fn broken_rule(self) -> Option<SizeRule>
-        ensures broken { IfSome result (IsFirstBrokenSizeRule self) }
-        ensures fits { result ≡ None → AreSizesOfSomeImage self }
+        ensures broken { IfSome result (IsFirstBroken self) }
+        ensures fits { result ≡ None → AreImageSizes self }
     {
         let (block_size, page) = (self.block_size as usize, self.page as usize);
-        if !is_allowed_page_size(self.page) {
+        if !is_page_size(self.page) {
             return Some(SizeRule::PageSize);
         }
         if block_size < 1024 || block_size > 65536 {
@@ -135,6 +135,6 @@ impl Sizes {
         if block_size % page != 0 {
             return Some(SizeRule::WholePages);
         }
-        self.first_rule_that_image_size_breaks()
+        self.first_broken_rule()
     }
 }

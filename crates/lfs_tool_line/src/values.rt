@@ -2,7 +2,7 @@
 
 ghost use Rattle.std.specs.Prelude.{◌≡◌, option_map};
 ghost use Rattle.clap.specs.Words.{first_of, found_of, rows_of};
-ghost use Rattle.lfs_tool_line.specs.Values.{bad_number_of_option, bad_size_of_option, first_bad_number, first_bad_text, flag_value_in_rows, is_option_auto, number_or, numeric_option_value_in_rows, other_number_options};
+ghost use Rattle.lfs_tool_line.specs.Values.{bad_option_number, bad_option_size, first_bad_number, first_bad_text, flag_in_rows, is_option_auto, number_or, number_in_rows, other_numbers};
 
 use crate::numbers::number_in_text;
 use clap::ArgMatches;
@@ -15,15 +15,15 @@ pub(crate) fn argument_text<'a>(matches: &ArgMatches<'a>, id: &str) -> Option<&'
 }
 
 // Returns the value of a flag.
-pub(crate) fn flag_value_in_matches(matches: &ArgMatches<'_>, id: &str) -> bool
-    ensures { result ≡ flag_value_in_rows id.now (rows_of (found_of matches.now)) }
+pub(crate) fn flag_value(matches: &ArgMatches<'_>, id: &str) -> bool
+    ensures { result ≡ flag_in_rows id.now (rows_of (found_of matches.now)) }
 {
     matches.get_one::<bool>(id).unwrap_or(false)
 }
 
 // Returns the number of an option, where it is given.
 pub(crate) fn given_number(matches: &ArgMatches<'_>, id: &str) -> Option<u32>
-    ensures { result ≡ numeric_option_value_in_rows id.now (rows_of (found_of matches.now)) }
+    ensures { result ≡ number_in_rows id.now (rows_of (found_of matches.now)) }
 {
     match argument_text(matches, id) {
         Some(text) => number_in_text(text),
@@ -32,7 +32,7 @@ pub(crate) fn given_number(matches: &ArgMatches<'_>, id: &str) -> Option<u32>
 }
 
 // Returns the number of an option, or the other one where none is given.
-pub(crate) fn given_or_other_number(matches: &ArgMatches<'_>, id: &str, other: u32) -> u32
+pub(crate) fn number_given_or(matches: &ArgMatches<'_>, id: &str, other: u32) -> u32
     ensures { result ≡ number_or other id.now (rows_of (found_of matches.now)) }
 {
     given_number(matches, id).unwrap_or(other)
@@ -40,7 +40,7 @@ pub(crate) fn given_or_other_number(matches: &ArgMatches<'_>, id: &str, other: u
 
 // Returns the text of an option that takes a number, where it names none.
 fn bad_number<'a>(matches: &ArgMatches<'a>, id: &str) -> Option<&'a str>
-    ensures { option_map (λ s. s.now) result ≡ bad_number_of_option id.now (rows_of (found_of matches.now)) }
+    ensures { option_map (λ s. s.now) result ≡ bad_option_number id.now (rows_of (found_of matches.now)) }
 {
     match argument_text(matches, id) {
         Some(text) => match number_in_text(text) {
@@ -63,7 +63,7 @@ pub(crate) fn is_auto(matches: &ArgMatches<'_>, id: &str) -> bool
 
 // Returns the text of an option that takes a number or `auto`, where it is neither.
 fn bad_size<'a>(matches: &ArgMatches<'a>, id: &str) -> Option<&'a str>
-    ensures { option_map (λ s. s.now) result ≡ bad_size_of_option id.now (rows_of (found_of matches.now)) }
+    ensures { option_map (λ s. s.now) result ≡ bad_option_size id.now (rows_of (found_of matches.now)) }
 {
     if is_auto(matches, id) {
         return None;
@@ -84,12 +84,12 @@ pub(crate) fn first_bad_number<'a>(matches: &ArgMatches<'a>) -> Option<(&'static
     if let Some(text) = bad_size(matches, "size") {
         return Some(("size", text));
     }
-    first_other_bad_number(matches)
+    other_bad_number(matches)
 }
 
 // Returns the same of the options behind those for sizes.
-fn first_other_bad_number<'a>(matches: &ArgMatches<'a>) -> Option<(&'static str, &'a str)>
-    ensures { option_map (λ bad. bad.1.now) result ≡ first_bad_number other_number_options (rows_of (found_of matches.now)) }
+fn other_bad_number<'a>(matches: &ArgMatches<'a>) -> Option<(&'static str, &'a str)>
+    ensures { option_map (λ bad. bad.1.now) result ≡ first_bad_number other_numbers (rows_of (found_of matches.now)) }
 {
     if let Some(text) = bad_number(matches, "offset") {
         return Some(("offset", text));

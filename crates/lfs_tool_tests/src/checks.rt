@@ -5,7 +5,7 @@ use crate::images::{
     SHORT_NAMES, SHORTER, SOFT_TAIL, TURNED,
 };
 use crate::texts::check_text;
-use lfs_fixtures::{BlockFilling, FixtureEntries, image_with_second_commit};
+use lfs_fixtures::{BlockFilling, FixtureEntries, image_with_commit};
 use lfs_tool::{ImageLayout, WatchedStream};
 use std::alloc::{AllocError, Global};
 use std::test::Fail;
@@ -530,7 +530,7 @@ const BROKEN_MOVES_AND_LISTS: [Row<'static>; 9] = [
 // Whether an image has these lines.
 fn has_expected_check_text(alloc: Global, row: Row<'_>) -> Result<bool, AllocError> {
     let (entries, others, wanted) = row;
-    let image = image_with_second_commit(alloc, entries, others)?;
+    let image = image_with_commit(alloc, entries, others)?;
     let mut image = WatchedStream::new(image.as_slice());
     let text = check_text(alloc, &mut image, ImageLayout::new(4096, 256))?;
     Ok(text.as_slice() == wanted.as_bytes())
@@ -624,7 +624,7 @@ fn has_expected_size_check(
     row: (usize, u32, u32, &str),
 ) -> Result<bool, AllocError> {
     let (len, block_size, page, wanted) = row;
-    let mut image = image_with_second_commit(alloc, &[], &[])?;
+    let mut image = image_with_commit(alloc, &[], &[])?;
     image.resize(len, 0xff)?;
     let mut image = WatchedStream::new(image.as_slice());
     let text = check_text(alloc, &mut image, ImageLayout::new(block_size, page))?;

@@ -4,7 +4,7 @@ use crate::images::shifting_block;
 use crate::sources::memory_source_of_items;
 use crate::texts::{list_text, unpack_text, with_error_line};
 use lfs_device::{Error, Geometry};
-use lfs_fixtures::image_with_first_two_blocks;
+use lfs_fixtures::image_with_pair;
 use lfs_model::NameOrder;
 use lfs_tool::{ImageLayout, WatchedStream, create, list};
 use std::alloc::{AllocError, Global};
@@ -114,7 +114,7 @@ fn text_from_failing_reader(
 #[test]
 fn failing_readers_are_reported(rt: HostRuntime) -> Result<(), Fail> {
     let block = shifting_block(rt.alloc())?;
-    let image = image_with_first_two_blocks(rt.alloc(), block.as_slice(), &[])?;
+    let image = image_with_pair(rt.alloc(), block.as_slice(), &[])?;
     for (kind, is_failure) in KINDS {
         for (is_unpacked, block_size, most, calls, text) in READERS {
             for fails_at in 0..calls + 3 {
@@ -204,7 +204,7 @@ fn is_beginning_with_error_line(text: &[u8], whole: &[u8], len: usize) -> bool {
 #[test]
 fn failing_writers_are_reported(rt: HostRuntime) -> Result<(), Fail> {
     let block = shifting_block(rt.alloc())?;
-    let image = image_with_first_two_blocks(rt.alloc(), block.as_slice(), &[])?;
+    let image = image_with_pair(rt.alloc(), block.as_slice(), &[])?;
     for (is_made, most, fails_at, taken) in WRITERS {
         let plain = stream_failing_at_call(rt.alloc(), &[], most, 0, ErrorKind::Other);
         let whole = text_from_failing_writer(rt.alloc(), image.as_slice(), is_made, plain)?;

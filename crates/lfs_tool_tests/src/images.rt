@@ -2,8 +2,8 @@
 
 use crate::texts::{list_text, unpack_text};
 use lfs_fixtures::{
-    BlockFilling, FixtureEntries, beginning_of_block_with_superblock_and_commits,
-    block_with_superblock_and_entries, image_with_first_two_blocks, image_with_second_commit,
+    BlockFilling, FixtureEntries, commits_beginning,
+    block_with_entries, image_with_pair, image_with_commit,
 };
 use lfs_tool::{ImageLayout, WatchedStream};
 use std::alloc::{AllocError, Global};
@@ -462,7 +462,7 @@ fn has_expected_list_or_unpack_text(
     is_unpacked: bool,
 ) -> Result<bool, AllocError> {
     let (entries, others, wanted) = row;
-    let image = image_with_second_commit(alloc, entries, others)?;
+    let image = image_with_commit(alloc, entries, others)?;
     let mut image = WatchedStream::new(image.as_slice());
     let layout = ImageLayout::new(4096, 256);
     let text = if is_unpacked {
@@ -512,7 +512,7 @@ const SHIFTING: [FixtureEntries<'static>; 4] = [
 ];
 
 pub(crate) fn shifting_block(alloc: Global) -> Result<Vec<u8>, AllocError> {
-    beginning_of_block_with_superblock_and_commits(alloc, 1, &SHIFTING)
+    commits_beginning(alloc, 1, &SHIFTING)
 }
 
 // A log of a file `x` up to the middle of its checksum's entry: its first bytes, 67 zeros, and its last
@@ -579,12 +579,12 @@ fn odd_image(alloc: Global, odd: UnusualImage) -> Result<Vec<u8>, AllocError> {
     let mut second = Vec::new(alloc);
     let mut len = 65536;
     match odd {
-        UnusualImage::Second(revision, entries) => second = block_with_superblock_and_entries(
+        UnusualImage::Second(revision, entries) => second = block_with_entries(
             alloc, revision, entries,
         )?,
         UnusualImage::Uncommitted(revision, entries) => {
             first = Vec::from_slice(alloc, &[0; 4])?;
-            second = block_with_superblock_and_entries(alloc, revision, entries)?;
+            second = block_with_entries(alloc, revision, entries)?;
         }
         UnusualImage::Nearly(byte) => second = block_nearly_with_log(alloc, byte)?,
         UnusualImage::Flipped(at, bits) => {
@@ -593,7 +593,7 @@ fn odd_image(alloc: Global, odd: UnusualImage) -> Result<Vec<u8>, AllocError> {
             }
         }
         UnusualImage::Fresh(bytes) => {
-            first = block_with_superblock_and_entries(alloc, 1, &[])?;
+            first = block_with_entries(alloc, 1, &[])?;
             len = bytes;
         }
         UnusualImage::Blank(bytes) => {
@@ -601,7 +601,7 @@ fn odd_image(alloc: Global, odd: UnusualImage) -> Result<Vec<u8>, AllocError> {
             len = bytes;
         }
     }
-    let mut image = image_with_first_two_blocks(alloc, first.as_slice(), second.as_slice())?;
+    let mut image = image_with_pair(alloc, first.as_slice(), second.as_slice())?;
     image.resize(len, 0xff)?;
     Ok(image)
 }

@@ -5,7 +5,7 @@ use crate::images::{FIELDS, HARD_TAIL, PAIR, SHORT_NAMES};
 use crate::sources::{Items, memory_source_of_items};
 use crate::texts::{check_text, list_text, unpack_text, with_error_line};
 use lfs_device::{AcceptedVersions, Error, Geometry, Profile};
-use lfs_fixtures::{BlockFilling, FixtureEntries, image_with_second_commit};
+use lfs_fixtures::{BlockFilling, FixtureEntries, image_with_commit};
 use lfs_model::NameOrder;
 use lfs_tool::{ImageLayout, WatchedStream, create};
 use std::alloc::{AllocError, Global};
@@ -263,7 +263,7 @@ const CHECKED: [Row<'static>; 23] = [
 // Whether an image has these lines where it is checked with the profile.
 fn has_expected_check_text(alloc: Global, row: Row<'_>) -> Result<bool, AllocError> {
     let (entries, others, profile, wanted) = row;
-    let image = image_with_second_commit(alloc, entries, others)?;
+    let image = image_with_commit(alloc, entries, others)?;
     let layout = ImageLayout::new(4096, 256).with_profile(profile);
     let text = check_text(alloc, &mut WatchedStream::new(image.as_slice()), layout)?;
     Ok(text.as_slice() == wanted.as_bytes())
@@ -284,7 +284,7 @@ fn is_later_image_read_as(
     listed: &str,
     unpacked: &str,
 ) -> Result<bool, AllocError> {
-    let image = image_with_second_commit(alloc, &[], &[(0, COMPACTED)])?;
+    let image = image_with_commit(alloc, &[], &[(0, COMPACTED)])?;
     let layout = ImageLayout::new(4096, 256).with_profile(profile);
     let list = list_text(alloc, &mut WatchedStream::new(image.as_slice()), layout)?;
     let done = unpack_text(alloc, &mut WatchedStream::new(image.as_slice()), layout)?;

@@ -3,7 +3,7 @@
 use crate::images::{BELOW, ENTRIES};
 use crate::sources::memory_source_of_items;
 use lfs_device::{Error, Geometry};
-use lfs_fixtures::image_with_second_commit;
+use lfs_fixtures::image_with_commit;
 use lfs_model::NameOrder;
 use lfs_tool::{FilesAndBytes, FollowsProgress, ImageLayout, WatchedStream, create, unpack};
 use lfs_tool_folders::MemoryTarget;
@@ -68,7 +68,7 @@ fn progress_of_making_image(alloc: Global) -> Result<RecordedProgress, Error> {
 
 // What is told of one that is unpacked.
 fn progress_of_unpacking_image(alloc: Global) -> Result<RecordedProgress, AllocError> {
-    let image = image_with_second_commit(alloc, ENTRIES, &[(2, BELOW)])?;
+    let image = image_with_commit(alloc, ENTRIES, &[(2, BELOW)])?;
     let mut target = MemoryTarget {
         done: Vec::new(alloc),
     };

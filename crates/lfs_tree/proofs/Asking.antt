@@ -3,27 +3,27 @@ use Rattle.std.proofs.Common.{ℕ, ◌≡◌, ◌∙◌, ◌||◌, Bool, false, 
 use Rattle.std.specs.Prelude.{IfErr, OnErr, OnOk, is_err}
 use Rattle.lfs_device.specs.declared.error.Error.{Error}
 use Rattle.lfs_device.specs.declared.error.Error.TheVariants.{Io}
-use Rattle.lfs_model.specs.BlockSets.{BlockStateList}
-use Rattle.lfs_model.specs.Cache.{CachedBlocks}
-use Rattle.lfs_model.specs.Disk.{Disk}
-use Rattle.lfs_model.specs.History.{DeviceCallEvent}
-use Rattle.lfs_model.specs.Thread.{Pair, pair_count_before_root}
+use Rattle.lfs_model.specs.layers.BlockSets.{BlockStates}
+use Rattle.lfs_model.specs.layers.Cache.{CachedBlocks}
+use Rattle.lfs_model.specs.format.Disk.{Disk}
+use Rattle.lfs_model.specs.session.History.{CallEvent}
+use Rattle.lfs_model.specs.format.Thread.{Pair, pair_count_before_root}
 use Rattle.lfs_thread.specs.Kept.{ThreadView}
-use Rattle.lfs_tree.specs.RootedThreads.{IsSoundThreadUnlessFailed, IsSoundThreadWithRootAtPairNumber, tree_state_of_kept_thread, tree_state_of_thread}
-use Rattle.lfs_lookup.specs.Reading.{OnlyReadsThreadAndReportsErrors}
-use Rattle.lfs_tree.specs.TreeState.{TreeState, tree_state_without_cache, WasTreeOnlyRead, OnlyReadsTreeOrFails, IsTreeFailedByRead, IsIoWithFaultOrNoMemory}
+use Rattle.lfs_tree.specs.RootedThreads.{SoundUnlessFailed, IsSoundWithRoot, kept_state, thread_state}
+use Rattle.lfs_lookup.specs.LookupReading.{OnlyReadsThreadAndReportsErrors}
+use Rattle.lfs_tree.specs.TreeState.{TreeState, without_cache, OnlyReadsTree, OnlyReadsTreeOrFails, FailedByReading, HasErrorCause}
 use Rattle.lfs_tree.proofs.Mounting.{sound_read}
 use Rattle.lfs_tree.proofs.SameErrors.{same_error}
 
-abbrev see : Disk → List DeviceCallEvent → List Pair → BlockStateList → Bool → Bool → CachedBlocks → TreeState
+abbrev see : Disk → List CallEvent → List Pair → BlockStates → Bool → Bool → CachedBlocks → TreeState
 see disk history pairs map writable failed cache = record { disk = disk; history = history; pairs = pairs; map = map; writable = writable; failed = failed; cache = cache }
 
 -- a thread that was read, as it is behind the answer
 abbrev pub behind : {X : Type 0} → ThreadView → Result X Error → ThreadView
 behind b r = record b { failed = is_err r || b.failed }
 
-module _ {X : Type 0} (a b : ThreadView) (root : ℕ) (writable : Bool) (h : IsSoundThreadWithRootAtPairNumber a root writable) where
-  asked : (r : Result X Error) → OnlyReadsThreadAndReportsErrors a b r → OnOk r (WasTreeOnlyRead (tree_state_of_thread a writable) (tree_state_of_thread (behind b r) writable))
+module _ {X : Type 0} (a b : ThreadView) (root : ℕ) (writable : Bool) (h : IsSoundWithRoot a root writable) where
+  asked : (r : Result X Error) → OnlyReadsThreadAndReportsErrors a b r → OnOk r (OnlyReadsTree (thread_state a writable) (thread_state (behind b r) writable))
   asked (Err e) k = tt
   asked (Ok x) k = record {
     same = ap (λ z. see z b.kept.history b.kept.pairs b.kept.map writable b.failed b.cache) k.only.disk
@@ -35,11 +35,11 @@ module _ {X : Type 0} (a b : ThreadView) (root : ℕ) (writable : Bool) (h : IsS
     no_fault = k.reported.no_fault (λ e. absurd (cc));
   }
 
-  broken : (r : Result X Error) → OnlyReadsThreadAndReportsErrors a b r → OnErr r (IsTreeFailedByRead (tree_state_of_thread a writable) (tree_state_of_thread (behind b r) writable))
+  broken : (r : Result X Error) → OnlyReadsThreadAndReportsErrors a b r → OnErr r (FailedByReading (thread_state a writable) (thread_state (behind b r) writable))
   broken (Ok x) k = tt
   broken (Err e) k = record { failed = refl; disk = k.only.disk; reads = k.only.reads }
 
-  reported : (r : Result X Error) → OnlyReadsThreadAndReportsErrors a b r → IfErr r (IsIoWithFaultOrNoMemory (tree_state_of_thread a writable) (tree_state_of_thread (behind b r) writable))
+  reported : (r : Result X Error) → OnlyReadsThreadAndReportsErrors a b r → IfErr r (HasErrorCause (thread_state a writable) (thread_state (behind b r) writable))
   reported (Ok x) k = tt
   reported (Err e) k = record {
     errors = k.reported.errors;
@@ -47,32 +47,32 @@ module _ {X : Type 0} (a b : ThreadView) (root : ℕ) (writable : Bool) (h : IsS
     no_fault = λ other. k.reported.no_fault (λ z. other (same_error e Io z));
   }
 
-  pub asking : (now : TreeState) (r : Result X Error) (c : ThreadView) → tree_state_of_thread a writable ≡ now → c ≡ behind b r → OnlyReadsThreadAndReportsErrors a b r → OnlyReadsTreeOrFails now r (tree_state_of_thread c writable)
+  pub asking : (now : TreeState) (r : Result X Error) (c : ThreadView) → thread_state a writable ≡ now → c ≡ behind b r → OnlyReadsThreadAndReportsErrors a b r → OnlyReadsTreeOrFails now r (thread_state c writable)
   asking now r c view is k =
-      subst (λ (s : TreeState). OnlyReadsTreeOrFails s r (tree_state_of_thread c writable)) view
-      (subst (λ (t : ThreadView). OnlyReadsTreeOrFails (tree_state_of_thread a writable) r (tree_state_of_thread t writable)) (sym is) (record { asked = asked r k; broken = broken r k; errors = reported r k }))
+      subst (λ (s : TreeState). OnlyReadsTreeOrFails s r (thread_state c writable)) view
+      (subst (λ (t : ThreadView). OnlyReadsTreeOrFails (thread_state a writable) r (thread_state t writable)) (sym is) (record { asked = asked r k; broken = broken r k; errors = reported r k }))
 
   -- it stays what it is
-  pub rooted : (r : Result X Error) → OnlyReadsThreadAndReportsErrors a b r → IsSoundThreadWithRootAtPairNumber b root writable
+  pub rooted : (r : Result X Error) → OnlyReadsThreadAndReportsErrors a b r → IsSoundWithRoot b root writable
   rooted r k = record { works = k.works; sound = sound_read a.kept b.kept writable false false k.only h.sound; root_is = h.root_is ∙ ap pair_count_before_root (sym k.only.pairs) }
 
   -- where it doesn't fail
-  pub held : (r : Result X Error) (c : ThreadView) → c ≡ behind b r → OnlyReadsThreadAndReportsErrors a b r → IsSoundThreadUnlessFailed c root writable
-  held r c is k = subst (λ (t : ThreadView). IsSoundThreadUnlessFailed t root writable) (sym is) (go r k)
+  pub held : (r : Result X Error) (c : ThreadView) → c ≡ behind b r → OnlyReadsThreadAndReportsErrors a b r → SoundUnlessFailed c root writable
+  held r c is k = subst (λ (t : ThreadView). SoundUnlessFailed t root writable) (sym is) (go r k)
     where
-      go : (r : Result X Error) → OnlyReadsThreadAndReportsErrors a b r → IsSoundThreadUnlessFailed (behind b r) root writable
+      go : (r : Result X Error) → OnlyReadsThreadAndReportsErrors a b r → SoundUnlessFailed (behind b r) root writable
       go (Err e) k f = absurd (cc)
       go (Ok x) k f = rooted (Ok x) k
 
 -- ---- what is seen of a thread
 
-module _ (thread : ThreadView) (root : ℕ) (writable : Bool) (now : TreeState) (kept : IsSoundThreadUnlessFailed thread root writable) (view : tree_state_of_thread thread writable ≡ now) where
+module _ (thread : ThreadView) (root : ℕ) (writable : Bool) (now : TreeState) (kept : SoundUnlessFailed thread root writable) (view : thread_state thread writable ≡ now) where
   pub works_held : now.failed ≡ false → thread.failed ≡ false
   works_held e = ap (λ (s : TreeState). s.failed) view ∙ e
 
-  pub rooted_held : now.failed ≡ false → IsSoundThreadWithRootAtPairNumber thread root writable
+  pub rooted_held : now.failed ≡ false → IsSoundWithRoot thread root writable
   rooted_held e = kept (works_held e)
 
   -- what works and may be written, is seen so
-  pub seen_working : now.failed ≡ false → now.writable ≡ true → tree_state_without_cache now ≡ tree_state_of_kept_thread thread.kept true false
-  seen_working e w = ap tree_state_without_cache (sym view) ∙ ap₂ (λ a b. tree_state_of_kept_thread thread.kept a b) (ap (λ (s : TreeState). s.writable) view ∙ w) (works_held e)
+  pub seen_working : now.failed ≡ false → now.writable ≡ true → without_cache now ≡ kept_state thread.kept true false
+  seen_working e w = ap without_cache (sym view) ∙ ap₂ (λ a b. kept_state thread.kept a b) (ap (λ (s : TreeState). s.writable) view ∙ w) (works_held e)

@@ -4,30 +4,30 @@ use Rattle.std.specs.Prelude.{All, Contains}
 use Rattle.std.specs.List.{flat_map}
 use Rattle.std.proofs.lemmas.List.Elements.{All-from_recursion, recursion_from_All}
 use Rattle.std.proofs.lemmas.Option.{slice_get_within}
-use Rattle.lfs_model.specs.Content.{content_of_pair_at, current_block_of_pair_at}
+use Rattle.lfs_model.specs.format.Content.{content_at, current_block}
 use Rattle.lfs_model.specs.declared.limits.Profile.{Profile}
-use Rattle.lfs_model.specs.Disk.{Disk, SameGeometry, block_bytes_on_disk}
-use Rattle.lfs_model.specs.Slots.{IsContentFittingPair, Slot}
-use Rattle.lfs_model.specs.Thread.{Pair, blocks_of_pairs, pairs_from_root_directory_on, first_pair_address, pairs_from_first_with_slots, pair_count_before_root}
-use Rattle.lfs_model.specs.View.{BeginsWithLogEntry, IsAcceptedImage, superblock_name_log_entry}
-use Rattle.lfs_model.specs.Profile.{IsSlotWithinWritableLimits, IsWritableImage}
-use Rattle.lfs_model.specs.Shown.{all_slots_not_moved, skip_list_blocks_of_struct, used_blocks}
-use Rattle.lfs_model.proofs.BlockSets.{Contains-occurrence_count_of_number}
-use Rattle.lfs_model.proofs.Changes.{IsImageAfterTreeChange, slots_files}
-use Rattle.lfs_model.proofs.Counts.{Each, occurrence_count_of_number, count_append, count_here, each_from_counted, each_pieces}
+use Rattle.lfs_model.specs.format.Disk.{Disk, SameGeometry, disk_block}
+use Rattle.lfs_model.specs.format.Slots.{FitsInPair, Slot}
+use Rattle.lfs_model.specs.format.Thread.{Pair, blocks_of_pairs, pairs_from_root, first_address, from_first_slots, pair_count_before_root}
+use Rattle.lfs_model.specs.tree.View.{BeginsWith, IsAccepted, superblock_entry}
+use Rattle.lfs_model.specs.tree.Profile.{IsWritableSlot, IsWritable}
+use Rattle.lfs_model.specs.tree.Shown.{all_slots_not_moved, struct_blocks, used_blocks}
+use Rattle.lfs_model.proofs.BlockSets.{Contains-number_count}
+use Rattle.lfs_model.proofs.Changes.{IsChangedImage, slots_files}
+use Rattle.lfs_model.proofs.Counts.{Each, number_count, count_append, count_here, each_from_counted, each_pieces}
 use Rattle.lfs_model.proofs.Devices.{content_same, first_same}
-use Rattle.lfs_model.proofs.Files.{HasSameFileBlocksOfStructOnDisks}
+use Rattle.lfs_model.proofs.Files.{SameFileBlocks}
 use Rattle.lfs_model.proofs.Found.{chain_of_thread}
 use Rattle.lfs_model.proofs.Splices.{IsDevice}
 use Rattle.lfs_model.proofs.Superblocks.{IsChain, first_counted}
 use Rattle.lfs_model.proofs.Unchanged.{accepted_filled, same_follows}
 use Rattle.lfs_lookup.proofs.Roots.{root_begins}
 
-pub writable_on : (disk new : Disk) (ps : List Pair) → SameGeometry disk new → IsWritableImage disk ps → IsWritableImage new ps
+pub writable_on : (disk new : Disk) (ps : List Pair) → SameGeometry disk new → IsWritable disk ps → IsWritable new ps
 writable_on disk new ps g h = record {
-  pairs = subst (λ (n : ℕ). All (λ p. IsContentFittingPair n new.page p.content) ps) (sym g.block_size) (subst (λ (n : ℕ). All (λ p. IsContentFittingPair disk.block_size n p.content) ps) (sym g.page) h.pairs);
-  slots = subst (λ (x : Profile). All (λ p. All (IsSlotWithinWritableLimits x new.block_size new.page) p.content.slots) ps) (sym g.profile)
-      (subst (λ (n : ℕ). All (λ p. All (IsSlotWithinWritableLimits disk.profile n new.page) p.content.slots) ps) (sym g.block_size) (subst (λ (n : ℕ). All (λ p. All (IsSlotWithinWritableLimits disk.profile disk.block_size n) p.content.slots) ps) (sym g.page) h.slots));
+  pairs = subst (λ (n : ℕ). All (λ p. FitsInPair n new.page p.content) ps) (sym g.block_size) (subst (λ (n : ℕ). All (λ p. FitsInPair disk.block_size n p.content) ps) (sym g.page) h.pairs);
+  slots = subst (λ (x : Profile). All (λ p. All (IsWritableSlot x new.block_size new.page) p.content.slots) ps) (sym g.profile)
+      (subst (λ (n : ℕ). All (λ p. All (IsWritableSlot disk.profile n new.page) p.content.slots) ps) (sym g.block_size) (subst (λ (n : ℕ). All (λ p. All (IsWritableSlot disk.profile disk.block_size n) p.content.slots) ps) (sym g.page) h.slots));
   no_empty_pair = h.no_empty_pair;
 }
 
@@ -35,8 +35,8 @@ pub geometry_back : (disk new : Disk) → SameGeometry disk new → SameGeometry
 geometry_back disk new g = record { block_size = sym g.block_size; page = sym g.page; order = sym g.order; profile = sym g.profile; count = sym g.count }
 
 -- pairs of which no block changed
-contents_still : (disk new : Disk) (ps : List Pair) → ((b : ℕ) → 1 ≤ occurrence_count_of_number b (blocks_of_pairs ps) → block_bytes_on_disk new b ≡ block_bytes_on_disk disk b) → Each (λ (p : Pair). content_of_pair_at disk p.at ≡ Some p.content) ps
-    → Each (λ (p : Pair). content_of_pair_at new p.at ≡ Some p.content) ps
+contents_still : (disk new : Disk) (ps : List Pair) → ((b : ℕ) → 1 ≤ number_count b (blocks_of_pairs ps) → disk_block new b ≡ disk_block disk b) → Each (λ (p : Pair). content_at disk p.at ≡ Some p.content) ps
+    → Each (λ (p : Pair). content_at new p.at ≡ Some p.content) ps
 contents_still disk new [] same was = tt
 contents_still disk new (p ∷ ps) same was = (
   content_same disk new p.at
@@ -45,44 +45,44 @@ contents_still disk new (p ∷ ps) same was = (
   contents_still disk new ps (λ b some. same b (omega arith)) was.1,
 )
 
-first_still : (disk new : Disk) (ps : List Pair) → IsAcceptedImage disk ps → ((b : ℕ) → 1 ≤ occurrence_count_of_number b (blocks_of_pairs ps) → block_bytes_on_disk new b ≡ block_bytes_on_disk disk b)
-    → BeginsWithLogEntry (current_block_of_pair_at new (first_pair_address (pairs_from_first_with_slots ps))) superblock_name_log_entry
+first_still : (disk new : Disk) (ps : List Pair) → IsAccepted disk ps → ((b : ℕ) → 1 ≤ number_count b (blocks_of_pairs ps) → disk_block new b ≡ disk_block disk b)
+    → BeginsWith (current_block new (first_address (from_first_slots ps))) superblock_entry
 first_still disk new ps ok same =
     let f = accepted_filled disk ps ok in
     let n = first_counted ps f.pair f.rest f.is in
-    let e = ap first_pair_address f.is in
-    subst (λ at. BeginsWithLogEntry (current_block_of_pair_at new at) superblock_name_log_entry) (sym e)
-    (first_same disk new f.pair.at (same f.pair.at.0 n.0) (same f.pair.at.1 n.1) (subst (λ at. BeginsWithLogEntry (current_block_of_pair_at disk at) superblock_name_log_entry) e ok.first))
+    let e = ap first_address f.is in
+    subst (λ at. BeginsWith (current_block new at) superblock_entry) (sym e)
+    (first_same disk new f.pair.at (same f.pair.at.0 n.0) (same f.pair.at.1 n.1) (subst (λ at. BeginsWith (current_block disk at) superblock_entry) e ok.first))
 
-module _ (disk new : Disk) (ps : List Pair) (ok : IsAcceptedImage disk ps) (geometry : SameGeometry disk new) (same : (b : ℕ) → Contains (used_blocks disk ps) b → block_bytes_on_disk new b ≡ block_bytes_on_disk disk b) where
-  counted : (b : ℕ) → occurrence_count_of_number b (used_blocks disk ps) ≡ occurrence_count_of_number b (blocks_of_pairs ps) + occurrence_count_of_number b (flat_map (λ (s : Slot). skip_list_blocks_of_struct disk s.struct) (all_slots_not_moved ps))
-  counted b = count_append b (blocks_of_pairs ps) (flat_map (λ (s : Slot). skip_list_blocks_of_struct disk s.struct) (all_slots_not_moved ps))
+module _ (disk new : Disk) (ps : List Pair) (ok : IsAccepted disk ps) (geometry : SameGeometry disk new) (same : (b : ℕ) → Contains (used_blocks disk ps) b → disk_block new b ≡ disk_block disk b) where
+  counted : (b : ℕ) → number_count b (used_blocks disk ps) ≡ number_count b (blocks_of_pairs ps) + number_count b (flat_map (λ (s : Slot). struct_blocks disk s.struct) (all_slots_not_moved ps))
+  counted b = count_append b (blocks_of_pairs ps) (flat_map (λ (s : Slot). struct_blocks disk s.struct) (all_slots_not_moved ps))
 
-  pair_still : (b : ℕ) → 1 ≤ occurrence_count_of_number b (blocks_of_pairs ps) → block_bytes_on_disk new b ≡ block_bytes_on_disk disk b
-  pair_still b some = same b (Contains-occurrence_count_of_number (used_blocks disk ps) b (let e = counted b in omega arith))
+  pair_still : (b : ℕ) → 1 ≤ number_count b (blocks_of_pairs ps) → disk_block new b ≡ disk_block disk b
+  pair_still b some = same b (Contains-number_count (used_blocks disk ps) b (let e = counted b in omega arith))
 
-  pub files_still : Each (λ (s : Slot). HasSameFileBlocksOfStructOnDisks disk new s.struct) (all_slots_not_moved ps)
-  files_still = each_pieces (λ b. block_bytes_on_disk new b ≡ block_bytes_on_disk disk b) (λ (s : Slot). skip_list_blocks_of_struct disk s.struct) (all_slots_not_moved ps)
-      (each_from_counted (λ b. block_bytes_on_disk new b ≡ block_bytes_on_disk disk b) (flat_map (λ (s : Slot). skip_list_blocks_of_struct disk s.struct) (all_slots_not_moved ps))
-      (λ b some. same b (Contains-occurrence_count_of_number (used_blocks disk ps) b (let e = counted b in omega arith))))
+  pub files_still : Each (λ (s : Slot). SameFileBlocks disk new s.struct) (all_slots_not_moved ps)
+  files_still = each_pieces (λ b. disk_block new b ≡ disk_block disk b) (λ (s : Slot). struct_blocks disk s.struct) (all_slots_not_moved ps)
+      (each_from_counted (λ b. disk_block new b ≡ disk_block disk b) (flat_map (λ (s : Slot). struct_blocks disk s.struct) (all_slots_not_moved ps))
+      (λ b some. same b (Contains-number_count (used_blocks disk ps) b (let e = counted b in omega arith))))
 
   device_still : IsDevice disk new ps ps
   device_still = record {
     geometry = geometry;
-    contents = All-from_recursion (λ (p : Pair). content_of_pair_at new p.at ≡ Some p.content) ps
-        (contents_still disk new ps pair_still (recursion_from_All (λ (p : Pair). content_of_pair_at disk p.at ≡ Some p.content) ps ok.thread.contents));
+    contents = All-from_recursion (λ (p : Pair). content_at new p.at ≡ Some p.content) ps
+        (contents_still disk new ps pair_still (recursion_from_All (λ (p : Pair). content_at disk p.at ≡ Some p.content) ps ok.thread.contents));
     first = first_still disk new ps ok pair_still;
-    files = All-from_recursion (λ (s : Slot). HasSameFileBlocksOfStructOnDisks disk new s.struct) (all_slots_not_moved ps) files_still;
+    files = All-from_recursion (λ (s : Slot). SameFileBlocks disk new s.struct) (all_slots_not_moved ps) files_still;
   }
 
   -- it is accepted as before, and shows the same tree
-  pub still_follows : IsImageAfterTreeChange disk ps new ps (λ t. t) (λ d. d)
-  still_follows = go (pairs_from_root_directory_on ps) refl
+  pub still_follows : IsChangedImage disk ps new ps (λ t. t) (λ d. d)
+  still_follows = go (pairs_from_root ps) refl
     where
       chain : List Pair
       chain = take (pair_count_before_root ps) ps
 
-      go : (behind : List Pair) → pairs_from_root_directory_on ps ≡ behind → IsImageAfterTreeChange disk ps new ps (λ t. t) (λ d. d)
+      go : (behind : List Pair) → pairs_from_root ps ≡ behind → IsChangedImage disk ps new ps (λ t. t) (λ d. d)
       go [] e = absurd (
           let c = chain_of_thread ps in
           let root = root_begins disk ps ok in
@@ -94,8 +94,8 @@ module _ (disk new : Disk) (ps : List Pair) (ok : IsAcceptedImage disk ps) (geom
       go (x ∷ rest) e =
           let c = chain_of_thread ps in
           let are : ps ≡ take (pair_count_before_root ps) ps ++ (x ∷ rest) = c.0 ∙ ap (λ z. take (pair_count_before_root ps) ps ++ z) e in
-          subst (λ z. IsImageAfterTreeChange disk z new z (λ t. t) (λ d. d)) (sym are)
-          (same_follows disk new (take (pair_count_before_root ps) ps) x rest (subst (IsChain (take (pair_count_before_root ps) ps)) e c.1) (subst (IsAcceptedImage disk) are ok) (subst (λ z. IsDevice disk new z z) are device_still))
+          subst (λ z. IsChangedImage disk z new z (λ t. t) (λ d. d)) (sym are)
+          (same_follows disk new (take (pair_count_before_root ps) ps) x rest (subst (IsChain (take (pair_count_before_root ps) ps)) e c.1) (subst (IsAccepted disk) are ok) (subst (λ z. IsDevice disk new z z) are device_still))
 
   pub used_still : used_blocks new ps ≡ used_blocks disk ps
   used_still = ap (λ z. blocks_of_pairs ps ++ z) (slots_files disk new (all_slots_not_moved ps) geometry files_still)

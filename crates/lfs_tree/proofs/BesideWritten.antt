@@ -4,57 +4,57 @@ use Rattle.std.proofs.Math.Nat.{min-le_right}
 use Rattle.std.specs.Prelude.{Contains, IfErr, IfOk, OnErr, OnOk}
 use Rattle.lfs_device.specs.declared.error.Error.{Error}
 use Rattle.lfs_device.specs.declared.error.Error.TheVariants.{Io}
-use Rattle.lfs_model.specs.TreeEdits.{is_file}
-use Rattle.lfs_model.specs.BlockSets.{AreExactlyTheUsedBlocks, used_count}
+use Rattle.lfs_model.specs.session.TreeEdits.{is_file}
+use Rattle.lfs_model.specs.layers.BlockSets.{AreUsed, used_count}
 use Rattle.lfs_model.specs.declared.limits.Profile.{Profile}
-use Rattle.lfs_model.specs.Disk.{SameGeometry, block_bytes_on_disk, block_count, inline_limit}
-use Rattle.lfs_model.specs.Session.{DiskSummary}
-use Rattle.lfs_model.specs.SlotEdits.{slot_of_path}
-use Rattle.lfs_model.specs.Slots.{Slot}
-use Rattle.lfs_model.specs.Thread.{Pair, gstate_of_pairs, pair_count_before_root}
-use Rattle.lfs_model.specs.Tree.{Path, Tree}
-use Rattle.lfs_model.specs.View.{IsAcceptedImage}
-use Rattle.lfs_model.specs.Profile.{IsWritableImage}
-use Rattle.lfs_model.specs.Shown.{tree_on_disk, used_blocks}
-use Rattle.lfs_model.specs.Blocks.{Blocks}
-use Rattle.lfs_model.specs.Cache.{CachedBlocks}
-use Rattle.lfs_model.specs.PowerLoss.{HasTreeBeforeOrAfterOperation, SurvivesPowerLossInCallsSince, disk_with_blocks}
-use Rattle.lfs_model.proofs.Changes.{IsImageAfterTreeChange}
-use Rattle.lfs_model.proofs.Histories.{IsTrueAfterAnyPowerLossSince-weaker, IsTrueAfterAnyPowerLossSince-worst}
-use Rattle.lfs_file.specs.Hand.{KeepsBytesOfUsedBlocks}
-use Rattle.lfs_model.proofs.Files.{HasSameFileBlocksOfStructOnDisks, file_blocks_same}
-use Rattle.lfs_tree.specs.ThreadContents.{CanTruncateContentsOnThread, CanWriteContentsOnThread, AreConsistentContentsWithBytesAndFormOnThread, LeavesPairsAndUsedBlocksUnchanged, ReportsFaultOrNoMemory, list_blocks_of_contents}
+use Rattle.lfs_model.specs.format.Disk.{SameGeometry, disk_block, block_count, inline_limit}
+use Rattle.lfs_model.specs.session.Session.{DiskSummary}
+use Rattle.lfs_model.specs.session.SlotEdits.{slot_of}
+use Rattle.lfs_model.specs.format.Slots.{Slot}
+use Rattle.lfs_model.specs.format.Thread.{Pair, pairs_gstate, pair_count_before_root}
+use Rattle.lfs_model.specs.tree.Tree.{Path, Tree}
+use Rattle.lfs_model.specs.tree.View.{IsAccepted}
+use Rattle.lfs_model.specs.tree.Profile.{IsWritable}
+use Rattle.lfs_model.specs.tree.Shown.{tree_on_disk, used_blocks}
+use Rattle.lfs_model.specs.format.Blocks.{Blocks}
+use Rattle.lfs_model.specs.layers.Cache.{CachedBlocks}
+use Rattle.lfs_model.specs.crash.PowerLoss.{HasEither, SurvivesLossSince, with_blocks}
+use Rattle.lfs_model.proofs.Changes.{IsChangedImage}
+use Rattle.lfs_model.proofs.Histories.{HoldsAtLosses-weaker, HoldsAtLosses-worst}
+use Rattle.lfs_file.specs.Hand.{KeepsUsedBytes}
+use Rattle.lfs_model.proofs.Files.{SameFileBlocks, file_blocks_same}
+use Rattle.lfs_tree.specs.ThreadContents.{CanTruncate, CanWrite, HasContents, KeepsPairs, ReportsFaultOrNoMemory, contents_list_blocks}
 use Rattle.lfs_thread.specs.Kept.{KeptThread, ThreadView}
-use Rattle.lfs_tree.specs.RootedThreads.{IsSoundThreadUnlessFailed, IsSoundThreadWithRootAtPairNumber, tree_state_of_kept_thread, tree_state_of_thread}
-use Rattle.lfs_tree.specs.OpenContents.{CanTruncateWriterContents, CanWriteWriterContents, AreWriterContentsOverFileOnThread, WritesOnlyUnusedBlocksOrFails, WritesOnlyUnusedBlocks, skip_list_blocks_of_slot, bytes_of_writer_contents, skip_list_blocks_at_path}
-use Rattle.lfs_tree.specs.TreeState.{IsFailedTree, IsIoWithFaultOrNoMemory, IsSoundTreeState, TreeState}
+use Rattle.lfs_tree.specs.RootedThreads.{SoundUnlessFailed, IsSoundWithRoot, kept_state, thread_state}
+use Rattle.lfs_tree.specs.OpenContents.{CanTruncateWriterContents, CanWriteWriterContents, OverThreadFile, WritesOnlyUnusedBlocksOrFails, WritesUnusedBlocks, slot_list_blocks, writer_contents_bytes, list_blocks_at}
+use Rattle.lfs_tree.specs.TreeState.{IsFailedTree, HasErrorCause, IsSoundState, TreeState}
 use Rattle.lfs_tree.proofs.BesideImage.{files_still, geometry_back, still_follows, used_still, writable_on}
 use Rattle.lfs_tree.proofs.SameErrors.{same_error}
 use Rattle.lfs_tree.proofs.Asking.{behind}
 use Rattle.lfs_tree.proofs.SlotsHave.{slot_has}
 use Rattle.lfs_tree.proofs.UsedBlocks.{count_is}
-use Rattle.lfs_file.specs.Contents.{ExceedsInlineLimitIfInFlight, NeedsRoomToTruncate, writer_contents_bytes_in_memory_or_blocks, storage_form_of_contents, block_room_for_truncation, block_room_for_write}
-use Rattle.lfs_file.specs.Form.{ContentsStorageForm, contents_size_of_storage_form}
-use Rattle.lfs_file.specs.BlockOwners.{AreUsedBlocksOfListAmongOwnBlocks}
+use Rattle.lfs_file.specs.Contents.{FormFitsInlineLimit, NeedsTruncateRoom, contents_bytes, contents_form, truncation_room, write_room}
+use Rattle.lfs_file.specs.Form.{StorageForm, form_size}
+use Rattle.lfs_file.specs.BlockOwners.{AreOwn}
 use Rattle.lfs_file.specs.declared.contents.WriterContents.{WriterContents}
 use Rattle.lfs_file.proofs.Used.{used_back}
 
 -- the bytes and the form of contents that stand on a thread's device
-pub bytes_of_held : (t : KeptThread) (c : WriterContents) (bytes : List ℕ) (shape : ContentsStorageForm) → AreConsistentContentsWithBytesAndFormOnThread t c bytes shape → bytes_of_writer_contents t c ≡ bytes
-bytes_of_held t c bytes shape h = ap (λ (n : ℕ). writer_contents_bytes_in_memory_or_blocks t.disk.blocks n c) (sym h.divided.block_size) ∙ h.has.has
+pub bytes_of_held : (t : KeptThread) (c : WriterContents) (bytes : List ℕ) (shape : StorageForm) → HasContents t c bytes shape → writer_contents_bytes t c ≡ bytes
+bytes_of_held t c bytes shape h = ap (λ (n : ℕ). contents_bytes t.disk.blocks n c) (sym h.divided.block_size) ∙ h.has.has
 
-pub geometry_beside : (a b : KeptThread) → LeavesPairsAndUsedBlocksUnchanged a b → SameGeometry a.disk b.disk
+pub geometry_beside : (a b : KeptThread) → KeepsPairs a b → SameGeometry a.disk b.disk
 geometry_beside a b l = record { block_size = l.shape.block_size; page = l.shape.page; order = l.shape.order; profile = l.shape.profile; count = l.shape.count }
 
-module _ (a b : KeptThread) (leaves : LeavesPairsAndUsedBlocksUnchanged a b) (accepted : IsAcceptedImage a.disk a.pairs) (used : AreExactlyTheUsedBlocks a.map (used_blocks a.disk a.pairs)) where
-  used_same : (x : ℕ) → Contains (used_blocks a.disk a.pairs) x → block_bytes_on_disk b.disk x ≡ block_bytes_on_disk a.disk x
+module _ (a b : KeptThread) (leaves : KeepsPairs a b) (accepted : IsAccepted a.disk a.pairs) (used : AreUsed a.map (used_blocks a.disk a.pairs)) where
+  used_same : (x : ℕ) → Contains (used_blocks a.disk a.pairs) x → disk_block b.disk x ≡ disk_block a.disk x
   used_same x has = leaves.spared.same x ((used x).1 has)
 
-  follows : IsImageAfterTreeChange a.disk a.pairs b.disk a.pairs (λ t. t) (λ d. d)
+  follows : IsChangedImage a.disk a.pairs b.disk a.pairs (λ t. t) (λ d. d)
   follows = still_follows a.disk b.disk a.pairs accepted (geometry_beside a b leaves) used_same
 
-  pub accepted_beside : IsAcceptedImage b.disk b.pairs
-  accepted_beside = subst (IsAcceptedImage b.disk) (sym leaves.pairs) follows.accepted
+  pub accepted_beside : IsAccepted b.disk b.pairs
+  accepted_beside = subst (IsAccepted b.disk) (sym leaves.pairs) follows.accepted
 
   pub tree_beside : tree_on_disk b.disk b.pairs ≡ tree_on_disk a.disk a.pairs
   tree_beside = ap (tree_on_disk b.disk) leaves.pairs ∙ follows.shows
@@ -62,20 +62,20 @@ module _ (a b : KeptThread) (leaves : LeavesPairsAndUsedBlocksUnchanged a b) (ac
   pub used_blocks_beside : used_blocks b.disk b.pairs ≡ used_blocks a.disk a.pairs
   used_blocks_beside = ap (used_blocks b.disk) leaves.pairs ∙ used_still a.disk b.disk a.pairs accepted (geometry_beside a b leaves) used_same
 
-  pub are_used_beside : AreExactlyTheUsedBlocks b.map (used_blocks b.disk b.pairs)
-  are_used_beside = subst (AreExactlyTheUsedBlocks b.map) (sym used_blocks_beside) (λ x. ((λ u. (used x).0 (used_back leaves.map x u)), (λ has. leaves.map.stays x ((used x).1 has))))
+  pub are_used_beside : AreUsed b.map (used_blocks b.disk b.pairs)
+  are_used_beside = subst (AreUsed b.map) (sym used_blocks_beside) (λ x. ((λ u. (used x).0 (used_back leaves.map x u)), (λ has. leaves.map.stays x ((used x).1 has))))
 
   -- the file at a path has its list in the same blocks
-  pub list_beside : (path : Path) → skip_list_blocks_at_path b path ≡ skip_list_blocks_at_path a path
-  list_beside path = ap (λ (ps : List Pair). skip_list_blocks_of_slot b.disk (slot_of_path ps path)) leaves.pairs ∙ go (slot_of_path a.pairs path) refl
+  pub list_beside : (path : Path) → list_blocks_at b path ≡ list_blocks_at a path
+  list_beside path = ap (λ (ps : List Pair). slot_list_blocks b.disk (slot_of ps path)) leaves.pairs ∙ go (slot_of a.pairs path) refl
     where
-      go : (o : Option Slot) → slot_of_path a.pairs path ≡ o → skip_list_blocks_of_slot b.disk o ≡ skip_list_blocks_of_slot a.disk o
+      go : (o : Option Slot) → slot_of a.pairs path ≡ o → slot_list_blocks b.disk o ≡ slot_list_blocks a.disk o
       go None e = refl
       go (Some s) e = file_blocks_same a.disk b.disk s.struct (geometry_beside a b leaves)
-          (slot_has (λ (x : Slot). HasSameFileBlocksOfStructOnDisks a.disk b.disk x.struct) a.disk a.pairs accepted (files_still a.disk b.disk a.pairs accepted (geometry_beside a b leaves) used_same) tt path s e)
+          (slot_has (λ (x : Slot). SameFileBlocks a.disk b.disk x.struct) a.disk a.pairs accepted (files_still a.disk b.disk a.pairs accepted (geometry_beside a b leaves) used_same) tt path s e)
 
   -- what a call makes of contents is over the same file
-  pub over_beside : (path : Path) (contents c : WriterContents) (bytes : List ℕ) (shape : ContentsStorageForm) → AreWriterContentsOverFileOnThread a path contents → AreConsistentContentsWithBytesAndFormOnThread b c bytes shape → AreUsedBlocksOfListAmongOwnBlocks b.map (list_blocks_of_contents a contents) (list_blocks_of_contents b c) → AreWriterContentsOverFileOnThread b path c
+  pub over_beside : (path : Path) (contents c : WriterContents) (bytes : List ℕ) (shape : StorageForm) → OverThreadFile a path contents → HasContents b c bytes shape → AreOwn b.map (contents_list_blocks a contents) (contents_list_blocks b c) → OverThreadFile b path c
   over_beside path contents c bytes shape over holds owned = record {
     file = ap (λ (t : Tree). is_file (t path)) tree_beside ∙ over.file;
     stands = record { geometry = holds.geometry; divided = holds.divided; stands = holds.has.stands };
@@ -84,37 +84,37 @@ module _ (a b : KeptThread) (leaves : LeavesPairsAndUsedBlocksUnchanged a b) (ac
     };
   }
 
-sound_beside : (a b : KeptThread) (writable : Bool) → LeavesPairsAndUsedBlocksUnchanged a b → IsSoundTreeState (tree_state_of_kept_thread a writable false) → IsSoundTreeState (tree_state_of_kept_thread b writable false)
+sound_beside : (a b : KeptThread) (writable : Bool) → KeepsPairs a b → IsSoundState (kept_state a writable false) → IsSoundState (kept_state b writable false)
 sound_beside a b writable leaves s = record {
   accepted = accepted_beside a b leaves s.accepted s.used;
-  fits = λ e. subst (IsWritableImage b.disk) (sym leaves.pairs) (writable_on a.disk b.disk a.pairs (geometry_beside a b leaves) (s.fits e));
-  is_kept = λ w. s.is_kept (subst (IsWritableImage a.disk) leaves.pairs (writable_on b.disk a.disk b.pairs (geometry_back a.disk b.disk (geometry_beside a b leaves)) w));
+  fits = λ e. subst (IsWritable b.disk) (sym leaves.pairs) (writable_on a.disk b.disk a.pairs (geometry_beside a b leaves) (s.fits e));
+  is_kept = λ w. s.is_kept (subst (IsWritable a.disk) leaves.pairs (writable_on b.disk a.disk b.pairs (geometry_back a.disk b.disk (geometry_beside a b leaves)) w));
   used = are_used_beside a b leaves s.accepted s.used;
   size = leaves.map.count ∙ s.size ∙ sym leaves.shape.count;
 }
 
 around_is : (writable : Bool) (profile profile_now : Profile) (block_size page count block_size_now page_now count_now : ℕ) (used used_now : List ℕ) (ps qs : List Pair) → profile_now ≡ profile → block_size_now ≡ block_size → page_now ≡ page → count_now ≡ count → used_now ≡ used → qs ≡ ps
-    → (let x : DiskSummary = record { writable = writable; profile = profile_now; block_size = block_size_now; page = page_now; block_count = count_now; used = used_now; gstate = gstate_of_pairs qs } in x)
-    ≡ record { writable = writable; profile = profile; block_size = block_size; page = page; block_count = count; used = used; gstate = gstate_of_pairs ps }
-around_is writable profile profile_now block_size page count block_size_now page_now count_now used used_now ps qs f b p c u q = λ i. record { writable = writable; profile = f i; block_size = b i; page = p i; block_count = c i; used = u i; gstate = gstate_of_pairs (q i) }
+    → (let x : DiskSummary = record { writable = writable; profile = profile_now; block_size = block_size_now; page = page_now; block_count = count_now; used = used_now; gstate = pairs_gstate qs } in x)
+    ≡ record { writable = writable; profile = profile; block_size = block_size; page = page; block_count = count; used = used; gstate = pairs_gstate ps }
+around_is writable profile profile_now block_size page count block_size_now page_now count_now used used_now ps qs f b p c u q = λ i. record { writable = writable; profile = f i; block_size = b i; page = p i; block_count = c i; used = u i; gstate = pairs_gstate (q i) }
 
 -- a disk of which no used block changed
-pub left_beside : (t : KeptThread) (blocks : Blocks) {after : Tree} → IsAcceptedImage t.disk t.pairs → IsWritableImage t.disk t.pairs → AreExactlyTheUsedBlocks t.map (used_blocks t.disk t.pairs) → KeepsBytesOfUsedBlocks t.map t.disk.blocks blocks
-    → HasTreeBeforeOrAfterOperation (disk_with_blocks blocks t.disk) (tree_on_disk t.disk t.pairs) after
+pub left_beside : (t : KeptThread) (blocks : Blocks) {after : Tree} → IsAccepted t.disk t.pairs → IsWritable t.disk t.pairs → AreUsed t.map (used_blocks t.disk t.pairs) → KeepsUsedBytes t.map t.disk.blocks blocks
+    → HasEither (with_blocks blocks t.disk) (tree_on_disk t.disk t.pairs) after
 left_beside t blocks accepted fits used spared =
-    let same : SameGeometry t.disk (disk_with_blocks blocks t.disk) = record { block_size = refl; page = refl; order = refl; profile = refl; count = spared.count } in
-    let f = still_follows t.disk (disk_with_blocks blocks t.disk) t.pairs accepted same (λ x has. spared.same x ((used x).1 has)) in
-    record { pairs = t.pairs; accepted = f.accepted; writable = writable_on t.disk (disk_with_blocks blocks t.disk) t.pairs same fits; tree = inl f.shows }
+    let same : SameGeometry t.disk (with_blocks blocks t.disk) = record { block_size = refl; page = refl; order = refl; profile = refl; count = spared.count } in
+    let f = still_follows t.disk (with_blocks blocks t.disk) t.pairs accepted same (λ x has. spared.same x ((used x).1 has)) in
+    record { pairs = t.pairs; accepted = f.accepted; writable = writable_on t.disk (with_blocks blocks t.disk) t.pairs same fits; tree = inl f.shows }
 
 -- the calls of a tree
-module _ (a b : ThreadView) (root : ℕ) (writable : Bool) (h : IsSoundThreadWithRootAtPairNumber a root writable) (still : b.failed ≡ false) (leaves : LeavesPairsAndUsedBlocksUnchanged a.kept b.kept) where
-  abbrev sound : IsSoundTreeState (tree_state_of_kept_thread a.kept writable false)
+module _ (a b : ThreadView) (root : ℕ) (writable : Bool) (h : IsSoundWithRoot a root writable) (still : b.failed ≡ false) (leaves : KeepsPairs a.kept b.kept) where
+  abbrev sound : IsSoundState (kept_state a.kept writable false)
   sound = h.sound
 
-  pub rooted_beside : IsSoundThreadWithRootAtPairNumber b root writable
+  pub rooted_beside : IsSoundWithRoot b root writable
   rooted_beside = record { works = still; sound = sound_beside a.kept b.kept writable leaves sound; root_is = h.root_is ∙ ap pair_count_before_root (sym leaves.pairs) }
 
-  written_beside : (r : Result WriterContents Error) → ReportsFaultOrNoMemory a.kept b.kept r → OnOk r (WritesOnlyUnusedBlocks (tree_state_of_thread a writable) (tree_state_of_thread (behind b r) writable))
+  written_beside : (r : Result WriterContents Error) → ReportsFaultOrNoMemory a.kept b.kept r → OnOk r (WritesUnusedBlocks (thread_state a writable) (thread_state (behind b r) writable))
   written_beside (Err e) t = tt
   written_beside (Ok c) t =
       let s = sound_beside a.kept b.kept writable leaves sound in
@@ -133,11 +133,11 @@ module _ (a b : ThreadView) (root : ℕ) (writable : Bool) (h : IsSoundThreadWit
         no_fault = t.no_fault (λ e. absurd (cc));
       }
 
-  broken_beside : (r : Result WriterContents Error) → OnErr r (IsFailedTree (tree_state_of_thread a writable) (tree_state_of_thread (behind b r) writable))
+  broken_beside : (r : Result WriterContents Error) → OnErr r (IsFailedTree (thread_state a writable) (thread_state (behind b r) writable))
   broken_beside (Ok c) = tt
   broken_beside (Err e) = record { failed = refl; geometry = geometry_beside a.kept b.kept leaves; calls = leaves.at_worst.events; called = leaves.at_worst.extends }
 
-  reported_beside : (r : Result WriterContents Error) → ReportsFaultOrNoMemory a.kept b.kept r → IfErr r (IsIoWithFaultOrNoMemory (tree_state_of_thread a writable) (tree_state_of_thread (behind b r) writable))
+  reported_beside : (r : Result WriterContents Error) → ReportsFaultOrNoMemory a.kept b.kept r → IfErr r (HasErrorCause (thread_state a writable) (thread_state (behind b r) writable))
   reported_beside (Ok c) t = tt
   reported_beside (Err e) t = record {
     errors = t.errors;
@@ -146,25 +146,25 @@ module _ (a b : ThreadView) (root : ℕ) (writable : Bool) (h : IsSoundThreadWit
   }
 
   -- a loss of power on the way leaves the image as it was
-  survives_beside : writable ≡ true → SurvivesPowerLossInCallsSince a.kept.disk a.kept.history b.kept.history (tree_on_disk a.kept.disk a.kept.pairs) (tree_on_disk a.kept.disk a.kept.pairs)
-  survives_beside may clean = IsTrueAfterAnyPowerLossSince-weaker (λ blocks spared. left_beside a.kept blocks sound.accepted (sound.fits may) sound.used spared) (IsTrueAfterAnyPowerLossSince-worst leaves.at_worst)
+  survives_beside : writable ≡ true → SurvivesLossSince a.kept.disk a.kept.history b.kept.history (tree_on_disk a.kept.disk a.kept.pairs) (tree_on_disk a.kept.disk a.kept.pairs)
+  survives_beside may clean = HoldsAtLosses-weaker (λ blocks spared. left_beside a.kept blocks sound.accepted (sound.fits may) sound.used spared) (HoldsAtLosses-worst leaves.at_worst)
 
-  pub writing : (now : TreeState) (r : Result WriterContents Error) (c : ThreadView) → tree_state_of_thread a writable ≡ now → c ≡ behind b r → ReportsFaultOrNoMemory a.kept b.kept r → WritesOnlyUnusedBlocksOrFails now r (tree_state_of_thread c writable)
+  pub writing : (now : TreeState) (r : Result WriterContents Error) (c : ThreadView) → thread_state a writable ≡ now → c ≡ behind b r → ReportsFaultOrNoMemory a.kept b.kept r → WritesOnlyUnusedBlocksOrFails now r (thread_state c writable)
   writing now r c view is t =
-      subst (λ (s : TreeState). WritesOnlyUnusedBlocksOrFails s r (tree_state_of_thread c writable)) view
-      (subst (λ (t : ThreadView). WritesOnlyUnusedBlocksOrFails (tree_state_of_thread a writable) r (tree_state_of_thread t writable)) (sym is)
+      subst (λ (s : TreeState). WritesOnlyUnusedBlocksOrFails s r (thread_state c writable)) view
+      (subst (λ (t : ThreadView). WritesOnlyUnusedBlocksOrFails (thread_state a writable) r (thread_state t writable)) (sym is)
       (record { beside = written_beside r t; broken = broken_beside r; errors = reported_beside r t; survives = survives_beside }))
 
   -- and the thread is still that of the image
-  pub held_beside : (r : Result WriterContents Error) (c : ThreadView) → c ≡ behind b r → IsSoundThreadUnlessFailed c root writable
-  held_beside r c is = subst (λ (t : ThreadView). IsSoundThreadUnlessFailed t root writable) (sym is) (go r)
+  pub held_beside : (r : Result WriterContents Error) (c : ThreadView) → c ≡ behind b r → SoundUnlessFailed c root writable
+  held_beside r c is = subst (λ (t : ThreadView). SoundUnlessFailed t root writable) (sym is) (go r)
     where
-      go : (r : Result WriterContents Error) → IsSoundThreadUnlessFailed (behind b r) root writable
+      go : (r : Result WriterContents Error) → SoundUnlessFailed (behind b r) root writable
       go (Err e) f = absurd (cc)
       go (Ok x) f = rooted_beside
 
-  pub all_over : (path : Path) (contents : WriterContents) (bytes : List ℕ) (shape : ContentsStorageForm) (r : Result WriterContents Error) → AreWriterContentsOverFileOnThread a.kept path contents → IfOk r (λ c. AreConsistentContentsWithBytesAndFormOnThread b.kept c bytes shape)
-      → IfOk r (λ c. AreUsedBlocksOfListAmongOwnBlocks b.kept.map (list_blocks_of_contents a.kept contents) (list_blocks_of_contents b.kept c)) → IfOk r (AreWriterContentsOverFileOnThread b.kept path)
+  pub all_over : (path : Path) (contents : WriterContents) (bytes : List ℕ) (shape : StorageForm) (r : Result WriterContents Error) → OverThreadFile a.kept path contents → IfOk r (λ c. HasContents b.kept c bytes shape)
+      → IfOk r (λ c. AreOwn b.kept.map (contents_list_blocks a.kept contents) (contents_list_blocks b.kept c)) → IfOk r (OverThreadFile b.kept path)
   all_over path contents bytes shape (Err e) over holds owned = tt
   all_over path contents bytes shape (Ok c) over holds owned = over_beside a.kept b.kept leaves sound.accepted sound.used path contents c bytes shape over holds owned
 
@@ -176,29 +176,29 @@ limit_short profile block_size limit large e =
     let n = min-le_right (block_size / 8) 1022 in
     omega arith
 
-module _ (t : KeptThread) (writable : Bool) (limit : ℕ) (sound : IsSoundTreeState (tree_state_of_kept_thread t writable false)) (large : 1024 ≤ t.disk.block_size) (is : limit ≡ inline_limit t.disk.profile t.disk.block_size) where
+module _ (t : KeptThread) (writable : Bool) (limit : ℕ) (sound : IsSoundState (kept_state t writable false)) (large : 1024 ≤ t.disk.block_size) (is : limit ≡ inline_limit t.disk.profile t.disk.block_size) where
   room_is : (need : ℕ) → length (used_blocks t.disk t.pairs) + need ≤ block_count t.disk → used_count t.map + need ≤ length t.map
-  room_is need room = let e = count_is (tree_state_of_kept_thread t writable false) sound in let s = sound.size in omega arith
+  room_is need room = let e = count_is (kept_state t writable false) sound in let s = sound.size in omega arith
 
-  pub can_write : {cache : CachedBlocks} (failed : Bool) (contents : WriterContents) (place count : ℕ) → CanWriteWriterContents (record (tree_state_of_kept_thread t writable failed) { cache = cache }) contents place count → CanWriteContentsOnThread t contents limit place count
+  pub can_write : {cache : CachedBlocks} (failed : Bool) (contents : WriterContents) (place count : ℕ) → CanWriteWriterContents (record (kept_state t writable failed) { cache = cache }) contents place count → CanWrite t contents limit place count
   can_write failed contents place count can = record {
     stands = can.stands;
     fits = record {
-      large = subst (λ (n : ℕ). ExceedsInlineLimitIfInFlight n (storage_form_of_contents contents)) (sym is) can.large;
+      large = subst (λ (n : ℕ). FormFitsInlineLimit n (contents_form contents)) (sym is) can.large;
       short = limit_short t.disk.profile t.disk.block_size limit large is;
       some = can.some;
       small = can.small;
-      room = λ past. room_is (block_room_for_write t.disk.block_size place count (storage_form_of_contents contents)) (can.room (subst (λ n. n < max (contents_size_of_storage_form (storage_form_of_contents contents)) (place + count)) is past));
+      room = λ past. room_is (write_room t.disk.block_size place count (contents_form contents)) (can.room (subst (λ n. n < max (form_size (contents_form contents)) (place + count)) is past));
     };
   }
 
-  pub can_truncate : {cache : CachedBlocks} (failed : Bool) (contents : WriterContents) (size : ℕ) → CanTruncateWriterContents (record (tree_state_of_kept_thread t writable failed) { cache = cache }) contents size → CanTruncateContentsOnThread t contents limit size
+  pub can_truncate : {cache : CachedBlocks} (failed : Bool) (contents : WriterContents) (size : ℕ) → CanTruncateWriterContents (record (kept_state t writable failed) { cache = cache }) contents size → CanTruncate t contents limit size
   can_truncate failed contents size can = record {
     stands = can.stands;
     fits = record {
-      large = subst (λ (n : ℕ). ExceedsInlineLimitIfInFlight n (storage_form_of_contents contents)) (sym is) can.large;
+      large = subst (λ (n : ℕ). FormFitsInlineLimit n (contents_form contents)) (sym is) can.large;
       short = limit_short t.disk.profile t.disk.block_size limit large is;
       small = can.small;
-      room = λ needs. room_is (block_room_for_truncation t.disk.block_size size (storage_form_of_contents contents)) (can.room (subst (λ (n : ℕ). NeedsRoomToTruncate n size (storage_form_of_contents contents)) is needs));
+      room = λ needs. room_is (truncation_room t.disk.block_size size (contents_form contents)) (can.room (subst (λ (n : ℕ). NeedsTruncateRoom n size (contents_form contents)) is needs));
     };
   }

@@ -4,81 +4,81 @@ use Rattle.std.specs.Prelude.{All, Contains, slice_get}
 use Rattle.std.specs.List.{AllByRecursion}
 use Rattle.std.proofs.lemmas.List.Elements.{All-from_recursion}
 use Rattle.std.proofs.lemmas.Option.{same_Some}
-use Rattle.lfs_model.specs.TreeEdits.{is_file}
-use Rattle.lfs_model.specs.BlockSets.{AreExactlyTheUsedBlocks, BlockStateList, IsBlockFree, IsBlockInFlight, IsBlockMarkedUsedInMap}
-use Rattle.lfs_model.specs.BlockSets.BlockState.{Free, InFlight, Used}
-use Rattle.lfs_model.specs.Disk.{Disk, block_bytes_on_disk}
-use Rattle.lfs_model.specs.History.{DeviceCallEvent, AreCallsSinceOnlyReads, fault_count_of_history}
-use Rattle.lfs_model.specs.InDirectory.{IsPairOfDirectory}
-use Rattle.lfs_model.specs.Keeping.{struct_of_path}
-use Rattle.lfs_model.specs.Operations.{Operation}
-use Rattle.lfs_model.specs.Run.{is_recover_operation, renames_to_itself}
-use Rattle.lfs_model.specs.Session.{OpenFilesByNumber}
-use Rattle.lfs_model.specs.Slots.{Slot, zero_gstate}
-use Rattle.lfs_model.specs.Thread.{Pair, blocks_of_pairs, gstate_of_pairs}
-use Rattle.lfs_model.specs.Tree.{Path}
-use Rattle.lfs_model.specs.View.{IsAcceptedImage}
-use Rattle.lfs_model.specs.Profile.{IsWritableImage}
-use Rattle.lfs_model.specs.Shown.{all_slots_not_moved, skip_list_blocks_of_struct, tree_on_disk, used_blocks}
+use Rattle.lfs_model.specs.session.TreeEdits.{is_file}
+use Rattle.lfs_model.specs.layers.BlockSets.{AreUsed, BlockStates, IsFree, IsInFlight, IsUsedBlock}
+use Rattle.lfs_model.specs.layers.BlockSets.BlockState.{Free, InFlight, Used}
+use Rattle.lfs_model.specs.format.Disk.{Disk, disk_block}
+use Rattle.lfs_model.specs.session.History.{CallEvent, OnlyReadsSince, fault_count}
+use Rattle.lfs_model.specs.session.InDirectory.{IsPairOfDirectory}
+use Rattle.lfs_model.specs.layers.Keeping.{struct_at}
+use Rattle.lfs_model.specs.session.Operations.{Operation}
+use Rattle.lfs_model.specs.session.Run.{is_recover, renames_itself}
+use Rattle.lfs_model.specs.session.Session.{OpenFilesByNumber}
+use Rattle.lfs_model.specs.format.Slots.{Slot, zero_gstate}
+use Rattle.lfs_model.specs.format.Thread.{Pair, blocks_of_pairs, pairs_gstate}
+use Rattle.lfs_model.specs.tree.Tree.{Path}
+use Rattle.lfs_model.specs.tree.View.{IsAccepted}
+use Rattle.lfs_model.specs.tree.Profile.{IsWritable}
+use Rattle.lfs_model.specs.tree.Shown.{all_slots_not_moved, struct_blocks, tree_on_disk, used_blocks}
 use Rattle.lfs_model.proofs.Arranged.{arranged_settled}
-use Rattle.lfs_model.proofs.BlockSets.{Contains-head, Contains-tail, Contains-occurrence_count_of_number, occurrence_count_of_number-Contains}
-use Rattle.lfs_model.proofs.Committed.{IsImageAfterCompletedOperation, recovered_from}
-use Rattle.lfs_model.proofs.Counts.{Each, occurrence_count_of_number, count_append, each_from_counted, each_pieces, each_weaker, once_from_distinct}
-use Rattle.lfs_model.proofs.Histories.{is_byte_unprogrammed-read_count_of_history}
+use Rattle.lfs_model.proofs.BlockSets.{Contains-head, Contains-tail, Contains-number_count, number_count-Contains}
+use Rattle.lfs_model.proofs.Committed.{IsCompletion, recovered_from}
+use Rattle.lfs_model.proofs.Counts.{Each, number_count, count_append, each_from_counted, each_pieces, each_weaker, once_from_distinct}
+use Rattle.lfs_model.proofs.Histories.{is_unprogrammed_byte-read_count}
 use Rattle.lfs_model.proofs.KeptStructs.{none_stored}
-use Rattle.lfs_model.proofs.Splices.{file_blocks_of_slots}
-use Rattle.lfs_operations.specs.MovingSteps.{WritesOnlyThreadPairsAndFreeBlocks}
-use Rattle.lfs_operations.specs.Ready.{IsImageReadyForChange}
+use Rattle.lfs_model.proofs.Splices.{file_blocks}
+use Rattle.lfs_operations.specs.MovingSteps.{WritesThreadFree}
+use Rattle.lfs_operations.specs.Ready.{IsReadyImage}
 use Rattle.lfs_thread.specs.Kept.{KeptThread}
-use Rattle.lfs_thread.specs.Steps.{IsThreadOnlyRead, ThreadChangesOnlyTheseBlocks, empty_pair_at_anchor, thread_pair_at_index}
-use Rattle.lfs_tree.specs.TreeChanges.{AppliesOperationOnThread}
-use Rattle.lfs_tree.specs.KeptFiles.{KeepsFileAtPath, KeepsBytesOfSkipListsOfFiles, skip_list_blocks_at_path}
+use Rattle.lfs_thread.specs.ThreadSteps.{OnlyReadsThread, ChangesThreadBlocks, empty_anchor, thread_pair_at}
+use Rattle.lfs_tree.specs.TreeChanges.{AppliesOperation}
+use Rattle.lfs_tree.specs.KeptFiles.{KeepsFileAt, KeepsListBytes, list_blocks_at}
 use Rattle.lfs_tree.proofs.KeptFiles.{keeps_by, list_used, no_pairs}
 
 -- the same thread, after other calls
-abbrev pub with_history : KeptThread → List DeviceCallEvent → KeptThread
+abbrev pub with_history : KeptThread → List CallEvent → KeptThread
 with_history t history = record t { history = history }
 
-pub read_is : (a b : KeptThread) → IsThreadOnlyRead a b → b ≡ with_history a b.history
+pub read_is : (a b : KeptThread) → OnlyReadsThread a b → b ≡ with_history a b.history
 read_is a b r =
     ap (λ (d : Disk). let k : KeptThread = record { disk = d; history = b.history; pairs = b.pairs; map = b.map } in k) r.disk
     ∙ ap (λ (ps : List Pair). let k : KeptThread = record { disk = a.disk; history = b.history; pairs = ps; map = b.map } in k) r.pairs
-    ∙ ap (λ (sets : BlockStateList). let k : KeptThread = record { disk = a.disk; history = b.history; pairs = a.pairs; map = sets } in k) r.map
+    ∙ ap (λ (sets : BlockStates). let k : KeptThread = record { disk = a.disk; history = b.history; pairs = a.pairs; map = sets } in k) r.map
 
 -- ---- blocks that an operation may write
 
 -- a pair's, or free
 abbrev pub IsPairsOrFree : KeptThread → ℕ → Type 0
-IsPairsOrFree t b = Contains (blocks_of_pairs t.pairs) b ⊎ IsBlockFree t.map b
+IsPairsOrFree t b = Contains (blocks_of_pairs t.pairs) b ⊎ IsFree t.map b
 
-apart_state : (sets : BlockStateList) (b c : ℕ) → IsBlockInFlight sets b → IsBlockMarkedUsedInMap sets c → c ≢ b
+apart_state : (sets : BlockStates) (b c : ℕ) → IsInFlight sets b → IsUsedBlock sets c → c ≢ b
 apart_state sets b c flies used e = let k : InFlight ≡ Used = same_Some InFlight Used (sym flies ∙ ap (slice_get sets) (sym e) ∙ used) in absurd (cc)
 
-apart_free : (sets : BlockStateList) (b c : ℕ) → IsBlockInFlight sets b → IsBlockFree sets c → c ≢ b
+apart_free : (sets : BlockStates) (b c : ℕ) → IsInFlight sets b → IsFree sets c → c ≢ b
 apart_free sets b c flies free e = let k : InFlight ≡ Free = same_Some InFlight Free (sym flies ∙ ap (slice_get sets) (sym e) ∙ free) in absurd (cc)
 
 in_left : (xs ys : List ℕ) (b : ℕ) → Contains xs b → Contains (xs ++ ys) b
-in_left xs ys b h = let k = occurrence_count_of_number-Contains xs b h in let e = count_append b xs ys in Contains-occurrence_count_of_number (xs ++ ys) b (omega arith)
+in_left xs ys b h = let k = number_count-Contains xs b h in let e = count_append b xs ys in Contains-number_count (xs ++ ys) b (omega arith)
 
-pub pair_blocks : (ps : List Pair) (index : ℕ) → index < length ps → Contains (blocks_of_pairs ps) (slice_index_or ps index empty_pair_at_anchor).at.0 × Contains (blocks_of_pairs ps) (slice_index_or ps index empty_pair_at_anchor).at.1
+pub pair_blocks : (ps : List Pair) (index : ℕ) → index < length ps → Contains (blocks_of_pairs ps) (slice_index_or ps index empty_anchor).at.0 × Contains (blocks_of_pairs ps) (slice_index_or ps index empty_anchor).at.1
 pair_blocks [] index below = absurd (omega arith)
 pair_blocks (p ∷ ps) zero below = (Contains-head p.at.0 (p.at.1 ∷ blocks_of_pairs ps), Contains-tail p.at.0 p.at.1 (p.at.1 ∷ blocks_of_pairs ps) (Contains-head p.at.1 (blocks_of_pairs ps)))
 pair_blocks (p ∷ ps) (suc index) below =
     let k = pair_blocks ps index (omega arith) in
-    let q = slice_index_or ps index empty_pair_at_anchor in
+    let q = slice_index_or ps index empty_anchor in
     (Contains-tail p.at.0 q.at.0 (p.at.1 ∷ blocks_of_pairs ps) (Contains-tail p.at.1 q.at.0 (blocks_of_pairs ps) k.0), Contains-tail p.at.0 q.at.1 (p.at.1 ∷ blocks_of_pairs ps) (Contains-tail p.at.1 q.at.1 (blocks_of_pairs ps) k.1))
 
 -- those of a pair, and some that are free
-pub among_one : (t : KeptThread) (index : ℕ) (fresh : List ℕ) → index < length t.pairs → AllByRecursion (IsBlockFree t.map) fresh → AllByRecursion (IsPairsOrFree t) ((thread_pair_at_index t index).at.0 ∷ (thread_pair_at_index t index).at.1 ∷ fresh)
-among_one t index fresh below free = let k = pair_blocks t.pairs index below in (inl k.0, (inl k.1, each_weaker (IsBlockFree t.map) (IsPairsOrFree t) (λ c f. inr f) fresh free))
+pub among_one : (t : KeptThread) (index : ℕ) (fresh : List ℕ) → index < length t.pairs → AllByRecursion (IsFree t.map) fresh → AllByRecursion (IsPairsOrFree t) ((thread_pair_at t index).at.0 ∷ (thread_pair_at t index).at.1 ∷ fresh)
+among_one t index fresh below free = let k = pair_blocks t.pairs index below in (inl k.0, (inl k.1, each_weaker (IsFree t.map) (IsPairsOrFree t) (λ c f. inr f) fresh free))
 
 -- those of two pairs, and some that are free
-pub among_two : (t : KeptThread) (index last : ℕ) (fresh : List ℕ) → index < length t.pairs → last < length t.pairs → AllByRecursion (IsBlockFree t.map) fresh
-    → AllByRecursion (IsPairsOrFree t) ((thread_pair_at_index t index).at.0 ∷ (thread_pair_at_index t index).at.1 ∷ (thread_pair_at_index t last).at.0 ∷ (thread_pair_at_index t last).at.1 ∷ fresh)
+pub among_two : (t : KeptThread) (index last : ℕ) (fresh : List ℕ) → index < length t.pairs → last < length t.pairs → AllByRecursion (IsFree t.map) fresh
+    → AllByRecursion (IsPairsOrFree t) ((thread_pair_at t index).at.0 ∷ (thread_pair_at t index).at.1 ∷ (thread_pair_at t last).at.0 ∷ (thread_pair_at t last).at.1 ∷ fresh)
 among_two t index last fresh below within free = let k = pair_blocks t.pairs index below in (inl k.0, (inl k.1, among_one t last fresh within free))
 
 -- no block that is in flight is one of them
-apart_flying : (t : KeptThread) (bs : List ℕ) → AreExactlyTheUsedBlocks t.map (used_blocks t.disk t.pairs) → AllByRecursion (IsPairsOrFree t) bs → (b : ℕ) → IsBlockInFlight t.map b → All (λ c. c ≢ b) bs
+apart_flying : (t : KeptThread) (bs : List ℕ) → AreUsed t.map (used_blocks t.disk t.pairs) → AllByRecursion (IsPairsOrFree t) bs → (b : ℕ) → IsInFlight t.map b → All (λ c. c ≢ b) bs
 apart_flying t bs used each b flies = All-from_recursion (λ c. c ≢ b) bs (each_weaker (IsPairsOrFree t) (λ c. c ≢ b) other bs each)
   where
     other : (c : ℕ) → IsPairsOrFree t c → c ≢ b
@@ -86,52 +86,52 @@ apart_flying t bs used each b flies = All-from_recursion (λ c. c ≢ b) bs (eac
     other c (inr free) = apart_free t.map b c flies free
 
 -- nor one of a file's list
-pub apart_listed : (t : KeptThread) (bs : List ℕ) → IsAcceptedImage t.disk t.pairs → AreExactlyTheUsedBlocks t.map (used_blocks t.disk t.pairs) → AllByRecursion (IsPairsOrFree t) bs → (path : Path) (b : ℕ) → Contains (skip_list_blocks_at_path t path) b → All (λ c. c ≢ b) bs
+pub apart_listed : (t : KeptThread) (bs : List ℕ) → IsAccepted t.disk t.pairs → AreUsed t.map (used_blocks t.disk t.pairs) → AllByRecursion (IsPairsOrFree t) bs → (path : Path) (b : ℕ) → Contains (list_blocks_at t path) b → All (λ c. c ≢ b) bs
 apart_listed t bs accepted used each path b has = All-from_recursion (λ c. c ≢ b) bs (each_weaker (IsPairsOrFree t) (λ c. c ≢ b) other bs each)
   where
     other : (c : ℕ) → IsPairsOrFree t c → c ≢ b
     other c (inl h) e = no_pairs t path accepted b has (subst (Contains (blocks_of_pairs t.pairs)) e h)
     other c (inr free) e =
         let is = list_used t path accepted used b has in
-        let k : Free ≡ Used = same_Some Free Used (sym (subst (IsBlockFree t.map) e free) ∙ is) in
+        let k : Free ≡ Used = same_Some Free Used (sym (subst (IsFree t.map) e free) ∙ is) in
         absurd (cc)
 
 -- the files of an image stay where such blocks are written and their structs are as they were
-pub keeps_writing : (a c : KeptThread) (bs : List ℕ) → IsAcceptedImage a.disk a.pairs → AreExactlyTheUsedBlocks a.map (used_blocks a.disk a.pairs) → AllByRecursion (IsPairsOrFree a) bs → ThreadChangesOnlyTheseBlocks bs a c
-    → (path : Path) → is_file (tree_on_disk a.disk a.pairs path) ≡ true → struct_of_path c.pairs path ≡ struct_of_path a.pairs path → KeepsFileAtPath a c path
+pub keeps_writing : (a c : KeptThread) (bs : List ℕ) → IsAccepted a.disk a.pairs → AreUsed a.map (used_blocks a.disk a.pairs) → AllByRecursion (IsPairsOrFree a) bs → ChangesThreadBlocks bs a c
+    → (path : Path) → is_file (tree_on_disk a.disk a.pairs path) ≡ true → struct_at c.pairs path ≡ struct_at a.pairs path → KeepsFileAt a c path
 keeps_writing a c bs accepted used each w path file same =
     keeps_by a c path file same (record { block_size = w.shape.block_size; page = w.shape.page; order = w.shape.order; profile = w.shape.profile; count = w.shape.count }) (λ b has. w.others.others b (apart_listed a bs accepted used each path b has))
 
 -- ---- the lists of all files
 
 -- none of their blocks is one of these
-pub apart_files : (t : KeptThread) (bs : List ℕ) → IsAcceptedImage t.disk t.pairs → AreExactlyTheUsedBlocks t.map (used_blocks t.disk t.pairs) → AllByRecursion (IsPairsOrFree t) bs → (b : ℕ) → 1 ≤ occurrence_count_of_number b (file_blocks_of_slots t.disk (all_slots_not_moved t.pairs)) → All (λ c. c ≢ b) bs
+pub apart_files : (t : KeptThread) (bs : List ℕ) → IsAccepted t.disk t.pairs → AreUsed t.map (used_blocks t.disk t.pairs) → AllByRecursion (IsPairsOrFree t) bs → (b : ℕ) → 1 ≤ number_count b (file_blocks t.disk (all_slots_not_moved t.pairs)) → All (λ c. c ≢ b) bs
 apart_files t bs accepted used each b some = All-from_recursion (λ c. c ≢ b) bs (each_weaker (IsPairsOrFree t) (λ c. c ≢ b) other bs each)
   where
-    here : IsBlockMarkedUsedInMap t.map b
-    here = let e = count_append b (blocks_of_pairs t.pairs) (file_blocks_of_slots t.disk (all_slots_not_moved t.pairs)) in (used b).1 (Contains-occurrence_count_of_number (used_blocks t.disk t.pairs) b (omega arith))
+    here : IsUsedBlock t.map b
+    here = let e = count_append b (blocks_of_pairs t.pairs) (file_blocks t.disk (all_slots_not_moved t.pairs)) in (used b).1 (Contains-number_count (used_blocks t.disk t.pairs) b (omega arith))
 
     other : (c : ℕ) → IsPairsOrFree t c → c ≢ b
     other c (inl h) e =
-        let k = occurrence_count_of_number-Contains (blocks_of_pairs t.pairs) b (subst (Contains (blocks_of_pairs t.pairs)) e h) in
-        let f = count_append b (blocks_of_pairs t.pairs) (file_blocks_of_slots t.disk (all_slots_not_moved t.pairs)) in
+        let k = number_count-Contains (blocks_of_pairs t.pairs) b (subst (Contains (blocks_of_pairs t.pairs)) e h) in
+        let f = count_append b (blocks_of_pairs t.pairs) (file_blocks t.disk (all_slots_not_moved t.pairs)) in
         let o = once_from_distinct (used_blocks t.disk t.pairs) accepted.owned_once b in
         absurd (omega arith)
-    other c (inr free) e = let k : Free ≡ Used = same_Some Free Used (sym (subst (IsBlockFree t.map) e free) ∙ here) in absurd (cc)
+    other c (inr free) e = let k : Free ≡ Used = same_Some Free Used (sym (subst (IsFree t.map) e free) ∙ here) in absurd (cc)
 
-pub lists_from : (disk new : Disk) (ps : List Pair) → ((b : ℕ) → 1 ≤ occurrence_count_of_number b (file_blocks_of_slots disk (all_slots_not_moved ps)) → block_bytes_on_disk new b ≡ block_bytes_on_disk disk b) → KeepsBytesOfSkipListsOfFiles disk ps new
+pub lists_from : (disk new : Disk) (ps : List Pair) → ((b : ℕ) → 1 ≤ number_count b (file_blocks disk (all_slots_not_moved ps)) → disk_block new b ≡ disk_block disk b) → KeepsListBytes disk ps new
 lists_from disk new ps h =
-    All-from_recursion (λ (s : Slot). All (λ b. block_bytes_on_disk new b ≡ block_bytes_on_disk disk b) (skip_list_blocks_of_struct disk s.struct)) (all_slots_not_moved ps)
-    (each_weaker (λ (s : Slot). Each (λ b. block_bytes_on_disk new b ≡ block_bytes_on_disk disk b) (skip_list_blocks_of_struct disk s.struct)) (λ (s : Slot). All (λ b. block_bytes_on_disk new b ≡ block_bytes_on_disk disk b) (skip_list_blocks_of_struct disk s.struct))
-    (λ s k. All-from_recursion (λ b. block_bytes_on_disk new b ≡ block_bytes_on_disk disk b) (skip_list_blocks_of_struct disk s.struct) k) (all_slots_not_moved ps)
-    (each_pieces (λ b. block_bytes_on_disk new b ≡ block_bytes_on_disk disk b) (λ (s : Slot). skip_list_blocks_of_struct disk s.struct) (all_slots_not_moved ps) (each_from_counted (λ b. block_bytes_on_disk new b ≡ block_bytes_on_disk disk b) (file_blocks_of_slots disk (all_slots_not_moved ps)) h)))
+    All-from_recursion (λ (s : Slot). All (λ b. disk_block new b ≡ disk_block disk b) (struct_blocks disk s.struct)) (all_slots_not_moved ps)
+    (each_weaker (λ (s : Slot). Each (λ b. disk_block new b ≡ disk_block disk b) (struct_blocks disk s.struct)) (λ (s : Slot). All (λ b. disk_block new b ≡ disk_block disk b) (struct_blocks disk s.struct))
+    (λ s k. All-from_recursion (λ b. disk_block new b ≡ disk_block disk b) (struct_blocks disk s.struct) k) (all_slots_not_moved ps)
+    (each_pieces (λ b. disk_block new b ≡ disk_block disk b) (λ (s : Slot). struct_blocks disk s.struct) (all_slots_not_moved ps) (each_from_counted (λ b. disk_block new b ≡ disk_block disk b) (file_blocks disk (all_slots_not_moved ps)) h)))
 
 -- they stay where such blocks are written
-pub lists_stay : (t c : KeptThread) (bs : List ℕ) → IsAcceptedImage t.disk t.pairs → AreExactlyTheUsedBlocks t.map (used_blocks t.disk t.pairs) → AllByRecursion (IsPairsOrFree t) bs → ThreadChangesOnlyTheseBlocks bs t c → KeepsBytesOfSkipListsOfFiles t.disk t.pairs c.disk
+pub lists_stay : (t c : KeptThread) (bs : List ℕ) → IsAccepted t.disk t.pairs → AreUsed t.map (used_blocks t.disk t.pairs) → AllByRecursion (IsPairsOrFree t) bs → ChangesThreadBlocks bs t c → KeepsListBytes t.disk t.pairs c.disk
 lists_stay t c bs accepted used each w = lists_from t.disk c.disk t.pairs (λ b some. w.others.others b (apart_files t bs accepted used each b some))
 
 pub all_pairs : (t : KeptThread) → AllByRecursion (IsPairsOrFree t) (blocks_of_pairs t.pairs)
-all_pairs t = each_from_counted (IsPairsOrFree t) (blocks_of_pairs t.pairs) (λ b some. inl (Contains-occurrence_count_of_number (blocks_of_pairs t.pairs) b some))
+all_pairs t = each_from_counted (IsPairsOrFree t) (blocks_of_pairs t.pairs) (λ b some. inl (Contains-number_count (blocks_of_pairs t.pairs) b some))
 
 -- a pair of a directory is one of the thread
 pub behind_below : (ps : List Pair) (first index : ℕ) (pair : Pair) (rest : List Pair) → IsPairOfDirectory ps first index pair rest → index < length ps
@@ -145,20 +145,20 @@ behind_below ps first index pair rest h =
 -- ---- what is carried out
 
 -- What an operation comes to that is completed by calls that write blocks of pairs and free ones, behind others that only read.
-pub record IsWorked (a : KeptThread) (h : List DeviceCallEvent) (op : Operation) (c : KeptThread) : Type 0 where
-  pub accepted : IsAcceptedImage a.disk a.pairs
-  pub used : AreExactlyTheUsedBlocks a.map (used_blocks a.disk a.pairs)
-  pub writable : IsWritableImage a.disk a.pairs
-  pub settled : gstate_of_pairs a.pairs ≡ zero_gstate
-  pub reads : AreCallsSinceOnlyReads a.disk.blocks a.history h
-  pub ready : IsImageReadyForChange c
-  pub stay : (b : ℕ) → IsBlockInFlight a.map b → IsBlockInFlight c.map b
-  pub none_comes : (b : ℕ) → IsBlockInFlight c.map b → IsBlockInFlight a.map b
-  pub completed : (files : OpenFilesByNumber) → IsImageAfterCompletedOperation a.disk a.pairs (record { tree = tree_on_disk a.disk a.pairs; files = files }) op c.disk c.pairs
-  pub writes : WritesOnlyThreadPairsAndFreeBlocks (with_history a h) c
-  pub no_fault : fault_count_of_history c.history ≡ fault_count_of_history a.history
+pub record IsWorked (a : KeptThread) (h : List CallEvent) (op : Operation) (c : KeptThread) : Type 0 where
+  pub accepted : IsAccepted a.disk a.pairs
+  pub used : AreUsed a.map (used_blocks a.disk a.pairs)
+  pub writable : IsWritable a.disk a.pairs
+  pub settled : pairs_gstate a.pairs ≡ zero_gstate
+  pub reads : OnlyReadsSince a.disk.blocks a.history h
+  pub ready : IsReadyImage c
+  pub stay : (b : ℕ) → IsInFlight a.map b → IsInFlight c.map b
+  pub none_comes : (b : ℕ) → IsInFlight c.map b → IsInFlight a.map b
+  pub completed : (files : OpenFilesByNumber) → IsCompletion a.disk a.pairs (record { tree = tree_on_disk a.disk a.pairs; files = files }) op c.disk c.pairs
+  pub writes : WritesThreadFree (with_history a h) c
+  pub no_fault : fault_count c.history ≡ fault_count a.history
 
-pub carried : (a : KeptThread) (h : List DeviceCallEvent) (op : Operation) (c : KeptThread) → IsWorked a h op c → renames_to_itself op ≡ false → is_recover_operation op ≡ false → AppliesOperationOnThread a op c
+pub carried : (a : KeptThread) (h : List CallEvent) (op : Operation) (c : KeptThread) → IsWorked a h op c → renames_itself op ≡ false → is_recover op ≡ false → AppliesOperation a op c
 carried a h op c w other asks = record {
   works = refl;
   sound = record { accepted = w.ready.accepted; fits = λ e. w.ready.writable; is_kept = λ k. refl; used = w.ready.used; size = w.ready.size };
@@ -177,7 +177,7 @@ carried a h op c w other asks = record {
     stay = w.stay;
     none_comes = w.none_comes;
     bytes = λ b flies. wrote.others.others b (apart_flying a w.writes.blocks w.used w.writes.each b flies);
-    unprogrammed_still = λ b k flies was. wrote.elsewhere.stays b k (apart_flying a w.writes.blocks w.used w.writes.each b flies) (is_byte_unprogrammed-read_count_of_history b k w.reads ∙ was);
+    unprogrammed_still = λ b k flies was. wrote.elsewhere.stays b k (apart_flying a w.writes.blocks w.used w.writes.each b flies) (is_unprogrammed_byte-read_count b k w.reads ∙ was);
   };
   keeps = λ path file away.
       let k = keeps_writing (with_history a h) c w.writes.blocks w.accepted w.used w.writes.each wrote path file ((w.completed []).structs path file away (none_stored (tree_on_disk a.disk a.pairs) op path)) in
@@ -185,5 +185,5 @@ carried a h op c w other asks = record {
   lists = λ none. lists_stay (with_history a h) c w.writes.blocks w.accepted w.used w.writes.each wrote;
 }
   where
-    wrote : ThreadChangesOnlyTheseBlocks w.writes.blocks (with_history a h) c
+    wrote : ChangesThreadBlocks w.writes.blocks (with_history a h) c
     wrote = w.writes.writes

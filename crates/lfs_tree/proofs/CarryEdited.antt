@@ -6,40 +6,40 @@ use Rattle.std.specs.List.{AllByRecursion}
 use Rattle.std.specs.Option.{option_map}
 use Rattle.std.proofs.lemmas.Bool.{ltb-false}
 use Rattle.std.proofs.lemmas.List.Elements.{recursion_from_All}
-use Rattle.lfs_device.specs.Bytes.{AreAllBlockElementsBelow256}
-use Rattle.lfs_model.specs.BlockSets.{IsBlockFree}
-use Rattle.lfs_model.specs.Frame.{IsPairWithSlotOfPath, LeavesUnrelatedBlocksUnchanged, paths_changed_by_operation}
-use Rattle.lfs_model.specs.Session.{OpenFilesByNumber}
-use Rattle.lfs_model.specs.TreeEdits.{attributes_of_node, last_name_of_path}
-use Rattle.lfs_model.specs.Content.{attributes_with_attribute, attributes_without_attribute}
-use Rattle.lfs_model.specs.Disk.{charged_entry_size_limit_in_pair, inline_limit}
-use Rattle.lfs_model.specs.History.{DeviceCallEvent, AreCallsSinceOnlyReads, fault_count_of_history}
-use Rattle.lfs_model.specs.Names.{Name}
-use Rattle.lfs_model.specs.Operations as ops
-use Rattle.lfs_model.specs.Operations.{Operation}
-use Rattle.lfs_model.specs.Run.{is_recover_operation, renames_to_itself}
-use Rattle.lfs_model.specs.SlotEdits.{slot_of_path}
-use Rattle.lfs_model.specs.Slots.{Attributes, Slot, Struct, Inline, Ctz, Branch, entry_charge_with_longest_inline_contents}
-use Rattle.lfs_model.specs.Refusals.{path_of_bytes_or_root, is_root_path}
-use Rattle.lfs_model.specs.Thread.{Pair, blocks_of_pair_address}
-use Rattle.lfs_model.specs.Tree.{Path, Tree, node_of_struct_and_attributes}
-use Rattle.lfs_model.specs.Profile.{IsSlotWithinWritableLimits, HasInlineBytesWithinLimit}
-use Rattle.lfs_model.specs.Shown.{skip_list_bytes_on_disk, entries_by_directory_in_thread, tree_on_disk}
+use Rattle.lfs_device.specs.Bytes.{HoldBytes}
+use Rattle.lfs_model.specs.layers.BlockSets.{IsFree}
+use Rattle.lfs_model.specs.crash.Frame.{HasPathSlot, LeavesOthers, changed_paths}
+use Rattle.lfs_model.specs.session.Session.{OpenFilesByNumber}
+use Rattle.lfs_model.specs.session.TreeEdits.{node_attributes_of, last_name}
+use Rattle.lfs_model.specs.format.Content.{attributes_with, attributes_without}
+use Rattle.lfs_model.specs.format.Disk.{charge_limit, inline_limit}
+use Rattle.lfs_model.specs.session.History.{CallEvent, OnlyReadsSince, fault_count}
+use Rattle.lfs_model.specs.format.Names.{Name}
+use Rattle.lfs_model.specs.session.Operations as ops
+use Rattle.lfs_model.specs.session.Operations.{Operation}
+use Rattle.lfs_model.specs.session.Run.{is_recover, renames_itself}
+use Rattle.lfs_model.specs.session.SlotEdits.{slot_of}
+use Rattle.lfs_model.specs.format.Slots.{Attributes, Slot, Struct, Inline, Ctz, Branch, entry_charge}
+use Rattle.lfs_model.specs.session.Refusals.{path_or_root, is_root_path}
+use Rattle.lfs_model.specs.format.Thread.{Pair, address_blocks}
+use Rattle.lfs_model.specs.tree.Tree.{Path, Tree, struct_node}
+use Rattle.lfs_model.specs.tree.Profile.{IsWritableSlot, InlineBytesFit}
+use Rattle.lfs_model.specs.tree.Shown.{struct_list_bytes, all_entries, tree_on_disk}
 use Rattle.lfs_model.proofs.Counts.{Each, each_right}
 use Rattle.lfs_model.proofs.Paths.{last_is}
 use Rattle.lfs_operations.proofs.Held.{here}
-use Rattle.lfs_operations.specs.Changing.{WritesPairAndTwoFreeBlocks}
-use Rattle.lfs_operations.specs.Editing.{CanEditEntryOfPair, CanSetAttribute, HasRemovedAttribute, HasSetAttribute, HasAttributesChanged, tree_with_attributes_at}
+use Rattle.lfs_operations.specs.Changing.{WritesPairTwo}
+use Rattle.lfs_operations.specs.Editing.{CanEditIn, CanSetAttribute, HasRemovedAttribute, HasSetAttribute, HasAttributesChanged, tree_with_attributes_set}
 use Rattle.lfs_thread.specs.Kept.{KeptThread, ThreadView}
-use Rattle.lfs_thread.specs.Steps.{ThreadChangesOnlyTheseBlocks, thread_pair_at_index}
+use Rattle.lfs_thread.specs.ThreadSteps.{ChangesThreadBlocks, thread_pair_at}
 use Rattle.lfs_tree.proofs.LeftAlone.{about_one, holds_slot, rest_left_alone}
-use Rattle.lfs_tree.specs.Permissions.{CanRemoveAttrAtPath, CanSetAttrAtPath}
-use Rattle.lfs_tree.specs.Calls as call
-use Rattle.lfs_tree.specs.Calls.{tree_after_call}
-use Rattle.lfs_tree.specs.TreeChanges.{AppliesOperationOnThread, HasAppliedCall, CanChangeRecoveredImage, AppliesCallOnThreadOrFails, SparesBlocksOutsideOperation, HasSoundImageOfTree, SurvivesWithOldOrNewTree}
-use Rattle.lfs_tree.specs.SlotChanges.{HasEntryAtPath, IsSpotOfSlotAtPath, IsSpotOfFoundEntry, is_entry_found, tree_with_attributes_changed}
-use Rattle.lfs_tree.specs.RootedThreads.{tree_state_of_kept_thread}
-use Rattle.lfs_lookup.specs.Paths.{PathLeadsToLookupResult, IsSlotOfNameBelowPath}
+use Rattle.lfs_tree.specs.Permissions.{CanRemoveAttr, CanSetAttr}
+use Rattle.lfs_tree.specs.TreeCalls as call
+use Rattle.lfs_tree.specs.TreeCalls.{tree_after_call}
+use Rattle.lfs_tree.specs.TreeChanges.{AppliesOperation, HasAppliedCall, CanChangeRecovered, AppliesOrFails, SparesOutsideOperation, HasSoundImage, SurvivesEither}
+use Rattle.lfs_tree.specs.SlotChanges.{HasPathEntry, IsPathSpot, IsFoundSpot, is_entry_found, tree_with_attributes}
+use Rattle.lfs_tree.specs.RootedThreads.{kept_state}
+use Rattle.lfs_lookup.specs.LookupPaths.{LeadsToResult, IsSlotBelow}
 use Rattle.lfs_lookup.specs.declared.paths.PathLookup.{PathLookup}
 use Rattle.lfs_lookup.specs.declared.paths.PathLookup.TheVariants as found
 use Rattle.lfs_lookup.specs.declared.search.SlotPosition.{SlotPosition}
@@ -52,22 +52,22 @@ use Rattle.lfs_tree.proofs.Operated.{changed, clear_stands, does_clear, does_set
 
 -- ---- what is found
 
-absent : (t : KeptThread) (path : Path) → HasEntryAtPath (tree_on_disk t.disk t.pairs) path → slot_of_path t.pairs path ≡ None → ⊥
+absent : (t : KeptThread) (path : Path) → HasPathEntry (tree_on_disk t.disk t.pairs) path → slot_of t.pairs path ≡ None → ⊥
 absent t path v e =
-    let k = sym v.something ∙ ap (λ o. is_none (option_map (λ (f : Slot). node_of_struct_and_attributes (skip_list_bytes_on_disk t.disk) (entries_by_directory_in_thread t.pairs) f.attributes f.struct) o)) e in absurd (cc)
+    let k = sym v.something ∙ ap (λ o. is_none (option_map (λ (f : Slot). struct_node (struct_list_bytes t.disk) (all_entries t.pairs) f.attributes f.struct) o)) e in absurd (cc)
 
-pub slot_found : (t : KeptThread) (path : Path) (f : PathLookup) → HasEntryAtPath (tree_on_disk t.disk t.pairs) path → PathLeadsToLookupResult t path f → is_entry_found f ≡ true
+pub slot_found : (t : KeptThread) (path : Path) (f : PathLookup) → HasPathEntry (tree_on_disk t.disk t.pairs) path → LeadsToResult t path f → is_entry_found f ≡ true
 slot_found t path found.Root v l = let k = sym v.entry ∙ ap is_root_path l.there in absurd (cc)
 slot_found t path found.ParentIsFile v l = let k = sym v.parents ∙ l.parents in absurd (cc)
 slot_found t path found.ParentIsMissing v l = let k = sym v.parents ∙ l.parents in absurd (cc)
-slot_found t path (found.Nothing parent place) v l = absurd (absent t path v (ap (slot_of_path t.pairs) l.there.is ∙ l.there.there.nothing))
+slot_found t path (found.Nothing parent place) v l = absurd (absent t path v (ap (slot_of t.pairs) l.there.is ∙ l.there.there.nothing))
 slot_found t path (found.Directory parent slot first) v l = refl
 slot_found t path (found.File parent slot contents) v l = refl
 
-slot_is : (ps : List Pair) (path above : Path) (name : Name) (parent : ℕ) (slot spot : SlotPosition) → path ≡ above ++ name ∷ [] → IsSlotOfNameBelowPath ps above name parent slot → slot ≡ spot → IsSpotOfSlotAtPath ps path spot
-slot_is ps path above name parent slot spot e s h = record { above = above; name = name; first = parent; is = e; stands = subst (IsSlotOfNameBelowPath ps above name parent) h s }
+slot_is : (ps : List Pair) (path above : Path) (name : Name) (parent : ℕ) (slot spot : SlotPosition) → path ≡ above ++ name ∷ [] → IsSlotBelow ps above name parent slot → slot ≡ spot → IsPathSpot ps path spot
+slot_is ps path above name parent slot spot e s h = record { above = above; name = name; first = parent; is = e; stands = subst (IsSlotBelow ps above name parent) h s }
 
-pub slot_for : (t : KeptThread) (path : Path) (f : PathLookup) (spot : SlotPosition) → PathLeadsToLookupResult t path f → IsSpotOfFoundEntry f spot → IsSpotOfSlotAtPath t.pairs path spot
+pub slot_for : (t : KeptThread) (path : Path) (f : PathLookup) (spot : SlotPosition) → LeadsToResult t path f → IsFoundSpot f spot → IsPathSpot t.pairs path spot
 slot_for t path found.Root spot l h = absurd h
 slot_for t path found.ParentIsFile spot l h = absurd h
 slot_for t path found.ParentIsMissing spot l h = absurd h
@@ -75,23 +75,23 @@ slot_for t path (found.Nothing parent place) spot l h = absurd h
 slot_for t path (found.Directory parent slot first) spot l h = slot_is t.pairs path l.there.above l.there.name parent slot spot l.there.is l.there.there.0 h
 slot_for t path (found.File parent slot contents) spot l h = slot_is t.pairs path l.there.above l.there.name parent slot spot l.there.is l.there.there.0 h
 
-pub entry_to_set : (t : KeptThread) (path : Path) (kind : ℕ) (bytes : List ℕ) → CanSetAttrAtPath (tree_state_of_kept_thread t true false) path kind bytes → HasEntryAtPath (tree_on_disk t.disk t.pairs) path
+pub entry_to_set : (t : KeptThread) (path : Path) (kind : ℕ) (bytes : List ℕ) → CanSetAttr (kept_state t true false) path kind bytes → HasPathEntry (tree_on_disk t.disk t.pairs) path
 entry_to_set t path kind bytes can = record { entry = can.entry; parents = can.parents; something = can.something }
 
-pub entry_to_clear : (t : KeptThread) (path : Path) (kind : ℕ) → CanRemoveAttrAtPath (tree_state_of_kept_thread t true false) path kind → HasEntryAtPath (tree_on_disk t.disk t.pairs) path
+pub entry_to_clear : (t : KeptThread) (path : Path) (kind : ℕ) → CanRemoveAttr (kept_state t true false) path kind → HasPathEntry (tree_on_disk t.disk t.pairs) path
 entry_to_clear t path kind can = record { entry = can.entry; parents = can.parents; something = can.something }
 
 -- ---- what may be changed
 
-module _ (t : ThreadView) (root : ℕ) (rests : CanChangeRecoveredImage t root) (path : Path) (large : 1024 ≤ t.kept.disk.block_size) (bytes : AreAllBlockElementsBelow256 t.kept.disk.blocks) (spot : SlotPosition) (slot : IsSpotOfSlotAtPath t.kept.pairs path spot)
-    (h : List DeviceCallEvent) where
+module _ (t : ThreadView) (root : ℕ) (rests : CanChangeRecovered t root) (path : Path) (large : 1024 ≤ t.kept.disk.block_size) (bytes : HoldBytes t.kept.disk.blocks) (spot : SlotPosition) (slot : IsPathSpot t.kept.pairs path spot)
+    (h : List CallEvent) where
   abbrev before : Tree
   before = tree_on_disk t.kept.disk t.kept.pairs
 
   abbrev found_slot : Slot
   found_slot = slot.stands.stands.stands.slot
 
-  unfoldable pub can_edit : CanEditEntryOfPair (with_history t.kept h) spot.pair spot.id
+  unfoldable pub can_edit : CanEditIn (with_history t.kept h) spot.pair spot.id
   can_edit = record {
     ready = ready_to t root h rests large;
     path = slot.above;
@@ -104,23 +104,23 @@ module _ (t : ThreadView) (root : ℕ) (rests : CanChangeRecoveredImage t root) 
     logged = logged_there t.kept.disk _ bytes;
   }
 
-  pub attributes_are : attributes_of_node (tree_on_disk t.kept.disk t.kept.pairs path) ≡ found_slot.attributes
+  pub attributes_are : node_attributes_of (tree_on_disk t.kept.disk t.kept.pairs path) ≡ found_slot.attributes
   attributes_are =
-      ap (λ o. attributes_of_node (option_map (λ (f : Slot). node_of_struct_and_attributes (skip_list_bytes_on_disk t.kept.disk) (entries_by_directory_in_thread t.kept.pairs) f.attributes f.struct) o)) (ap (slot_of_path t.kept.pairs) slot.is ∙ slot.stands.slot)
+      ap (λ o. node_attributes_of (option_map (λ (f : Slot). struct_node (struct_list_bytes t.kept.disk) (all_entries t.kept.pairs) f.attributes f.struct) o)) (ap (slot_of t.kept.pairs) slot.is ∙ slot.stands.slot)
       ∙ by_struct found_slot.attributes found_slot.struct
     where
-      by_struct : (a : Attributes) (s : Struct) → attributes_of_node (Some (node_of_struct_and_attributes (skip_list_bytes_on_disk t.kept.disk) (entries_by_directory_in_thread t.kept.pairs) a s)) ≡ a
+      by_struct : (a : Attributes) (s : Struct) → node_attributes_of (Some (struct_node (struct_list_bytes t.kept.disk) (all_entries t.kept.pairs) a s)) ≡ a
       by_struct a (Inline xs) = refl
       by_struct a (Ctz head size) = refl
       by_struct a (Branch to) = refl
 
-  name_is : last_name_of_path path ≡ found_slot.name
-  name_is = ap last_name_of_path slot.is ∙ last_is slot.above slot.name ∙ sym slot.stands.stands.stands.named
+  name_is : last_name path ≡ found_slot.name
+  name_is = ap last_name slot.is ∙ last_is slot.above slot.name ∙ sym slot.stands.stands.stands.named
 
   abbrev Fit : Slot → Type 0
-  Fit s = IsSlotWithinWritableLimits t.kept.disk.profile t.kept.disk.block_size t.kept.disk.page s
+  Fit s = IsWritableSlot t.kept.disk.profile t.kept.disk.block_size t.kept.disk.page s
 
-  pub inline_fits : HasInlineBytesWithinLimit (inline_limit t.kept.disk.profile t.kept.disk.block_size) found_slot.struct
+  pub inline_fits : InlineBytesFit (inline_limit t.kept.disk.profile t.kept.disk.block_size) found_slot.struct
   inline_fits =
       let place = slot.stands.stands.place in
       let stands = slot.stands.stands.stands in
@@ -131,14 +131,14 @@ module _ (t : ThreadView) (root : ℕ) (rests : CanChangeRecoveredImage t root) 
       let fit = (each_right Fit stands.left (stands.slot ∷ stands.right) (subst (Each Fit) stands.held (recursion_from_All Fit pair.content.slots one))).0 in
       (fit.1 stands.entry).inline
 
-  pub can_set : (kind : ℕ) (given : List ℕ) → CanSetAttrAtPath (tree_state_of_kept_thread t.kept true false) path kind given → CanSetAttribute (with_history t.kept h) spot.pair spot.id kind given
+  pub can_set : (kind : ℕ) (given : List ℕ) → CanSetAttr (kept_state t.kept true false) path kind given → CanSetAttribute (with_history t.kept h) spot.pair spot.id kind given
   unfolding can_edit
   can_set kind given can = record {
     can = can_edit;
     short = can.len;
     fits = record {
-      charge = subst (λ n. entry_charge_with_longest_inline_contents t.kept.disk.profile t.kept.disk.block_size n (attributes_with_attribute kind given found_slot.attributes) ≤ charged_entry_size_limit_in_pair t.kept.disk.block_size t.kept.disk.page) name_is
-          (subst (λ a. entry_charge_with_longest_inline_contents t.kept.disk.profile t.kept.disk.block_size (last_name_of_path path) (attributes_with_attribute kind given a) ≤ charged_entry_size_limit_in_pair t.kept.disk.block_size t.kept.disk.page) attributes_are (ltb-false _ _ can.fits));
+      charge = subst (λ n. entry_charge t.kept.disk.profile t.kept.disk.block_size n (attributes_with kind given found_slot.attributes) ≤ charge_limit t.kept.disk.block_size t.kept.disk.page) name_is
+          (subst (λ a. entry_charge t.kept.disk.profile t.kept.disk.block_size (last_name path) (attributes_with kind given a) ≤ charge_limit t.kept.disk.block_size t.kept.disk.page) attributes_are (ltb-false _ _ can.fits));
       inline = inline_fits;
     };
   }
@@ -146,8 +146,8 @@ module _ (t : ThreadView) (root : ℕ) (rests : CanChangeRecoveredImage t root) 
   pub slot_below : spot.pair < length t.kept.pairs
   slot_below = behind_below t.kept.pairs slot.first spot.pair slot.stands.stands.pair slot.stands.stands.rest slot.stands.stands.place
 
-  edited_at : (c : KeptThread) (f : Attributes → Attributes) (op : List ℕ → Operation) (given : List ℕ) (bs : List ℕ) → fault_count_of_history c.history ≡ fault_count_of_history t.kept.history → AreCallsSinceOnlyReads t.kept.disk.blocks t.kept.history h → ThreadChangesOnlyTheseBlocks bs (with_history t.kept h) c → AllByRecursion (IsPairsOrFree t.kept) bs
-      → HasAttributesChanged (with_history t.kept h) c slot.above slot.name f op → path_of_bytes_or_root given ≡ path → renames_to_itself (op given) ≡ false → is_recover_operation (op given) ≡ false → AppliesOperationOnThread t.kept (op given) c
+  edited_at : (c : KeptThread) (f : Attributes → Attributes) (op : List ℕ → Operation) (given : List ℕ) (bs : List ℕ) → fault_count c.history ≡ fault_count t.kept.history → OnlyReadsSince t.kept.disk.blocks t.kept.history h → ChangesThreadBlocks bs (with_history t.kept h) c → AllByRecursion (IsPairsOrFree t.kept) bs
+      → HasAttributesChanged (with_history t.kept h) c slot.above slot.name f op → path_or_root given ≡ path → renames_itself (op given) ≡ false → is_recover (op given) ≡ false → AppliesOperation t.kept (op given) c
   edited_at c f op given bs quiet reads writes among is e other asks = carried t.kept h (op given) c
       (record {
         accepted = rests.held.sound.accepted;
@@ -163,92 +163,92 @@ module _ (t : ThreadView) (root : ℕ) (rests : CanChangeRecoveredImage t root) 
         no_fault = quiet;
       }) other asks
 
-  set_at : (c : KeptThread) (kind : ℕ) (bytes_given given : List ℕ) (bs : List ℕ) → CanSetAttrAtPath (tree_state_of_kept_thread t.kept true false) path kind bytes_given → fault_count_of_history c.history ≡ fault_count_of_history t.kept.history → AreCallsSinceOnlyReads t.kept.disk.blocks t.kept.history h → ThreadChangesOnlyTheseBlocks bs (with_history t.kept h) c
+  set_at : (c : KeptThread) (kind : ℕ) (bytes_given given : List ℕ) (bs : List ℕ) → CanSetAttr (kept_state t.kept true false) path kind bytes_given → fault_count c.history ≡ fault_count t.kept.history → OnlyReadsSince t.kept.disk.blocks t.kept.history h → ChangesThreadBlocks bs (with_history t.kept h) c
       → AllByRecursion (IsPairsOrFree t.kept) bs → ((set : CanSetAttribute (with_history t.kept h) spot.pair spot.id kind bytes_given) → HasSetAttribute (with_history t.kept h) c set.can.path set.can.name kind bytes_given)
-      → path_of_bytes_or_root given ≡ path → AppliesOperationOnThread t.kept (ops.SetAttr given kind bytes_given) c
+      → path_or_root given ≡ path → AppliesOperation t.kept (ops.SetAttr given kind bytes_given) c
   unfolding can_set can_edit
   set_at c kind bytes_given given bs can quiet reads writes among gives e =
       let is : HasSetAttribute (with_history t.kept h) c slot.above slot.name kind bytes_given = gives (can_set kind bytes_given can) in
-      edited_at c (attributes_with_attribute kind bytes_given) (λ z. ops.SetAttr z kind bytes_given) given bs quiet reads writes among is e refl refl
+      edited_at c (attributes_with kind bytes_given) (λ z. ops.SetAttr z kind bytes_given) given bs quiet reads writes among is e refl refl
 
-  cleared_at : (c : KeptThread) (kind : ℕ) (given : List ℕ) (bs : List ℕ) → fault_count_of_history c.history ≡ fault_count_of_history t.kept.history → AreCallsSinceOnlyReads t.kept.disk.blocks t.kept.history h → ThreadChangesOnlyTheseBlocks bs (with_history t.kept h) c → AllByRecursion (IsPairsOrFree t.kept) bs
-      → ((can : CanEditEntryOfPair (with_history t.kept h) spot.pair spot.id) → HasRemovedAttribute (with_history t.kept h) c can.path can.name kind) → path_of_bytes_or_root given ≡ path → AppliesOperationOnThread t.kept (ops.RemoveAttr given kind) c
+  cleared_at : (c : KeptThread) (kind : ℕ) (given : List ℕ) (bs : List ℕ) → fault_count c.history ≡ fault_count t.kept.history → OnlyReadsSince t.kept.disk.blocks t.kept.history h → ChangesThreadBlocks bs (with_history t.kept h) c → AllByRecursion (IsPairsOrFree t.kept) bs
+      → ((can : CanEditIn (with_history t.kept h) spot.pair spot.id) → HasRemovedAttribute (with_history t.kept h) c can.path can.name kind) → path_or_root given ≡ path → AppliesOperation t.kept (ops.RemoveAttr given kind) c
   unfolding can_edit
   cleared_at c kind given bs quiet reads writes among gives e =
       let is : HasRemovedAttribute (with_history t.kept h) c slot.above slot.name kind = gives can_edit in
-      edited_at c (attributes_without_attribute kind) (λ z. ops.RemoveAttr z kind) given bs quiet reads writes among is e refl refl
+      edited_at c (attributes_without kind) (λ z. ops.RemoveAttr z kind) given bs quiet reads writes among is e refl refl
 
   -- the pair holds the slot of the path
-  edited_alone : (c : KeptThread) (op : Operation) (files : OpenFilesByNumber) (given : List ℕ) (fresh : List ℕ) → paths_changed_by_operation (record { tree = tree_on_disk t.kept.disk t.kept.pairs; files = files }) op ≡ path_of_bytes_or_root given ∷ [] → path_of_bytes_or_root given ≡ path
-      → AllByRecursion (IsBlockFree t.kept.map) fresh → ThreadChangesOnlyTheseBlocks ((thread_pair_at_index t.kept spot.pair).at.0 ∷ (thread_pair_at_index t.kept spot.pair).at.1 ∷ fresh) (with_history t.kept h) c
-      → LeavesUnrelatedBlocksUnchanged t.kept.disk t.kept.pairs (record { tree = tree_on_disk t.kept.disk t.kept.pairs; files = files }) op c.disk c.pairs
+  edited_alone : (c : KeptThread) (op : Operation) (files : OpenFilesByNumber) (given : List ℕ) (fresh : List ℕ) → changed_paths (record { tree = tree_on_disk t.kept.disk t.kept.pairs; files = files }) op ≡ path_or_root given ∷ [] → path_or_root given ≡ path
+      → AllByRecursion (IsFree t.kept.map) fresh → ChangesThreadBlocks ((thread_pair_at t.kept spot.pair).at.0 ∷ (thread_pair_at t.kept spot.pair).at.1 ∷ fresh) (with_history t.kept h) c
+      → LeavesOthers t.kept.disk t.kept.pairs (record { tree = tree_on_disk t.kept.disk t.kept.pairs; files = files }) op c.disk c.pairs
   edited_alone c op files given fresh about e free w =
       let s = slot.stands.stands in
-      let is : thread_pair_at_index t.kept spot.pair ≡ s.pair = here (with_history t.kept h) (ready_to t root h rests large) slot.first spot.pair s.pair s.rest s.place in
+      let is : thread_pair_at t.kept spot.pair ≡ s.pair = here (with_history t.kept h) (ready_to t root h rests large) slot.first spot.pair s.pair s.rest s.place in
       rest_left_alone (with_history t.kept h) c slot.first spot.pair s.pair s.rest fresh (record { tree = tree_on_disk t.kept.disk t.kept.pairs; files = files }) op
       rests.held.sound.accepted rests.held.sound.used s.place free
-      (subst (λ (z : Pair). ThreadChangesOnlyTheseBlocks (z.at.0 ∷ z.at.1 ∷ fresh) (with_history t.kept h) c) is w)
-      (λ has n. n (subst (Any (IsPairWithSlotOfPath t.kept.pairs s.pair)) (sym about)
-      (about_one (IsPairWithSlotOfPath t.kept.pairs s.pair) (path_of_bytes_or_root given) (slot.above ++ slot.name ∷ []) (e ∙ slot.is)
+      (subst (λ (z : Pair). ChangesThreadBlocks (z.at.0 ∷ z.at.1 ∷ fresh) (with_history t.kept h) c) is w)
+      (λ has n. n (subst (Any (HasPathSlot t.kept.pairs s.pair)) (sym about)
+      (about_one (HasPathSlot t.kept.pairs s.pair) (path_or_root given) (slot.above ++ slot.name ∷ []) (e ∙ slot.is)
       (holds_slot t.kept.pairs slot.above slot.stands.on.at slot.first slot.name spot.pair spot.id rests.held.sound.accepted.thread.distinct slot.stands.on.leads slot.stands.on.begins s))))
 
-  edit_survives : (c : KeptThread) (f : Attributes → Attributes) (bs : List ℕ) → AreCallsSinceOnlyReads t.kept.disk.blocks t.kept.history h → ThreadChangesOnlyTheseBlocks bs (with_history t.kept h) c
-      → SurvivesWithOldOrNewTree (with_history t.kept h) c (tree_with_attributes_at t.kept slot.above slot.name f) → SurvivesWithOldOrNewTree t.kept c (tree_with_attributes_changed path f (tree_on_disk t.kept.disk t.kept.pairs))
+  edit_survives : (c : KeptThread) (f : Attributes → Attributes) (bs : List ℕ) → OnlyReadsSince t.kept.disk.blocks t.kept.history h → ChangesThreadBlocks bs (with_history t.kept h) c
+      → SurvivesEither (with_history t.kept h) c (tree_with_attributes_set t.kept slot.above slot.name f) → SurvivesEither t.kept c (tree_with_attributes path f (tree_on_disk t.kept.disk t.kept.pairs))
   edit_survives c f bs reads writes k =
-      subst (λ p. SurvivesWithOldOrNewTree t.kept c (tree_with_attributes_changed p f (tree_on_disk t.kept.disk t.kept.pairs))) (sym slot.is) (survives_behind t root rests h c bs (tree_with_attributes_at t.kept slot.above slot.name f) reads writes k)
+      subst (λ p. SurvivesEither t.kept c (tree_with_attributes p f (tree_on_disk t.kept.disk t.kept.pairs))) (sym slot.is) (survives_behind t root rests h c bs (tree_with_attributes_set t.kept slot.above slot.name f) reads writes k)
 
-  set_survives : (c : KeptThread) (kind : ℕ) (bytes_given : List ℕ) (bs : List ℕ) → CanSetAttrAtPath (tree_state_of_kept_thread t.kept true false) path kind bytes_given → AreCallsSinceOnlyReads t.kept.disk.blocks t.kept.history h → ThreadChangesOnlyTheseBlocks bs (with_history t.kept h) c
-      → ((set : CanSetAttribute (with_history t.kept h) spot.pair spot.id kind bytes_given) → SurvivesWithOldOrNewTree (with_history t.kept h) c (tree_with_attributes_at (with_history t.kept h) set.can.path set.can.name (attributes_with_attribute kind bytes_given)))
-      → SurvivesWithOldOrNewTree t.kept c (tree_with_attributes_changed path (attributes_with_attribute kind bytes_given) (tree_on_disk t.kept.disk t.kept.pairs))
+  set_survives : (c : KeptThread) (kind : ℕ) (bytes_given : List ℕ) (bs : List ℕ) → CanSetAttr (kept_state t.kept true false) path kind bytes_given → OnlyReadsSince t.kept.disk.blocks t.kept.history h → ChangesThreadBlocks bs (with_history t.kept h) c
+      → ((set : CanSetAttribute (with_history t.kept h) spot.pair spot.id kind bytes_given) → SurvivesEither (with_history t.kept h) c (tree_with_attributes_set (with_history t.kept h) set.can.path set.can.name (attributes_with kind bytes_given)))
+      → SurvivesEither t.kept c (tree_with_attributes path (attributes_with kind bytes_given) (tree_on_disk t.kept.disk t.kept.pairs))
   unfolding can_set can_edit
-  set_survives c kind bytes_given bs can reads writes gives = edit_survives c (attributes_with_attribute kind bytes_given) bs reads writes (gives (can_set kind bytes_given can))
+  set_survives c kind bytes_given bs can reads writes gives = edit_survives c (attributes_with kind bytes_given) bs reads writes (gives (can_set kind bytes_given can))
 
-  cleared_survives : (c : KeptThread) (kind : ℕ) (bs : List ℕ) → AreCallsSinceOnlyReads t.kept.disk.blocks t.kept.history h → ThreadChangesOnlyTheseBlocks bs (with_history t.kept h) c
-      → ((can : CanEditEntryOfPair (with_history t.kept h) spot.pair spot.id) → SurvivesWithOldOrNewTree (with_history t.kept h) c (tree_with_attributes_at (with_history t.kept h) can.path can.name (attributes_without_attribute kind)))
-      → SurvivesWithOldOrNewTree t.kept c (tree_with_attributes_changed path (attributes_without_attribute kind) (tree_on_disk t.kept.disk t.kept.pairs))
+  cleared_survives : (c : KeptThread) (kind : ℕ) (bs : List ℕ) → OnlyReadsSince t.kept.disk.blocks t.kept.history h → ChangesThreadBlocks bs (with_history t.kept h) c
+      → ((can : CanEditIn (with_history t.kept h) spot.pair spot.id) → SurvivesEither (with_history t.kept h) c (tree_with_attributes_set (with_history t.kept h) can.path can.name (attributes_without kind)))
+      → SurvivesEither t.kept c (tree_with_attributes path (attributes_without kind) (tree_on_disk t.kept.disk t.kept.pairs))
   unfolding can_edit
-  cleared_survives c kind bs reads writes gives = edit_survives c (attributes_without_attribute kind) bs reads writes (gives can_edit)
+  cleared_survives c kind bs reads writes gives = edit_survives c (attributes_without kind) bs reads writes (gives can_edit)
 
   -- ---- all that is said of it
 
-  pub set_does : (new : ThreadView) (r : Result (Unit {0}) Error) (kind : ℕ) (value given : List ℕ) → path_of_bytes_or_root given ≡ path → CanSetAttrAtPath (tree_state_of_kept_thread t.kept true false) path kind value → fault_count_of_history h ≡ fault_count_of_history t.kept.history → AreCallsSinceOnlyReads t.kept.disk.blocks t.kept.history h
-      → WritesPairAndTwoFreeBlocks (with_history t.kept h) spot.pair new.kept → OnOk r ((set : CanSetAttribute (with_history t.kept h) spot.pair spot.id kind value) → HasSetAttribute (with_history t.kept h) new.kept set.can.path set.can.name kind value)
+  pub set_does : (new : ThreadView) (r : Result (Unit {0}) Error) (kind : ℕ) (value given : List ℕ) → path_or_root given ≡ path → CanSetAttr (kept_state t.kept true false) path kind value → fault_count h ≡ fault_count t.kept.history → OnlyReadsSince t.kept.disk.blocks t.kept.history h
+      → WritesPairTwo (with_history t.kept h) spot.pair new.kept → OnOk r ((set : CanSetAttribute (with_history t.kept h) spot.pair spot.id kind value) → HasSetAttribute (with_history t.kept h) new.kept set.can.path set.can.name kind value)
       → ReportsFaultsSince h new.kept.history r → OnOk r (new.failed ≡ false)
-      → ((set : CanSetAttribute (with_history t.kept h) spot.pair spot.id kind value) → SurvivesWithOldOrNewTree (with_history t.kept h) new.kept (tree_with_attributes_at (with_history t.kept h) set.can.path set.can.name (attributes_with_attribute kind value)))
-      → AppliesCallOnThreadOrFails t (call.SetAttr path kind value) r new
+      → ((set : CanSetAttribute (with_history t.kept h) spot.pair spot.id kind value) → SurvivesEither (with_history t.kept h) new.kept (tree_with_attributes_set (with_history t.kept h) set.can.path set.can.name (attributes_with kind value)))
+      → AppliesOrFails t (call.SetAttr path kind value) r new
   set_does new r kind value given named can quiet reads w gives reported works survives =
       changed t new (HasAppliedCall t.kept (call.SetAttr path kind value)) (tree_after_call (call.SetAttr path kind value) before) h _ r quiet reads w.writes reported works (go r gives (quiet_reported t.kept new.kept h r quiet reported)) (set_survives new.kept kind value _ can reads w.writes survives)
     where
       go : (r : Result (Unit {0}) Error) → OnOk r ((set : CanSetAttribute (with_history t.kept h) spot.pair spot.id kind value) → HasSetAttribute (with_history t.kept h) new.kept set.can.path set.can.name kind value)
-          → OnOk r (fault_count_of_history new.kept.history ≡ fault_count_of_history t.kept.history) → OnOk r (HasAppliedCall t.kept (call.SetAttr path kind value) new.kept × HasSoundImageOfTree t.kept (tree_after_call (call.SetAttr path kind value) before) new.kept)
+          → OnOk r (fault_count new.kept.history ≡ fault_count t.kept.history) → OnOk r (HasAppliedCall t.kept (call.SetAttr path kind value) new.kept × HasSoundImage t.kept (tree_after_call (call.SetAttr path kind value) before) new.kept)
       go (Err e) gives same = tt
       go (Ok x) gives same =
-          let at : (given : List ℕ) → path_of_bytes_or_root given ≡ path → AppliesOperationOnThread t.kept (ops.SetAttr given kind value) new.kept
+          let at : (given : List ℕ) → path_or_root given ≡ path → AppliesOperation t.kept (ops.SetAttr given kind value) new.kept
           = λ given e. set_at new.kept kind value given _ can same reads w.writes (among_one t.kept spot.pair w.fresh slot_below w.free) gives e in (
             record {
-              carries = does_set (λ op. AppliesOperationOnThread t.kept op new.kept) path kind value at;
-              spares = does_set (λ op. SparesBlocksOutsideOperation t.kept op new.kept) path kind value (λ given e none files. edited_alone new.kept (ops.SetAttr given kind value) files given w.fresh refl e w.free w.writes);
+              carries = does_set (λ op. AppliesOperation t.kept op new.kept) path kind value at;
+              spares = does_set (λ op. SparesOutsideOperation t.kept op new.kept) path kind value (λ given e none files. edited_alone new.kept (ops.SetAttr given kind value) files given w.fresh refl e w.free w.writes);
             },
             set_stands t.kept new.kept path kind value given named (at given named) (gives (can_set kind value can)).now.root,
           )
 
-  pub clear_does : (new : ThreadView) (r : Result (Unit {0}) Error) (kind : ℕ) (given : List ℕ) → path_of_bytes_or_root given ≡ path → fault_count_of_history h ≡ fault_count_of_history t.kept.history → AreCallsSinceOnlyReads t.kept.disk.blocks t.kept.history h
-      → ThreadChangesOnlyTheseBlocks (blocks_of_pair_address (thread_pair_at_index t.kept spot.pair).at) (with_history t.kept h) new.kept → OnOk r ((can : CanEditEntryOfPair (with_history t.kept h) spot.pair spot.id) → HasRemovedAttribute (with_history t.kept h) new.kept can.path can.name kind)
+  pub clear_does : (new : ThreadView) (r : Result (Unit {0}) Error) (kind : ℕ) (given : List ℕ) → path_or_root given ≡ path → fault_count h ≡ fault_count t.kept.history → OnlyReadsSince t.kept.disk.blocks t.kept.history h
+      → ChangesThreadBlocks (address_blocks (thread_pair_at t.kept spot.pair).at) (with_history t.kept h) new.kept → OnOk r ((can : CanEditIn (with_history t.kept h) spot.pair spot.id) → HasRemovedAttribute (with_history t.kept h) new.kept can.path can.name kind)
       → ReportsFaultsSince h new.kept.history r → OnOk r (new.failed ≡ false)
-      → ((can : CanEditEntryOfPair (with_history t.kept h) spot.pair spot.id) → SurvivesWithOldOrNewTree (with_history t.kept h) new.kept (tree_with_attributes_at (with_history t.kept h) can.path can.name (attributes_without_attribute kind)))
-      → AppliesCallOnThreadOrFails t (call.RemoveAttr path kind) r new
+      → ((can : CanEditIn (with_history t.kept h) spot.pair spot.id) → SurvivesEither (with_history t.kept h) new.kept (tree_with_attributes_set (with_history t.kept h) can.path can.name (attributes_without kind)))
+      → AppliesOrFails t (call.RemoveAttr path kind) r new
   clear_does new r kind given named quiet reads w gives reported works survives =
       changed t new (HasAppliedCall t.kept (call.RemoveAttr path kind)) (tree_after_call (call.RemoveAttr path kind) before) h _ r quiet reads w reported works (go r gives (quiet_reported t.kept new.kept h r quiet reported)) (cleared_survives new.kept kind _ reads w survives)
     where
-      go : (r : Result (Unit {0}) Error) → OnOk r ((can : CanEditEntryOfPair (with_history t.kept h) spot.pair spot.id) → HasRemovedAttribute (with_history t.kept h) new.kept can.path can.name kind)
-          → OnOk r (fault_count_of_history new.kept.history ≡ fault_count_of_history t.kept.history) → OnOk r (HasAppliedCall t.kept (call.RemoveAttr path kind) new.kept × HasSoundImageOfTree t.kept (tree_after_call (call.RemoveAttr path kind) before) new.kept)
+      go : (r : Result (Unit {0}) Error) → OnOk r ((can : CanEditIn (with_history t.kept h) spot.pair spot.id) → HasRemovedAttribute (with_history t.kept h) new.kept can.path can.name kind)
+          → OnOk r (fault_count new.kept.history ≡ fault_count t.kept.history) → OnOk r (HasAppliedCall t.kept (call.RemoveAttr path kind) new.kept × HasSoundImage t.kept (tree_after_call (call.RemoveAttr path kind) before) new.kept)
       go (Err e) gives same = tt
       go (Ok x) gives same =
-          let at : (given : List ℕ) → path_of_bytes_or_root given ≡ path → AppliesOperationOnThread t.kept (ops.RemoveAttr given kind) new.kept
+          let at : (given : List ℕ) → path_or_root given ≡ path → AppliesOperation t.kept (ops.RemoveAttr given kind) new.kept
           = λ given e. cleared_at new.kept kind given _ same reads w (among_one t.kept spot.pair [] slot_below tt) gives e in (
             record {
-              carries = does_clear (λ op. AppliesOperationOnThread t.kept op new.kept) path kind at;
-              spares = does_clear (λ op. SparesBlocksOutsideOperation t.kept op new.kept) path kind (λ given e none files. edited_alone new.kept (ops.RemoveAttr given kind) files given [] refl e tt w);
+              carries = does_clear (λ op. AppliesOperation t.kept op new.kept) path kind at;
+              spares = does_clear (λ op. SparesOutsideOperation t.kept op new.kept) path kind (λ given e none files. edited_alone new.kept (ops.RemoveAttr given kind) files given [] refl e tt w);
             },
             clear_stands t.kept new.kept path kind given named (at given named) (gives can_edit).now.root,
           )

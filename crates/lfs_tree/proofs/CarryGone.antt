@@ -5,40 +5,40 @@ use Rattle.std.specs.Option.{option_and_then}
 use Rattle.std.proofs.lemmas.Bool.{ltb-false}
 use Rattle.std.proofs.lemmas.List.{length-map}
 use Rattle.std.proofs.lemmas.Option.{same_Some, slice_get_within}
-use Rattle.lfs_device.specs.Bytes.{AreAllBlockElementsBelow256}
+use Rattle.lfs_device.specs.Bytes.{HoldBytes}
 use Rattle.lfs_device.specs.declared.error.Error.{Error}
 use Rattle.lfs_device.specs.declared.error.Error.TheVariants.{Io, NoMemory}
-use Rattle.lfs_tree.specs.SettledFiles.{ChangesOnlyBlockMap}
+use Rattle.lfs_tree.specs.SettledFiles.{ChangesOnlyMap}
 use Rattle.lfs_tree.specs.ThreadContents.{ReportsFaultOrNoMemory}
 use Rattle.lfs_model.proofs.Orders.{length_in_order}
 use Rattle.lfs_model.specs.declared.order.NameOrder.TheVariants.{ShorterFirst}
-use Rattle.lfs_model.specs.TreeEdits.{names_of_directory_node, tree_after_removal}
-use Rattle.lfs_model.specs.Disk.{Disk}
-use Rattle.lfs_model.specs.History.{DeviceCallEvent, AreCallsSinceOnlyReads, fault_count_of_history}
-use Rattle.lfs_model.specs.Operations as ops
-use Rattle.lfs_model.specs.Slots.{Slot, Struct, Inline, Ctz, Branch}
-use Rattle.lfs_model.specs.Refusals.{path_of_bytes_or_root}
-use Rattle.lfs_model.specs.Thread.{Pair, pair_count_before_root, blocks_of_two_pair_addresses}
-use Rattle.lfs_model.specs.Tree.{names_of_directory_at_address, Path, Tree, branch_address_of_struct}
-use Rattle.lfs_model.specs.Shown.{IsPathToDirectory, entries_by_directory_in_thread, tree_on_disk, used_blocks}
-use Rattle.lfs_model.proofs.BlockSets.{Contains-occurrence_count_of_number, occurrence_count_of_number-Contains}
-use Rattle.lfs_model.proofs.Committed.{IsImageAfterCompletedOperation, no_move_from}
-use Rattle.lfs_operations.specs.Dropping.{HasSameBlocksInFlight}
-use Rattle.lfs_operations.specs.Ready.{IsImageReadyForChange, IsImageReadyOnceMapIsUpdated}
-use Rattle.lfs_operations.specs.Removing.{IsFileRemoved, ReportsErrorsOfCommitTakingNoBlock, pair_address_written_by_removal}
+use Rattle.lfs_model.specs.session.TreeEdits.{directory_names, tree_removing}
+use Rattle.lfs_model.specs.format.Disk.{Disk}
+use Rattle.lfs_model.specs.session.History.{CallEvent, OnlyReadsSince, fault_count}
+use Rattle.lfs_model.specs.session.Operations as ops
+use Rattle.lfs_model.specs.format.Slots.{Slot, Struct, Inline, Ctz, Branch}
+use Rattle.lfs_model.specs.session.Refusals.{path_or_root}
+use Rattle.lfs_model.specs.format.Thread.{Pair, pair_count_before_root, addresses_blocks}
+use Rattle.lfs_model.specs.tree.Tree.{names_at, Path, Tree, branch_address}
+use Rattle.lfs_model.specs.tree.Shown.{LeadsTo, all_entries, tree_on_disk, used_blocks}
+use Rattle.lfs_model.proofs.BlockSets.{Contains-number_count, number_count-Contains}
+use Rattle.lfs_model.proofs.Committed.{IsCompletion, no_move_from}
+use Rattle.lfs_operations.specs.Dropping.{SameInFlight}
+use Rattle.lfs_operations.specs.Ready.{IsReadyImage, IsReadyUpdated}
+use Rattle.lfs_operations.specs.Removing.{IsFileRemoved, ReportsErrorsOfCommitTakingNoBlock, written_by_removal}
 use Rattle.lfs_operations.specs.Unlinking.{CanRemoveDirectory, IsDirectoryRemoved, ReportsErrorsOfCommitsTakingNoBlock}
 use Rattle.lfs_thread.specs.Kept.{KeptThread, ThreadView}
-use Rattle.lfs_thread.specs.Steps.{ThreadChangesOnlyTheseBlocks, thread_pair_at_index}
-use Rattle.lfs_operations.specs.MovingSteps.{WritesOnlyThreadPairsAndFreeBlocks}
-use Rattle.lfs_tree.specs.Permissions.{CanRemoveEntryAtPath}
-use Rattle.lfs_tree.specs.Calls as call
-use Rattle.lfs_tree.specs.Calls.{tree_after_call}
-use Rattle.lfs_tree.specs.TreeChanges.{AppliesOperationOnThread, HasAppliedCall, CanChangeRecoveredImage, AppliesCallOnThreadOrFails, SparesBlocksOutsideOperation, HasSoundImageOfTree, SurvivesWithOldOrNewTree}
-use Rattle.lfs_tree.specs.SlotChanges.{HasEntryAtPath, IsSpotOfSlotAtPath, is_entry_found}
-use Rattle.lfs_lookup.specs.Entry.{IsStorageOfStruct}
-use Rattle.lfs_tree.specs.Removals.{CanRemoveFoundEntry, HasRemovedEntry, SparesOtherBlocksInRemoval, IsEntryFoundForPath}
-use Rattle.lfs_tree.specs.RootedThreads.{tree_state_of_kept_thread}
-use Rattle.lfs_lookup.specs.Paths.{PathLeadsToLookupResult, IsSlotOfNameBelowPath}
+use Rattle.lfs_thread.specs.ThreadSteps.{ChangesThreadBlocks, thread_pair_at}
+use Rattle.lfs_operations.specs.MovingSteps.{WritesThreadFree}
+use Rattle.lfs_tree.specs.Permissions.{CanRemoveEntry}
+use Rattle.lfs_tree.specs.TreeCalls as call
+use Rattle.lfs_tree.specs.TreeCalls.{tree_after_call}
+use Rattle.lfs_tree.specs.TreeChanges.{AppliesOperation, HasAppliedCall, CanChangeRecovered, AppliesOrFails, SparesOutsideOperation, HasSoundImage, SurvivesEither}
+use Rattle.lfs_tree.specs.SlotChanges.{HasPathEntry, IsPathSpot, is_entry_found}
+use Rattle.lfs_lookup.specs.Entry.{IsStorage}
+use Rattle.lfs_tree.specs.Removals.{CanRemoveFound, HasRemovedEntry, SparesInRemoval, IsFoundAt}
+use Rattle.lfs_tree.specs.RootedThreads.{kept_state}
+use Rattle.lfs_lookup.specs.LookupPaths.{LeadsToResult, IsSlotBelow}
 use Rattle.lfs_lookup.specs.declared.entry.FileStorage.{FileStorage}
 use Rattle.lfs_lookup.specs.declared.entry.FileStorage.TheVariants as contents
 use Rattle.lfs_lookup.specs.declared.paths.PathLookup.{PathLookup}
@@ -55,10 +55,10 @@ use Rattle.lfs_tree.proofs.EmptyDirectories.{at_there, bare_there}
 
 -- ---- what is found
 
-pub entry_on : (t : KeptThread) (path : Path) (f : PathLookup) → HasEntryAtPath (tree_on_disk t.disk t.pairs) path → PathLeadsToLookupResult t path f → IsEntryFoundForPath t.disk.order t.pairs path f
+pub entry_on : (t : KeptThread) (path : Path) (f : PathLookup) → HasPathEntry (tree_on_disk t.disk t.pairs) path → LeadsToResult t path f → IsFoundAt t.disk.order t.pairs path f
 entry_on t path f v l = go f l (slot_found t path f v l)
   where
-    go : (f : PathLookup) → PathLeadsToLookupResult t path f → is_entry_found f ≡ true → IsEntryFoundForPath t.disk.order t.pairs path f
+    go : (f : PathLookup) → LeadsToResult t path f → is_entry_found f ≡ true → IsFoundAt t.disk.order t.pairs path f
     go found.Root l e = absurd (cc)
     go found.ParentIsFile l e = absurd (cc)
     go found.ParentIsMissing l e = absurd (cc)
@@ -66,14 +66,14 @@ entry_on t path f v l = go f l (slot_found t path f v l)
     go (found.Directory parent slot first) l e = record { ends = l.there; has = e }
     go (found.File parent slot contents) l e = record { ends = l.there; has = e }
 
-pub entry_to_remove : (t : KeptThread) (path : Path) → CanRemoveEntryAtPath (tree_state_of_kept_thread t true false) path → HasEntryAtPath (tree_on_disk t.disk t.pairs) path
+pub entry_to_remove : (t : KeptThread) (path : Path) → CanRemoveEntry (kept_state t true false) path → HasPathEntry (tree_on_disk t.disk t.pairs) path
 entry_to_remove t path can = record { entry = can.entry; parents = can.parents; something = can.something }
 
-file_branch : (c : FileStorage) (s : Struct) → IsStorageOfStruct c s → branch_address_of_struct s ≡ None
-file_branch (contents.Inline len) s h = ap branch_address_of_struct h.1.0
-file_branch (contents.List head size) s h = ap branch_address_of_struct h
+file_branch : (c : FileStorage) (s : Struct) → IsStorage c s → branch_address s ≡ None
+file_branch (contents.Inline len) s h = ap branch_address h.1.0
+file_branch (contents.List head size) s h = ap branch_address h
 
-pub branch_is : (s : Struct) (to : ℕ × ℕ) → branch_address_of_struct s ≡ Some to → s ≡ Branch to
+pub branch_is : (s : Struct) (to : ℕ × ℕ) → branch_address s ≡ Some to → s ≡ Branch to
 branch_is (Inline bytes) to e = absurd (cc)
 branch_is (Ctz head size) to e = absurd (cc)
 branch_is (Branch at) to e = ap Branch (same_Some at to e)
@@ -81,26 +81,26 @@ branch_is (Branch at) to e = ap Branch (same_Some at to e)
 -- ---- what may go
 
 -- a directory without names has no entries
-pub none_entered : (t : KeptThread) (path : Path) → nat_lt 0 (length (names_of_directory_node (tree_on_disk t.disk t.pairs path))) ≡ false → (at : ℕ × ℕ) → IsPathToDirectory t.pairs path at → entries_by_directory_in_thread t.pairs at ≡ []
+pub none_entered : (t : KeptThread) (path : Path) → nat_lt 0 (length (directory_names (tree_on_disk t.disk t.pairs path))) ≡ false → (at : ℕ × ℕ) → LeadsTo t.pairs path at → all_entries t.pairs at ≡ []
 none_entered t path bare at leads =
     let d = directory_at_path t.disk t.pairs path at leads in
-    let none = ltb-false 0 (length (names_of_directory_node (tree_on_disk t.disk t.pairs path))) bare in
-    let e = ap (λ o. length (names_of_directory_node o)) d.is in
-    let l = length_in_order ShorterFirst (names_of_directory_at_address (entries_by_directory_in_thread t.pairs) at) ∙ length-map (entries_by_directory_in_thread t.pairs at) (λ (s : Slot). s.name) in
-    empty (entries_by_directory_in_thread t.pairs at) (omega arith)
+    let none = ltb-false 0 (length (directory_names (tree_on_disk t.disk t.pairs path))) bare in
+    let e = ap (λ o. length (directory_names o)) d.is in
+    let l = length_in_order ShorterFirst (names_at (all_entries t.pairs) at) ∙ length-map (all_entries t.pairs at) (λ (s : Slot). s.name) in
+    empty (all_entries t.pairs at) (omega arith)
   where
     empty : (xs : List Slot) → length xs ≤ 0 → xs ≡ []
     empty [] l = refl
     empty (x ∷ xs) l = absurd (omega arith)
 
-module _ (t : ThreadView) (root : ℕ) (rests : CanChangeRecoveredImage t root) (path : Path) (large : 1024 ≤ t.kept.disk.block_size) (bytes : AreAllBlockElementsBelow256 t.kept.disk.blocks) (can : CanRemoveEntryAtPath (tree_state_of_kept_thread t.kept true false) path) (h : List DeviceCallEvent) where
-  no_entries : (at : ℕ × ℕ) → IsPathToDirectory t.kept.pairs path at → entries_by_directory_in_thread t.kept.pairs at ≡ []
+module _ (t : ThreadView) (root : ℕ) (rests : CanChangeRecovered t root) (path : Path) (large : 1024 ≤ t.kept.disk.block_size) (bytes : HoldBytes t.kept.disk.blocks) (can : CanRemoveEntry (kept_state t.kept true false) path) (h : List CallEvent) where
+  no_entries : (at : ℕ × ℕ) → LeadsTo t.kept.pairs path at → all_entries t.kept.pairs at ≡ []
   no_entries at leads = none_entered t.kept path can.empty at leads
 
-  slot_on : (parent : ℕ) (slot : SlotPosition) (ends_above : Path) (name : List ℕ) → path ≡ ends_above ++ name ∷ [] → IsSlotOfNameBelowPath t.kept.pairs ends_above name parent slot → IsSpotOfSlotAtPath t.kept.pairs path slot
+  slot_on : (parent : ℕ) (slot : SlotPosition) (ends_above : Path) (name : List ℕ) → path ≡ ends_above ++ name ∷ [] → IsSlotBelow t.kept.pairs ends_above name parent slot → IsPathSpot t.kept.pairs path slot
   slot_on parent slot above name is stands = record { above = above; name = name; first = parent; is = is; stands = stands }
 
-  pub can_go : (f : PathLookup) → IsEntryFoundForPath t.kept.disk.order t.kept.pairs path f → CanRemoveFoundEntry (with_history t.kept h) path f
+  pub can_go : (f : PathLookup) → IsFoundAt t.kept.disk.order t.kept.pairs path f → CanRemoveFound (with_history t.kept h) path f
   unfolding can_edit slot_on
   can_go found.Root on = absurd (let e = on.has in cc)
   can_go found.ParentIsFile on = absurd (let e = on.has in cc)
@@ -119,15 +119,15 @@ module _ (t : ThreadView) (root : ℕ) (rests : CanChangeRecoveredImage t root) 
       }
   can_go (found.Directory parent slot first) on =
       let there = on.ends.there in
-      let led : IsPathToDirectory t.kept.pairs (on.ends.above ++ on.ends.name ∷ []) there.1.at = there.1.leads in
+      let led : LeadsTo t.kept.pairs (on.ends.above ++ on.ends.name ∷ []) there.1.at = there.1.leads in
       let bare = bare_there t.kept.disk t.kept.pairs on.ends.above on.ends.name there.1.at first rests.held.sound.accepted (rests.held.sound.fits refl) (no_move_from t.kept.pairs rests.settled) there.1.leads there.1.begins
-      (no_entries there.1.at (subst (λ p. IsPathToDirectory t.kept.pairs p there.1.at) (sym on.ends.is) there.1.leads)) in
+      (no_entries there.1.at (subst (λ p. LeadsTo t.kept.pairs p there.1.at) (sym on.ends.is) there.1.leads)) in
       record {
         take = record {
           can = can_edit t root rests path large bytes slot (slot_on parent slot on.ends.above on.ends.name on.ends.is there.0) h;
           begins = refl;
           to = there.1.at;
-          branch = branch_is there.0.stands.stands.slot.struct there.1.at (sym (ap (option_and_then (λ (f : Slot). branch_address_of_struct f.struct)) there.0.slot) ∙ there.1.leads);
+          branch = branch_is there.0.stands.stands.slot.struct there.1.at (sym (ap (option_and_then (λ (f : Slot). branch_address f.struct)) there.0.slot) ∙ there.1.leads);
           below = slice_get_within t.kept.pairs first there.1.begins.pair there.1.begins.there;
           at = at_there t.kept.pairs there.1.at first there.1.begins;
           empty = bare.empty;
@@ -138,14 +138,14 @@ module _ (t : ThreadView) (root : ℕ) (rests : CanChangeRecoveredImage t root) 
 
 -- ---- what comes of it
 
-ready_from : (t : KeptThread) → IsImageReadyOnceMapIsUpdated t [] [] → IsImageReadyForChange t
+ready_from : (t : KeptThread) → IsReadyUpdated t [] [] → IsReadyImage t
 ready_from t r = record {
   accepted = r.accepted;
   writable = r.writable;
   settled = r.settled;
   used = λ b. (
-    (λ h. Contains-occurrence_count_of_number (used_blocks t.disk t.pairs) b (let k = occurrence_count_of_number-Contains r.used.owned b ((r.used.are b).0 h) in let e = r.used.same b in omega arith)),
-    (λ h. (r.used.are b).1 (Contains-occurrence_count_of_number r.used.owned b (let k = occurrence_count_of_number-Contains (used_blocks t.disk t.pairs) b h in let e = r.used.same b in omega arith))),
+    (λ h. Contains-number_count (used_blocks t.disk t.pairs) b (let k = number_count-Contains r.used.owned b ((r.used.are b).0 h) in let e = r.used.same b in omega arith)),
+    (λ h. (r.used.are b).1 (Contains-number_count r.used.owned b (let k = number_count-Contains (used_blocks t.disk t.pairs) b h in let e = r.used.same b in omega arith))),
   );
   size = r.size;
   large = r.large;
@@ -160,18 +160,18 @@ directory_gone old new path above name e is = record {
 }
 
 -- a file, whose list is freed behind it
-pub file_gone : (old mid new : KeptThread) (path above : Path) (name : List ℕ) (struct : Struct) → path ≡ above ++ name ∷ [] → IsFileRemoved old mid above name struct → ChangesOnlyBlockMap mid new → IsImageReadyForChange new → HasSameBlocksInFlight mid.map new.map → HasRemovedEntry old path new
+pub file_gone : (old mid new : KeptThread) (path above : Path) (name : List ℕ) (struct : Struct) → path ≡ above ++ name ∷ [] → IsFileRemoved old mid above name struct → ChangesOnlyMap mid new → IsReadyImage new → SameInFlight mid.map new.map → HasRemovedEntry old path new
 file_gone old mid new path above name struct e is only ready flying = record {
   ready = ready;
   flying = λ b. ((λ flies. (is.now.flying b).0 ((flying b).0 flies)), (λ flies. (flying b).1 ((is.now.flying b).1 flies)));
   root = ap pair_count_before_root only.pairs ∙ is.now.root;
-  completed = λ s given tree given_is. subst (λ (d : Disk). IsImageAfterCompletedOperation old.disk old.pairs s (ops.Remove given) d new.pairs) (sym only.disk)
-      (subst (λ (ps : List Pair). IsImageAfterCompletedOperation old.disk old.pairs s (ops.Remove given) mid.disk ps) (sym only.pairs) (is.completed s given tree (given_is ∙ e)));
+  completed = λ s given tree given_is. subst (λ (d : Disk). IsCompletion old.disk old.pairs s (ops.Remove given) d new.pairs) (sym only.disk)
+      (subst (λ (ps : List Pair). IsCompletion old.disk old.pairs s (ops.Remove given) mid.disk ps) (sym only.pairs) (is.completed s given tree (given_is ∙ e)));
 }
 
-pub directory_writes : (old new : KeptThread) (pair id first gone : ℕ) → CanRemoveDirectory old pair id first gone → ThreadChangesOnlyTheseBlocks (blocks_of_two_pair_addresses (pair_address_written_by_removal old pair first) (thread_pair_at_index old (gone - 1)).at) old new → WritesOnlyThreadPairsAndFreeBlocks old new
+pub directory_writes : (old new : KeptThread) (pair id first gone : ℕ) → CanRemoveDirectory old pair id first gone → ChangesThreadBlocks (addresses_blocks (written_by_removal old pair first) (thread_pair_at old (gone - 1)).at) old new → WritesThreadFree old new
 directory_writes old new pair id first gone take w = record {
-  blocks = blocks_of_two_pair_addresses (pair_address_written_by_removal old pair first) (thread_pair_at_index old (gone - 1)).at;
+  blocks = addresses_blocks (written_by_removal old pair first) (thread_pair_at old (gone - 1)).at;
   each = (
       let k = written_pairs old pair first (behind_below old.pairs take.can.first pair take.can.stands.pair take.can.stands.rest take.can.stands.place) in
       let b = take.below in
@@ -180,8 +180,8 @@ directory_writes old new pair id first gone take w = record {
   writes = w;
 }
 
-module _ (t : ThreadView) (root : ℕ) (rests : CanChangeRecoveredImage t root) (path : Path) (h : List DeviceCallEvent) (c : KeptThread) (reads : AreCallsSinceOnlyReads t.kept.disk.blocks t.kept.history h) (w : WritesOnlyThreadPairsAndFreeBlocks (with_history t.kept h) c) where
-  removed_at : (given : List ℕ) → HasRemovedEntry (with_history t.kept h) path c → fault_count_of_history c.history ≡ fault_count_of_history t.kept.history → path_of_bytes_or_root given ≡ path → AppliesOperationOnThread t.kept (ops.Remove given) c
+module _ (t : ThreadView) (root : ℕ) (rests : CanChangeRecovered t root) (path : Path) (h : List CallEvent) (c : KeptThread) (reads : OnlyReadsSince t.kept.disk.blocks t.kept.history h) (w : WritesThreadFree (with_history t.kept h) c) where
+  removed_at : (given : List ℕ) → HasRemovedEntry (with_history t.kept h) path c → fault_count c.history ≡ fault_count t.kept.history → path_or_root given ≡ path → AppliesOperation t.kept (ops.Remove given) c
   removed_at given g quiet e = carried t.kept h (ops.Remove given) c
       (record {
         accepted = rests.held.sound.accepted;
@@ -225,35 +225,35 @@ steps_both old mid new x result given is t failed w =
 -- ---- a loss of power on the way
 
 -- an entry of a path
-pub removal_survives : (old new : KeptThread) (path above : Path) (name : List ℕ) → path ≡ above ++ name ∷ [] → SurvivesWithOldOrNewTree old new (tree_after_removal (above ++ name ∷ []) (tree_on_disk old.disk old.pairs)) → SurvivesWithOldOrNewTree old new (tree_after_removal path (tree_on_disk old.disk old.pairs))
-removal_survives old new path above name e k = subst (λ p. SurvivesWithOldOrNewTree old new (tree_after_removal p (tree_on_disk old.disk old.pairs))) (sym e) k
+pub removal_survives : (old new : KeptThread) (path above : Path) (name : List ℕ) → path ≡ above ++ name ∷ [] → SurvivesEither old new (tree_removing (above ++ name ∷ []) (tree_on_disk old.disk old.pairs)) → SurvivesEither old new (tree_removing path (tree_on_disk old.disk old.pairs))
+removal_survives old new path above name e k = subst (λ p. SurvivesEither old new (tree_removing p (tree_on_disk old.disk old.pairs))) (sym e) k
 
 -- a file, whose list is freed behind it
-pub freeing_survives : (old mid new : KeptThread) (path above : Path) (name : List ℕ) (struct : Struct) (bs : List ℕ) → path ≡ above ++ name ∷ [] → ThreadChangesOnlyTheseBlocks bs old mid → IsFileRemoved old mid above name struct → ChangesOnlyBlockMap mid new
-    → SurvivesWithOldOrNewTree old mid (tree_after_removal (above ++ name ∷ []) (tree_on_disk old.disk old.pairs)) → SurvivesWithOldOrNewTree old new (tree_after_removal path (tree_on_disk old.disk old.pairs))
+pub freeing_survives : (old mid new : KeptThread) (path above : Path) (name : List ℕ) (struct : Struct) (bs : List ℕ) → path ≡ above ++ name ∷ [] → ChangesThreadBlocks bs old mid → IsFileRemoved old mid above name struct → ChangesOnlyMap mid new
+    → SurvivesEither old mid (tree_removing (above ++ name ∷ []) (tree_on_disk old.disk old.pairs)) → SurvivesEither old new (tree_removing path (tree_on_disk old.disk old.pairs))
 freeing_survives old mid new path above name struct bs e w is only k =
-    survives_left old mid new.history (tree_after_removal path (tree_on_disk old.disk old.pairs)) (shape_geometry old mid w.shape) w.at_worst is.now.ready.accepted is.now.ready.writable
-    (is.now.shows ∙ ap (λ p. tree_after_removal p (tree_on_disk old.disk old.pairs)) (sym e)) only.reads (removal_survives old mid path above name e k)
+    survives_left old mid new.history (tree_removing path (tree_on_disk old.disk old.pairs)) (shape_geometry old mid w.shape) w.at_worst is.now.ready.accepted is.now.ready.writable
+    (is.now.shows ∙ ap (λ p. tree_removing p (tree_on_disk old.disk old.pairs)) (sym e)) only.reads (removal_survives old mid path above name e k)
 
 -- ---- all that is said of it
 
-module _ (t : ThreadView) (root : ℕ) (rests : CanChangeRecoveredImage t root) (path : Path) (h : List DeviceCallEvent) (new : ThreadView) (reads : AreCallsSinceOnlyReads t.kept.disk.blocks t.kept.history h) (w : WritesOnlyThreadPairsAndFreeBlocks (with_history t.kept h) new.kept) where
+module _ (t : ThreadView) (root : ℕ) (rests : CanChangeRecovered t root) (path : Path) (h : List CallEvent) (new : ThreadView) (reads : OnlyReadsSince t.kept.disk.blocks t.kept.history h) (w : WritesThreadFree (with_history t.kept h) new.kept) where
   abbrev before : Tree
   before = tree_on_disk t.kept.disk t.kept.pairs
 
-  pub remove_does : (r : Result (Unit {0}) Error) (given : List ℕ) → path_of_bytes_or_root given ≡ path → fault_count_of_history h ≡ fault_count_of_history t.kept.history → OnOk r (HasRemovedEntry (with_history t.kept h) path new.kept) → OnOk r (SparesOtherBlocksInRemoval (with_history t.kept h) path new.kept)
-      → ReportsFaultsSince h new.kept.history r → OnOk r (new.failed ≡ false) → SurvivesWithOldOrNewTree (with_history t.kept h) new.kept (tree_after_removal path before) → AppliesCallOnThreadOrFails t (call.Remove path) r new
+  pub remove_does : (r : Result (Unit {0}) Error) (given : List ℕ) → path_or_root given ≡ path → fault_count h ≡ fault_count t.kept.history → OnOk r (HasRemovedEntry (with_history t.kept h) path new.kept) → OnOk r (SparesInRemoval (with_history t.kept h) path new.kept)
+      → ReportsFaultsSince h new.kept.history r → OnOk r (new.failed ≡ false) → SurvivesEither (with_history t.kept h) new.kept (tree_removing path before) → AppliesOrFails t (call.Remove path) r new
   remove_does r given named quiet gone spared reported works survives =
       changed t new (HasAppliedCall t.kept (call.Remove path)) (tree_after_call (call.Remove path) before) h w.blocks r quiet reads w.writes reported works (go r gone spared (quiet_reported t.kept new.kept h r quiet reported))
-      (survives_behind t root rests h new.kept w.blocks (tree_after_removal path before) reads w.writes survives)
+      (survives_behind t root rests h new.kept w.blocks (tree_removing path before) reads w.writes survives)
     where
-      go : (r : Result (Unit {0}) Error) → OnOk r (HasRemovedEntry (with_history t.kept h) path new.kept) → OnOk r (SparesOtherBlocksInRemoval (with_history t.kept h) path new.kept) → OnOk r (fault_count_of_history new.kept.history ≡ fault_count_of_history t.kept.history)
-          → OnOk r (HasAppliedCall t.kept (call.Remove path) new.kept × HasSoundImageOfTree t.kept (tree_after_call (call.Remove path) before) new.kept)
+      go : (r : Result (Unit {0}) Error) → OnOk r (HasRemovedEntry (with_history t.kept h) path new.kept) → OnOk r (SparesInRemoval (with_history t.kept h) path new.kept) → OnOk r (fault_count new.kept.history ≡ fault_count t.kept.history)
+          → OnOk r (HasAppliedCall t.kept (call.Remove path) new.kept × HasSoundImage t.kept (tree_after_call (call.Remove path) before) new.kept)
       go (Err e) gone spared same = tt
       go (Ok x) gone spared same = (
         record {
-          carries = does_remove (λ op. AppliesOperationOnThread t.kept op new.kept) path (λ given e. removed_at t root rests path h new.kept reads w given gone same e);
-          spares = does_remove (λ op. SparesBlocksOutsideOperation t.kept op new.kept) path (λ given e none files. spared (record { tree = tree_on_disk t.kept.disk t.kept.pairs; files = files }) given e);
+          carries = does_remove (λ op. AppliesOperation t.kept op new.kept) path (λ given e. removed_at t root rests path h new.kept reads w given gone same e);
+          spares = does_remove (λ op. SparesOutsideOperation t.kept op new.kept) path (λ given e none files. spared (record { tree = tree_on_disk t.kept.disk t.kept.pairs; files = files }) given e);
         },
         remove_stands t.kept new.kept path given named (removed_at t root rests path h new.kept reads w given gone same named) gone.root,
       )

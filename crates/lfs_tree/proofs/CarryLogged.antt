@@ -2,19 +2,19 @@
 use Rattle.std.proofs.Common.{ℕ, ◌≡◌, ◌<◌, ◌&&◌, not, Bool, true, false, cond, List, Option, Some, None, refl, subst}
 use Rattle.std.specs.Prelude.{slice_index}
 use Rattle.std.specs.Option.{option_and_then}
-use Rattle.lfs_device.specs.Bytes.{AreAllBlockElementsBelow256}
-use Rattle.lfs_model.specs.Content.{content_after_log_entries, has_commit, current_block_of_two, current_block_of_pair_at, is_later_revision, empty_raw_pair_content}
-use Rattle.lfs_model.specs.Disk.{Disk, block_bytes_on_disk}
-use Rattle.lfs_model.specs.Log.{log_entries_of_block, revision_of_block}
-use Rattle.lfs_model.specs.LoggedContent.{IsWellFormedRawPairContent}
+use Rattle.lfs_device.specs.Bytes.{HoldBytes}
+use Rattle.lfs_model.specs.format.Content.{content_after, has_commit, current_of_two, current_block, is_later, empty_raw_content}
+use Rattle.lfs_model.specs.format.Disk.{Disk, disk_block}
+use Rattle.lfs_model.specs.format.Log.{block_entries, block_revision}
+use Rattle.lfs_model.specs.layers.LoggedContent.{IsWellFormed}
 use Rattle.lfs_model.proofs.Logged.{logged}
-use Rattle.lfs_operations.specs.Ready.{IsRawPairContentWellFormed}
+use Rattle.lfs_operations.specs.Ready.{IsRawFormed}
 
 abbrev AreSmall : List ℕ → Type 0
 AreSmall block = (i : ℕ) → slice_index block i < 256
 
-holder_small : (a b block : List ℕ) → AreSmall a → AreSmall b → current_block_of_two a b ≡ Some block → AreSmall block
-holder_small a b block f g h = go (not (has_commit a)) (has_commit b) (has_commit b && is_later_revision (revision_of_block a) (revision_of_block b)) h
+holder_small : (a b block : List ℕ) → AreSmall a → AreSmall b → current_of_two a b ≡ Some block → AreSmall block
+holder_small a b block f g h = go (not (has_commit a)) (has_commit b) (has_commit b && is_later (block_revision a) (block_revision b)) h
   where
     same : (x y : List ℕ) → Some x ≡ Some y → AreSmall x → AreSmall y
     same x y e s = let k : x ≡ y = cc in subst AreSmall k s
@@ -25,9 +25,9 @@ holder_small a b block f g h = go (not (has_commit a)) (has_commit b) (has_commi
     go false y true e = same b block e g
     go false y false e = same a block e f
 
-pub logged_there : (disk : Disk) (at : ℕ × ℕ) → AreAllBlockElementsBelow256 disk.blocks → IsRawPairContentWellFormed disk at
-logged_there disk at bytes raw is = go (current_block_of_pair_at disk at) refl is
+pub logged_there : (disk : Disk) (at : ℕ × ℕ) → HoldBytes disk.blocks → IsRawFormed disk at
+logged_there disk at bytes raw is = go (current_block disk at) refl is
   where
-    go : (o : Option (List ℕ)) → current_block_of_pair_at disk at ≡ o → option_and_then (λ block. content_after_log_entries empty_raw_pair_content (log_entries_of_block block)) o ≡ Some raw → IsWellFormedRawPairContent raw
+    go : (o : Option (List ℕ)) → current_block disk at ≡ o → option_and_then (λ block. content_after empty_raw_content (block_entries block)) o ≡ Some raw → IsWellFormed raw
     go None e h = absurd (cc)
-    go (Some block) e h = logged block raw (holder_small (block_bytes_on_disk disk at.0) (block_bytes_on_disk disk at.1) block (bytes at.0) (bytes at.1) e) h
+    go (Some block) e h = logged block raw (holder_small (disk_block disk at.0) (disk_block disk at.1) block (bytes at.0) (bytes at.1) e) h

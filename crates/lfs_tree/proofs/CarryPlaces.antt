@@ -3,49 +3,49 @@ use Rattle.std.proofs.Common.{◌≡◌, ◌∙◌, true, List, [], ◌∷◌, �
 use Rattle.std.specs.Prelude.{is_some}
 use Rattle.std.specs.Option.{option_map}
 use Rattle.std.proofs.lemmas.List.{map-append}
-use Rattle.lfs_model.specs.TreeEdits.{last_name_of_path}
-use Rattle.lfs_model.specs.InDirectory.{IsPlaceWhereNameBelongs}
-use Rattle.lfs_model.specs.Names.{Name}
-use Rattle.lfs_model.specs.SlotEdits.{slot_of_path}
-use Rattle.lfs_model.specs.Slots.{Slot}
-use Rattle.lfs_model.specs.Tree.{Path, node_of_struct_and_attributes}
-use Rattle.lfs_model.specs.Shown.{skip_list_bytes_on_disk, entries_by_directory_in_thread, tree_on_disk}
+use Rattle.lfs_model.specs.session.TreeEdits.{last_name}
+use Rattle.lfs_model.specs.session.InDirectory.{BelongsAt}
+use Rattle.lfs_model.specs.format.Names.{Name}
+use Rattle.lfs_model.specs.session.SlotEdits.{slot_of}
+use Rattle.lfs_model.specs.format.Slots.{Slot}
+use Rattle.lfs_model.specs.tree.Tree.{Path, struct_node}
+use Rattle.lfs_model.specs.tree.Shown.{struct_list_bytes, all_entries, tree_on_disk}
 use Rattle.lfs_model.proofs.Paths.{last_is}
 use Rattle.lfs_thread.specs.Kept.{KeptThread}
-use Rattle.lfs_tree.specs.TreeChanges.{IsSpotForNewName, IsSpotForNameNotFound, IsVacantPath, is_nothing_found}
-use Rattle.lfs_lookup.specs.Paths.{PathLeadsToLookupResult}
+use Rattle.lfs_tree.specs.TreeChanges.{IsNewSpot, IsAbsentSpot, IsVacantPath, is_nothing_found}
+use Rattle.lfs_lookup.specs.LookupPaths.{LeadsToResult}
 use Rattle.lfs_lookup.specs.declared.paths.PathLookup.{PathLookup}
 use Rattle.lfs_lookup.specs.declared.paths.PathLookup.TheVariants as found
 use Rattle.lfs_lookup.specs.declared.search.SlotPosition.{SlotPosition}
 
 -- what has a slot isn't vacant
-taken : (t : KeptThread) (path : Path) (x : Slot) → IsVacantPath (tree_on_disk t.disk t.pairs) path → slot_of_path t.pairs path ≡ Some x → ⊥
+taken : (t : KeptThread) (path : Path) (x : Slot) → IsVacantPath (tree_on_disk t.disk t.pairs) path → slot_of t.pairs path ≡ Some x → ⊥
 taken t path x v e =
-    let k = sym v.nothing ∙ ap (λ o. is_some (option_map (λ (f : Slot). node_of_struct_and_attributes (skip_list_bytes_on_disk t.disk) (entries_by_directory_in_thread t.pairs) f.attributes f.struct) o)) e in absurd (cc)
+    let k = sym v.nothing ∙ ap (λ o. is_some (option_map (λ (f : Slot). struct_node (struct_list_bytes t.disk) (all_entries t.pairs) f.attributes f.struct) o)) e in absurd (cc)
 
-pub place_found : (t : KeptThread) (path : Path) (f : PathLookup) → IsVacantPath (tree_on_disk t.disk t.pairs) path → PathLeadsToLookupResult t path f → is_nothing_found f ≡ true
+pub place_found : (t : KeptThread) (path : Path) (f : PathLookup) → IsVacantPath (tree_on_disk t.disk t.pairs) path → LeadsToResult t path f → is_nothing_found f ≡ true
 place_found t path found.Root v l = let k = sym v.nothing ∙ ap (λ p. is_some (tree_on_disk t.disk t.pairs p)) l.there in absurd (cc)
 place_found t path found.ParentIsFile v l = let k = sym v.parents ∙ l.parents in absurd (cc)
 place_found t path found.ParentIsMissing v l = let k = sym v.parents ∙ l.parents in absurd (cc)
 place_found t path (found.Nothing parent place) v l = refl
-place_found t path (found.Directory parent slot first) v l = let s = l.there.there.0 in absurd (taken t path s.stands.stands.slot v (ap (slot_of_path t.pairs) l.there.is ∙ s.slot))
-place_found t path (found.File parent slot contents) v l = let s = l.there.there.0 in absurd (taken t path s.stands.stands.slot v (ap (slot_of_path t.pairs) l.there.is ∙ s.slot))
+place_found t path (found.Directory parent slot first) v l = let s = l.there.there.0 in absurd (taken t path s.stands.stands.slot v (ap (slot_of t.pairs) l.there.is ∙ s.slot))
+place_found t path (found.File parent slot contents) v l = let s = l.there.there.0 in absurd (taken t path s.stands.stands.slot v (ap (slot_of t.pairs) l.there.is ∙ s.slot))
 
-pub place_for : (t : KeptThread) (path : Path) (f : PathLookup) (name : Name) (spot : SlotPosition) → IsVacantPath (tree_on_disk t.disk t.pairs) path → PathLeadsToLookupResult t path f → IsSpotForNameNotFound f spot → name ≡ last_name_of_path path → IsSpotForNewName t.disk.order t.pairs path name spot
+pub place_for : (t : KeptThread) (path : Path) (f : PathLookup) (name : Name) (spot : SlotPosition) → IsVacantPath (tree_on_disk t.disk t.pairs) path → LeadsToResult t path f → IsAbsentSpot f spot → name ≡ last_name path → IsNewSpot t.disk.order t.pairs path name spot
 place_for t path found.Root name spot v l h e = absurd h
 place_for t path found.ParentIsFile name spot v l h e = absurd h
 place_for t path found.ParentIsMissing name spot v l h e = absurd h
 place_for t path (found.Directory parent slot first) name spot v l h e = absurd h
 place_for t path (found.File parent slot contents) name spot v l h e = absurd h
 place_for t path (found.Nothing parent place) name spot v l h e =
-    let same : name ≡ l.there.name = e ∙ ap last_name_of_path l.there.is ∙ last_is l.there.above l.there.name in
+    let same : name ≡ l.there.name = e ∙ ap last_name l.there.is ∙ last_is l.there.above l.there.name in
     record {
       above = l.there.above;
       first = parent;
       is = l.there.is ∙ ap (λ n. l.there.above ++ n ∷ []) (sym same);
       on = l.there.there.on;
-      belongs = subst (λ (s : SlotPosition). IsPlaceWhereNameBelongs t.disk.order t.pairs parent name s.pair s.id) h (subst (λ n. IsPlaceWhereNameBelongs t.disk.order t.pairs parent n place.pair place.id) (sym same) l.there.there.belongs);
+      belongs = subst (λ (s : SlotPosition). BelongsAt t.disk.order t.pairs parent name s.pair s.id) h (subst (λ n. BelongsAt t.disk.order t.pairs parent n place.pair place.id) (sym same) l.there.there.belongs);
     }
 
-pub last_of_map : {A : Type 0} (f : A → Name) (xs above : List A) (x : A) → xs ≡ above ++ x ∷ [] → f x ≡ last_name_of_path (map f xs)
-last_of_map f xs above x e = sym (ap last_name_of_path (ap (map f) e ∙ map-append f above (x ∷ [])) ∙ last_is (map f above) (f x))
+pub last_of_map : {A : Type 0} (f : A → Name) (xs above : List A) (x : A) → xs ≡ above ++ x ∷ [] → f x ≡ last_name (map f xs)
+last_of_map f xs above x e = sym (ap last_name (ap (map f) e ∙ map-append f above (x ∷ [])) ∙ last_is (map f above) (f x))

@@ -5,74 +5,74 @@ use Rattle.std.specs.List.{list_all}
 use Rattle.std.proofs.Math.Nat.{min-le_right}
 use Rattle.std.proofs.lemmas.Bool.{le-leb, ltb-false}
 use Rattle.std.proofs.lemmas.Option.{same_Some}
-use Rattle.lfs_model.specs.TreeEdits.{last_name_of_path}
-use Rattle.lfs_model.specs.BlockSets.{BlockStateList, IsBlockFree, is_block_state_in_flight, is_used}
-use Rattle.lfs_model.specs.BlockSets.BlockState.{Free, InFlight}
-use Rattle.lfs_model.specs.Names.{is_path_component, is_valid_name}
-use Rattle.lfs_model.specs.Disk.{name_max_of}
-use Rattle.lfs_model.specs.Session.{DiskSummary, has_too_long_last_name}
-use Rattle.lfs_model.specs.Tree.{Path}
-use Rattle.lfs_model.proofs.BlockSets.{count_by-set, counts_from_none_free, slice_get-set_other, slice_get-set_same, used_count-AreExactlyTheUsedBlocks}
-use Rattle.lfs_operations.specs.Changing.{AreTwoFreeBlocks, HasTwoFreeBlocks}
-use Rattle.lfs_operations.specs.Making.{HasSoManyFreeBlocks}
+use Rattle.lfs_model.specs.session.TreeEdits.{last_name}
+use Rattle.lfs_model.specs.layers.BlockSets.{BlockStates, IsFree, state_in_flight, is_used}
+use Rattle.lfs_model.specs.layers.BlockSets.BlockState.{Free, InFlight}
+use Rattle.lfs_model.specs.format.Names.{is_component, is_valid_name}
+use Rattle.lfs_model.specs.format.Disk.{name_max_of}
+use Rattle.lfs_model.specs.session.Session.{DiskSummary, has_long_name}
+use Rattle.lfs_model.specs.tree.Tree.{Path}
+use Rattle.lfs_model.proofs.BlockSets.{count_by-set, counts_from_none_free, slice_get-set_other, slice_get-set_same, used_count-AreUsed}
+use Rattle.lfs_operations.specs.Changing.{AreTwoFree, HasTwoFree}
+use Rattle.lfs_operations.specs.Making.{HasFreeBlocks}
 use Rattle.lfs_thread.specs.Kept.{KeptThread}
-use Rattle.lfs_tree.specs.Permissions.{HasFreeBlocksForNeed}
-use Rattle.lfs_tree.specs.RootedThreads.{tree_state_of_kept_thread}
-use Rattle.lfs_tree.specs.TreeState.{IsSoundTreeState}
+use Rattle.lfs_tree.specs.Permissions.{HasNeededBlocks}
+use Rattle.lfs_tree.specs.RootedThreads.{kept_state}
+use Rattle.lfs_tree.specs.TreeState.{IsSoundState}
 
 -- ---- room
 
-pub room_for : (t : KeptThread) (need : ℕ) → IsSoundTreeState (tree_state_of_kept_thread t true false) → HasFreeBlocksForNeed (tree_state_of_kept_thread t true false) need → HasSoManyFreeBlocks need t.map
+pub room_for : (t : KeptThread) (need : ℕ) → IsSoundState (kept_state t true false) → HasNeededBlocks (kept_state t true false) need → HasFreeBlocks need t.map
 room_for t need sound room =
-    let e = used_count-AreExactlyTheUsedBlocks t.map _ sound.accepted.owned_once sound.used in
+    let e = used_count-AreUsed t.map _ sound.accepted.owned_once sound.used in
     let l = sound.size in
     omega (arith, room)
 
-within : (sets : BlockStateList) (b : ℕ) → IsBlockFree sets b → b < length sets
+within : (sets : BlockStates) (b : ℕ) → IsFree sets b → b < length sets
 within [] b e = absurd (cc)
 within (x ∷ sets) zero e = omega arith
 within (x ∷ sets) (suc b) e = let l = within sets b e in omega arith
 
-two_free : (sets : BlockStateList) (a b : ℕ) → IsBlockFree sets a → IsBlockFree (set sets a InFlight) b → AreTwoFreeBlocks sets (a, b)
+two_free : (sets : BlockStates) (a b : ℕ) → IsFree sets a → IsFree (set sets a InFlight) b → AreTwoFree sets (a, b)
 two_free sets a b first second = record { apart = apart; first = first; second = sym (slice_get-set_other sets a b InFlight (λ e. apart (sym e))) ∙ second }
   where
     apart : a ≢ b
     apart e = let k = same_Some InFlight Free (sym (slice_get-set_same sets a InFlight (within sets a first)) ∙ subst (λ z. slice_get (set sets a InFlight) z ≡ Some Free) (sym e) second) in absurd (cc)
 
 -- where there is room for two, two are free
-pub no_room : (sets : BlockStateList) → HasSoManyFreeBlocks 2 sets → (HasTwoFreeBlocks sets → ⊥) → ⊥
+pub no_room : (sets : BlockStates) → HasFreeBlocks 2 sets → (HasTwoFree sets → ⊥) → ⊥
 no_room sets room none = not_none (λ a free. go a free)
   where
-    not_none : ((b : ℕ) → IsBlockFree sets b → ⊥) → ⊥
+    not_none : ((b : ℕ) → IsFree sets b → ⊥) → ⊥
     not_none f = let e = counts_from_none_free sets f in absurd (omega (arith, room))
 
-    go : (a : ℕ) → IsBlockFree sets a → ⊥
+    go : (a : ℕ) → IsFree sets a → ⊥
     go a free =
-        let one : BlockStateList = set sets a InFlight in
+        let one : BlockStates = set sets a InFlight in
         let u = count_by-set is_used sets a Free InFlight free in
-        let i = count_by-set is_block_state_in_flight sets a Free InFlight free in
+        let i = count_by-set state_in_flight sets a Free InFlight free in
         let l = length-set sets a InFlight in
         let e = counts_from_none_free one (λ b other. none ((a, b), two_free sets a b free other)) in
         absurd (omega (arith, room))
 
 -- ---- names
 
-last_component : (path : Path) → path ≢ [] → list_all is_path_component path ≡ true → is_path_component (last_name_of_path path) ≡ true
+last_component : (path : Path) → path ≢ [] → list_all is_component path ≡ true → is_component (last_name path) ≡ true
 last_component [] some all = absurd (some refl)
-last_component (n ∷ []) some all = first_holds (is_path_component n) true all
+last_component (n ∷ []) some all = first_holds (is_component n) true all
   where
     first_holds : (x y : Bool) → (x && y) ≡ true → x ≡ true
     first_holds true y e = refl
     first_holds false y e = absurd (cc)
-last_component (n ∷ m ∷ path) some all = last_component (m ∷ path) (λ e. absurd (cc)) (behind (is_path_component n) (list_all is_path_component (m ∷ path)) all)
+last_component (n ∷ m ∷ path) some all = last_component (m ∷ path) (λ e. absurd (cc)) (behind (is_component n) (list_all is_component (m ∷ path)) all)
   where
     behind : (x y : Bool) → (x && y) ≡ true → y ≡ true
     behind true y e = e
     behind false y e = absurd (cc)
 
-pub last_is_name : (around : DiskSummary) (path : Path) → path ≢ [] → list_all is_path_component path ≡ true → has_too_long_last_name around path ≡ false → is_valid_name (last_name_of_path path) ≡ true
+pub last_is_name : (around : DiskSummary) (path : Path) → path ≢ [] → list_all is_component path ≡ true → has_long_name around path ≡ false → is_valid_name (last_name path) ≡ true
 last_is_name around path some all long =
-    let n = length (last_name_of_path path) in
+    let n = length (last_name path) in
     let short = ltb-false (name_max_of around.profile) n long in
     let most = min-le_right around.profile.name_max 255 in
     ap₂ (λ x y. x && y) (last_component path some all) (le-leb n 255 (omega arith))

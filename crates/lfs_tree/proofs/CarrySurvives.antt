@@ -1,45 +1,45 @@
 -- A loss of power in an operation on a path, behind calls that only read.
 use Rattle.std.proofs.Common.{ℕ, ◌≡◌, inl, inr, false, if◌then◌else◌, Option, Some, None, List, [], refl, sym, subst}
 use Rattle.std.specs.Prelude.{is_none, is_some}
-use Rattle.lfs_model.specs.TreeEdits.{tree_after_creation}
-use Rattle.lfs_model.specs.Disk.{Disk, SameGeometry}
-use Rattle.lfs_model.specs.History.{DeviceCallEvent, IsTrueOfEachCallSince, AreCallsSinceOnlyReads}
-use Rattle.lfs_model.specs.PowerLoss.{HasTreeBeforeOrAfterOperation, SurvivesPowerLossInCallsSince, disk_with_blocks}
-use Rattle.lfs_model.specs.Tree.{FileNode, Node, Path, Tree}
-use Rattle.lfs_model.specs.View.{IsAcceptedImage}
-use Rattle.lfs_model.specs.Profile.{IsWritableImage}
-use Rattle.lfs_model.specs.Shown.{tree_on_disk}
+use Rattle.lfs_model.specs.session.TreeEdits.{tree_creating}
+use Rattle.lfs_model.specs.format.Disk.{Disk, SameGeometry}
+use Rattle.lfs_model.specs.session.History.{CallEvent, AllCallsSince, OnlyReadsSince}
+use Rattle.lfs_model.specs.crash.PowerLoss.{HasEither, SurvivesLossSince, with_blocks}
+use Rattle.lfs_model.specs.tree.Tree.{FileNode, Node, Path, Tree}
+use Rattle.lfs_model.specs.tree.View.{IsAccepted}
+use Rattle.lfs_model.specs.tree.Profile.{IsWritable}
+use Rattle.lfs_model.specs.tree.Shown.{tree_on_disk}
 use Rattle.lfs_model.proofs.AfterStops.{survives_then}
-use Rattle.lfs_model.proofs.Histories.{IsTrueAfterAnyPowerLossSince-read_count_of_history, AreBlocksLeftByPowerLossInCall-read}
+use Rattle.lfs_model.proofs.Histories.{HoldsAtLosses-read_count, LeftByLoss-read}
 use Rattle.lfs_thread.specs.Kept.{KeptThread, ThreadView}
-use Rattle.lfs_thread.specs.Steps.{ThreadChangesOnlyTheseBlocks}
-use Rattle.lfs_tree.specs.TreeChanges.{CanChangeRecoveredImage, SurvivesWithOldOrNewTree}
+use Rattle.lfs_thread.specs.ThreadSteps.{ChangesThreadBlocks}
+use Rattle.lfs_tree.specs.TreeChanges.{CanChangeRecovered, SurvivesEither}
 use Rattle.lfs_tree.proofs.Carried.{with_history}
 
-pub survives_reading : (t : ThreadView) (root : ℕ) → CanChangeRecoveredImage t root → (h : List DeviceCallEvent) → AreCallsSinceOnlyReads t.kept.disk.blocks t.kept.history h → (after : Tree) →
-    SurvivesPowerLossInCallsSince t.kept.disk t.kept.history h (tree_on_disk t.kept.disk t.kept.pairs) after
-survives_reading t root rests h reads after clean = IsTrueAfterAnyPowerLossSince-read_count_of_history AreBlocksLeftByPowerLossInCall-read reads (record { pairs = t.kept.pairs; accepted = rests.held.sound.accepted; writable = rests.held.sound.fits refl; tree = inl refl })
+pub survives_reading : (t : ThreadView) (root : ℕ) → CanChangeRecovered t root → (h : List CallEvent) → OnlyReadsSince t.kept.disk.blocks t.kept.history h → (after : Tree) →
+    SurvivesLossSince t.kept.disk t.kept.history h (tree_on_disk t.kept.disk t.kept.pairs) after
+survives_reading t root rests h reads after clean = HoldsAtLosses-read_count LeftByLoss-read reads (record { pairs = t.kept.pairs; accepted = rests.held.sound.accepted; writable = rests.held.sound.fits refl; tree = inl refl })
 
-pub survives_behind : (t : ThreadView) (root : ℕ) → CanChangeRecoveredImage t root → (h : List DeviceCallEvent) (c : KeptThread) (bs : List ℕ) (after : Tree) → AreCallsSinceOnlyReads t.kept.disk.blocks t.kept.history h → ThreadChangesOnlyTheseBlocks bs (with_history t.kept h) c →
-    SurvivesWithOldOrNewTree (with_history t.kept h) c after → SurvivesWithOldOrNewTree t.kept c after
+pub survives_behind : (t : ThreadView) (root : ℕ) → CanChangeRecovered t root → (h : List CallEvent) (c : KeptThread) (bs : List ℕ) (after : Tree) → OnlyReadsSince t.kept.disk.blocks t.kept.history h → ChangesThreadBlocks bs (with_history t.kept h) c →
+    SurvivesEither (with_history t.kept h) c after → SurvivesEither t.kept c after
 survives_behind t root rests h c bs after reads w k =
     survives_then t.kept.disk t.kept.history h c.history (tree_on_disk t.kept.disk t.kept.pairs) after reads w.at_worst (survives_reading t root rests h reads after) k
 
 -- a stop in a call that only reads behind calls that left such a tree leaves it
-pub survives_left : {P : DeviceCallEvent → Type 0} (t c : KeptThread) (h : List DeviceCallEvent) (after : Tree) → SameGeometry t.disk c.disk → IsTrueOfEachCallSince P t.history c.history → IsAcceptedImage c.disk c.pairs → IsWritableImage c.disk c.pairs
-    → tree_on_disk c.disk c.pairs ≡ after → AreCallsSinceOnlyReads c.disk.blocks c.history h → SurvivesWithOldOrNewTree t c after → SurvivesPowerLossInCallsSince t.disk t.history h (tree_on_disk t.disk t.pairs) after
+pub survives_left : {P : CallEvent → Type 0} (t c : KeptThread) (h : List CallEvent) (after : Tree) → SameGeometry t.disk c.disk → AllCallsSince P t.history c.history → IsAccepted c.disk c.pairs → IsWritable c.disk c.pairs
+    → tree_on_disk c.disk c.pairs ≡ after → OnlyReadsSince c.disk.blocks c.history h → SurvivesEither t c after → SurvivesLossSince t.disk t.history h (tree_on_disk t.disk t.pairs) after
 survives_left t c h after geometry since accepted fits shows reads k =
     survives_then t.disk t.history c.history h (tree_on_disk t.disk t.pairs) after since reads k
-    (λ clean. IsTrueAfterAnyPowerLossSince-read_count_of_history AreBlocksLeftByPowerLossInCall-read reads (subst (λ disk. HasTreeBeforeOrAfterOperation disk (tree_on_disk t.disk t.pairs) after) (sym (same_disk t.disk c.disk geometry))
+    (λ clean. HoldsAtLosses-read_count LeftByLoss-read reads (subst (λ disk. HasEither disk (tree_on_disk t.disk t.pairs) after) (sym (same_disk t.disk c.disk geometry))
     (record { pairs = c.pairs; accepted = accepted; writable = fits; tree = inr shows })))
   where
-    same_disk : (disk new : Disk) → SameGeometry disk new → disk_with_blocks new.blocks disk ≡ new
+    same_disk : (disk new : Disk) → SameGeometry disk new → with_blocks new.blocks disk ≡ new
     same_disk disk new g = λ j. record { block_size = sym g.block_size j; page = sym g.page j; order = sym g.order j; profile = sym g.profile j; blocks = new.blocks }
 
 -- the tree with an empty file, where nothing was
-pub created_shows : (t : Tree) (p q : Path) → q ≡ p → is_some (t p) ≡ false → (if is_none (t q) then tree_after_creation q (FileNode [] []) t else t) ≡ tree_after_creation p (FileNode [] []) t
-created_shows t p q e nothing = subst (λ x. (if is_none (t x) then tree_after_creation x (FileNode [] []) t else t) ≡ tree_after_creation p (FileNode [] []) t) (sym e) (go (t p) nothing)
+pub created_shows : (t : Tree) (p q : Path) → q ≡ p → is_some (t p) ≡ false → (if is_none (t q) then tree_creating q (FileNode [] []) t else t) ≡ tree_creating p (FileNode [] []) t
+created_shows t p q e nothing = subst (λ x. (if is_none (t x) then tree_creating x (FileNode [] []) t else t) ≡ tree_creating p (FileNode [] []) t) (sym e) (go (t p) nothing)
   where
-    go : (o : Option Node) → is_some o ≡ false → (if is_none o then tree_after_creation p (FileNode [] []) t else t) ≡ tree_after_creation p (FileNode [] []) t
+    go : (o : Option Node) → is_some o ≡ false → (if is_none o then tree_creating p (FileNode [] []) t else t) ≡ tree_creating p (FileNode [] []) t
     go None e = refl
     go (Some n) e = absurd (cc)

@@ -4,36 +4,36 @@ use Rattle.std.specs.Prelude.{Contains}
 use Rattle.std.specs.List.{IsDistinct, flat_map}
 use Rattle.std.proofs.lemmas.Bool.{cases_lt}
 use Rattle.std.proofs.lemmas.List.Elements.{All-contains, All-from_recursion, recursion_from_All}
-use Rattle.lfs_model.specs.BlockSets.{AreExactlyTheUsedBlocks, IsBlockFree, IsBlockInFlight, IsBlockMarkedUsedInMap, in_flight_block_count}
-use Rattle.lfs_model.specs.Disk.{Disk, inline_limit}
-use Rattle.lfs_model.specs.History.{DeviceCallEvent}
-use Rattle.lfs_model.specs.SkipLists.{list_block_count_for_size, bytes_of_skip_list}
-use Rattle.lfs_model.specs.Session.{skip_list_block_count_unless_inline}
-use Rattle.lfs_model.specs.SlotEdits.{slot_of_path}
-use Rattle.lfs_model.specs.Slots.{Slot, Struct, Inline, Ctz, Branch}
-use Rattle.lfs_model.specs.Thread.{blocks_of_pairs}
-use Rattle.lfs_model.specs.Tree.{Path}
-use Rattle.lfs_model.specs.View.{IsAcceptedImage, IsSkipListIfCtzStruct}
-use Rattle.lfs_model.specs.Shown.{all_slots_not_moved, skip_list_blocks_of_struct, used_blocks}
+use Rattle.lfs_model.specs.layers.BlockSets.{AreUsed, IsFree, IsInFlight, IsUsedBlock, in_flight_count}
+use Rattle.lfs_model.specs.format.Disk.{Disk, inline_limit}
+use Rattle.lfs_model.specs.session.History.{CallEvent}
+use Rattle.lfs_model.specs.format.SkipLists.{block_count_for, list_bytes}
+use Rattle.lfs_model.specs.session.Session.{list_blocks_of}
+use Rattle.lfs_model.specs.session.SlotEdits.{slot_of}
+use Rattle.lfs_model.specs.format.Slots.{Slot, Struct, Inline, Ctz, Branch}
+use Rattle.lfs_model.specs.format.Thread.{blocks_of_pairs}
+use Rattle.lfs_model.specs.tree.Tree.{Path}
+use Rattle.lfs_model.specs.tree.View.{IsAccepted, IsWellFormedCtz}
+use Rattle.lfs_model.specs.tree.Shown.{all_slots_not_moved, struct_blocks, used_blocks}
 use Rattle.lfs_model.proofs.BlockCounts.{few_flying}
-use Rattle.lfs_model.proofs.BlockSets.{Contains-occurrence_count_of_number, occurrence_count_of_number-Contains}
-use Rattle.lfs_model.proofs.Counts.{Each, occurrence_count_of_number, count_append, each_from_counted, each_pieces, once_from_distinct}
+use Rattle.lfs_model.proofs.BlockSets.{Contains-number_count, number_count-Contains}
+use Rattle.lfs_model.proofs.Counts.{Each, number_count, count_append, each_from_counted, each_pieces, once_from_distinct}
 use Rattle.lfs_model.proofs.Files.{length_back}
-use Rattle.lfs_tree.specs.StructChanges.{IsStructOfContentsWithNewBlocksInFlight}
-use Rattle.lfs_tree.specs.SettledFiles.{blocks_of_list_on_thread}
-use Rattle.lfs_tree.specs.ThreadContents.{AreContentsConsistentWithThread}
+use Rattle.lfs_tree.specs.StructChanges.{IsContentsStruct}
+use Rattle.lfs_tree.specs.SettledFiles.{thread_list_blocks}
+use Rattle.lfs_tree.specs.ThreadContents.{AreOnThread}
 use Rattle.lfs_tree.proofs.Coming.{inline_comes, list_comes}
-use Rattle.lfs_operations.specs.Making.{HasSoManyFreeBlocks}
+use Rattle.lfs_operations.specs.Making.{HasFreeBlocks}
 use Rattle.lfs_thread.specs.Kept.{KeptThread}
-use Rattle.lfs_tree.specs.OpenContents.{AreWriterContentsOverFileOnThread, skip_list_blocks_of_slot, bytes_of_writer_contents}
-use Rattle.lfs_tree.specs.Stores.{CanCommitContentsAtPath, IsFinishedAndInlineExactlyUpToLimit, stored_skip_list_of_finished_contents, skip_list_in_struct, struct_of_finished_contents}
+use Rattle.lfs_tree.specs.OpenContents.{OverThreadFile, slot_list_blocks, writer_contents_bytes}
+use Rattle.lfs_tree.specs.Stores.{CanCommitContents, IsFinishedInline, finished_list, list_in_struct, finished_struct}
 use Rattle.lfs_lookup.proofs.AtPaths.{SizedLists}
 use Rattle.lfs_tree.proofs.Carried.{with_history}
 use Rattle.lfs_tree.proofs.OpenedFiles.{marked_there, no_flight}
 use Rattle.lfs_tree.proofs.SlotsHave.{slot_has}
-use Rattle.lfs_file.specs.Bases.{IsSkipListOnDiskUnlessEmpty}
-use Rattle.lfs_file.specs.Contents.{storage_form_of_contents}
-use Rattle.lfs_file.specs.Hand.{IsFinishedListConsistentWithMapAndDisk as IsStoredList}
+use Rattle.lfs_file.specs.Bases.{IsListOrEmpty}
+use Rattle.lfs_file.specs.Contents.{contents_form}
+use Rattle.lfs_file.specs.Hand.{FinishedListOnDisk as IsStoredList}
 use Rattle.lfs_file.specs.declared.contents.WriterContents.{WriterContents}
 use Rattle.lfs_file.specs.declared.contents.WriterContents.TheVariants.{InMemory, Finished, InHand}
 use Rattle.lfs_file.specs.declared.stored_list.StoredList.{StoredList}
@@ -44,109 +44,109 @@ none_distinct : IsDistinct nat_eq []
 unfolding IsDistinct
 none_distinct = tt
 
-pub distinct_list : (disk : Disk) (s : Struct) → IsSkipListIfCtzStruct disk s → IsDistinct nat_eq (skip_list_blocks_of_struct disk s)
+pub distinct_list : (disk : Disk) (s : Struct) → IsWellFormedCtz disk s → IsDistinct nat_eq (struct_blocks disk s)
 distinct_list disk (Inline bytes) ok = none_distinct
 distinct_list disk (Ctz head size) ok = ok.blocks.distinct
 distinct_list disk (Branch to) ok = none_distinct
 
 -- a slot's list, by what it says
-pub blocks_before_is : (t : KeptThread) (s : Struct) → blocks_of_list_on_thread t (skip_list_in_struct s) ≡ skip_list_blocks_of_struct t.disk s
+pub blocks_before_is : (t : KeptThread) (s : Struct) → thread_list_blocks t (list_in_struct s) ≡ struct_blocks t.disk s
 blocks_before_is t (Inline bytes) = refl
 blocks_before_is t (Ctz head size) = refl
 blocks_before_is t (Branch to) = refl
 
-pub blocks_now_is : (t : KeptThread) (c : WriterContents) → blocks_of_list_on_thread t (stored_skip_list_of_finished_contents c) ≡ skip_list_blocks_of_struct t.disk (struct_of_finished_contents c)
+pub blocks_now_is : (t : KeptThread) (c : WriterContents) → thread_list_blocks t (finished_list c) ≡ struct_blocks t.disk (finished_struct c)
 blocks_now_is t (InMemory list) = refl
 blocks_now_is t (Finished s) = refl
 blocks_now_is t (InHand hand) = refl
 
-pub base_before : (disk : Disk) (s : Struct) → IsSkipListIfCtzStruct disk s → IsSkipListOnDiskUnlessEmpty disk.blocks disk.block_size (skip_list_in_struct s).head (skip_list_in_struct s).size
+pub base_before : (disk : Disk) (s : Struct) → IsWellFormedCtz disk s → IsListOrEmpty disk.blocks disk.block_size (list_in_struct s).head (list_in_struct s).size
 base_before disk (Inline bytes) ok = inl refl
 base_before disk (Ctz head size) ok = inr ok
 base_before disk (Branch to) ok = inl refl
 
-pub base_now : (disk : Disk) (c : WriterContents) → IsSkipListIfCtzStruct disk (struct_of_finished_contents c) → IsSkipListOnDiskUnlessEmpty disk.blocks disk.block_size (stored_skip_list_of_finished_contents c).head (stored_skip_list_of_finished_contents c).size
+pub base_now : (disk : Disk) (c : WriterContents) → IsWellFormedCtz disk (finished_struct c) → IsListOrEmpty disk.blocks disk.block_size (finished_list c).head (finished_list c).size
 base_now disk (InMemory list) ok = inl refl
 base_now disk (Finished s) ok = inr ok
 base_now disk (InHand hand) ok = inl refl
 
 -- ---- what may come
 
-module _ (t : KeptThread) (path : Path) (u : Slot) (ok : IsAcceptedImage t.disk t.pairs) (used : AreExactlyTheUsedBlocks t.map (used_blocks t.disk t.pairs)) (at : slot_of_path t.pairs path ≡ Some u) (sized : SizedLists t.disk) where
-  pub list_there : IsSkipListIfCtzStruct t.disk u.struct
-  list_there = slot_has (λ (s : Slot). IsSkipListIfCtzStruct t.disk s.struct) t.disk t.pairs ok (recursion_from_All (λ (s : Slot). IsSkipListIfCtzStruct t.disk s.struct) (all_slots_not_moved t.pairs) ok.lists) tt path u at
+module _ (t : KeptThread) (path : Path) (u : Slot) (ok : IsAccepted t.disk t.pairs) (used : AreUsed t.map (used_blocks t.disk t.pairs)) (at : slot_of t.pairs path ≡ Some u) (sized : SizedLists t.disk) where
+  pub list_there : IsWellFormedCtz t.disk u.struct
+  list_there = slot_has (λ (s : Slot). IsWellFormedCtz t.disk s.struct) t.disk t.pairs ok (recursion_from_All (λ (s : Slot). IsWellFormedCtz t.disk s.struct) (all_slots_not_moved t.pairs) ok.lists) tt path u at
 
   -- a block of the file's list is no pair's
-  pub list_apart : (b : ℕ) → 1 ≤ occurrence_count_of_number b (skip_list_blocks_of_struct t.disk u.struct) → occurrence_count_of_number b (blocks_of_pairs t.pairs) ≡ 0
+  pub list_apart : (b : ℕ) → 1 ≤ number_count b (struct_blocks t.disk u.struct) → number_count b (blocks_of_pairs t.pairs) ≡ 0
   list_apart b some =
-      let files = flat_map (λ (s : Slot). skip_list_blocks_of_struct t.disk s.struct) (all_slots_not_moved t.pairs) in
-      let each = slot_has (λ (s : Slot). Each (λ c. 1 ≤ occurrence_count_of_number c (flat_map (λ (x : Slot). skip_list_blocks_of_struct t.disk x.struct) (all_slots_not_moved t.pairs))) (skip_list_blocks_of_struct t.disk s.struct)) t.disk t.pairs ok
-      (each_pieces (λ c. 1 ≤ occurrence_count_of_number c (flat_map (λ (x : Slot). skip_list_blocks_of_struct t.disk x.struct) (all_slots_not_moved t.pairs))) (λ (s : Slot). skip_list_blocks_of_struct t.disk s.struct) (all_slots_not_moved t.pairs)
-      (each_from_counted (λ c. 1 ≤ occurrence_count_of_number c (flat_map (λ (x : Slot). skip_list_blocks_of_struct t.disk x.struct) (all_slots_not_moved t.pairs))) (flat_map (λ (x : Slot). skip_list_blocks_of_struct t.disk x.struct) (all_slots_not_moved t.pairs)) (λ c h. h))) tt path u at in
-      let here : 1 ≤ occurrence_count_of_number b (flat_map (λ (x : Slot). skip_list_blocks_of_struct t.disk x.struct) (all_slots_not_moved t.pairs))
-      = All-contains (λ c. 1 ≤ occurrence_count_of_number c (flat_map (λ (x : Slot). skip_list_blocks_of_struct t.disk x.struct) (all_slots_not_moved t.pairs))) (skip_list_blocks_of_struct t.disk u.struct) b
-      (All-from_recursion (λ c. 1 ≤ occurrence_count_of_number c (flat_map (λ (x : Slot). skip_list_blocks_of_struct t.disk x.struct) (all_slots_not_moved t.pairs))) (skip_list_blocks_of_struct t.disk u.struct) each) (Contains-occurrence_count_of_number (skip_list_blocks_of_struct t.disk u.struct) b some) in
-      let e = count_append b (blocks_of_pairs t.pairs) (flat_map (λ (x : Slot). skip_list_blocks_of_struct t.disk x.struct) (all_slots_not_moved t.pairs)) in
+      let files = flat_map (λ (s : Slot). struct_blocks t.disk s.struct) (all_slots_not_moved t.pairs) in
+      let each = slot_has (λ (s : Slot). Each (λ c. 1 ≤ number_count c (flat_map (λ (x : Slot). struct_blocks t.disk x.struct) (all_slots_not_moved t.pairs))) (struct_blocks t.disk s.struct)) t.disk t.pairs ok
+      (each_pieces (λ c. 1 ≤ number_count c (flat_map (λ (x : Slot). struct_blocks t.disk x.struct) (all_slots_not_moved t.pairs))) (λ (s : Slot). struct_blocks t.disk s.struct) (all_slots_not_moved t.pairs)
+      (each_from_counted (λ c. 1 ≤ number_count c (flat_map (λ (x : Slot). struct_blocks t.disk x.struct) (all_slots_not_moved t.pairs))) (flat_map (λ (x : Slot). struct_blocks t.disk x.struct) (all_slots_not_moved t.pairs)) (λ c h. h))) tt path u at in
+      let here : 1 ≤ number_count b (flat_map (λ (x : Slot). struct_blocks t.disk x.struct) (all_slots_not_moved t.pairs))
+      = All-contains (λ c. 1 ≤ number_count c (flat_map (λ (x : Slot). struct_blocks t.disk x.struct) (all_slots_not_moved t.pairs))) (struct_blocks t.disk u.struct) b
+      (All-from_recursion (λ c. 1 ≤ number_count c (flat_map (λ (x : Slot). struct_blocks t.disk x.struct) (all_slots_not_moved t.pairs))) (struct_blocks t.disk u.struct) each) (Contains-number_count (struct_blocks t.disk u.struct) b some) in
+      let e = count_append b (blocks_of_pairs t.pairs) (flat_map (λ (x : Slot). struct_blocks t.disk x.struct) (all_slots_not_moved t.pairs)) in
       let o = once_from_distinct (used_blocks t.disk t.pairs) ok.owned_once b in
       omega arith
 
-  pub list_used : (b : ℕ) → 1 ≤ occurrence_count_of_number b (skip_list_blocks_of_struct t.disk u.struct) → IsBlockMarkedUsedInMap t.map b
-  list_used b some = All-contains (IsBlockMarkedUsedInMap t.map) (skip_list_blocks_of_struct t.disk u.struct) b (marked_there t path u ok used at) (Contains-occurrence_count_of_number (skip_list_blocks_of_struct t.disk u.struct) b some)
+  pub list_used : (b : ℕ) → 1 ≤ number_count b (struct_blocks t.disk u.struct) → IsUsedBlock t.map b
+  list_used b some = All-contains (IsUsedBlock t.map) (struct_blocks t.disk u.struct) b (marked_there t path u ok used at) (Contains-number_count (struct_blocks t.disk u.struct) b some)
 
-  stored_of : (s : StoredList) → AreContentsConsistentWithThread t (Finished s) → IsStoredList t.map t.disk.blocks t.disk.block_size s
+  stored_of : (s : StoredList) → AreOnThread t (Finished s) → IsStoredList t.map t.disk.blocks t.disk.block_size s
   stored_of s stands = subst (λ (n : ℕ). IsStoredList t.map t.disk.blocks n s) stands.divided.block_size stands.stands
 
-  size_of_list : (s : StoredList) (limit : ℕ) → limit < s.size → AreContentsConsistentWithThread t (Finished s) → s.size ≡ length (bytes_of_writer_contents t (Finished s))
+  size_of_list : (s : StoredList) (limit : ℕ) → limit < s.size → AreOnThread t (Finished s) → s.size ≡ length (writer_contents_bytes t (Finished s))
   size_of_list s limit large stands = sym (sized s.head s.size (⊎_elim (λ none. absurd (omega arith)) (λ list. list) (stored_of s stands).base))
 
-  pub may_come : (c : WriterContents) → AreWriterContentsOverFileOnThread t path c → IsFinishedAndInlineExactlyUpToLimit (inline_limit t.disk.profile t.disk.block_size) (storage_form_of_contents c) → IsStructOfContentsWithNewBlocksInFlight t (bytes_of_writer_contents t c) u.struct (struct_of_finished_contents c)
-  may_come (InMemory list) over few = inline_comes t (bytes_of_writer_contents t (InMemory list)) u.struct few
+  pub may_come : (c : WriterContents) → OverThreadFile t path c → IsFinishedInline (inline_limit t.disk.profile t.disk.block_size) (contents_form c) → IsContentsStruct t (writer_contents_bytes t c) u.struct (finished_struct c)
+  may_come (InMemory list) over few = inline_comes t (writer_contents_bytes t (InMemory list)) u.struct few
   may_come (Finished s) over large =
       let size = size_of_list s (inline_limit t.disk.profile t.disk.block_size) large over.stands in
-      list_comes t s (bytes_of_writer_contents t (Finished s)) (storage_form_of_contents (Finished s)) u.struct
+      list_comes t s (writer_contents_bytes t (Finished s)) (contents_form (Finished s)) u.struct
       (record {
         geometry = over.stands.geometry;
         divided = over.stands.divided;
-        has = record { stands = over.stands.stands; has = ap (λ (n : ℕ). bytes_of_skip_list t.disk.blocks n s.head s.size) over.stands.divided.block_size; form = refl };
+        has = record { stands = over.stands.stands; has = ap (λ (n : ℕ). list_bytes t.disk.blocks n s.head s.size) over.stands.divided.block_size; form = refl };
       }) size (omega arith)
-      (record { each = λ b has is. subst (λ (o : Option Slot). Contains (skip_list_blocks_of_slot t.disk o) b) at (over.owned.each b has is) })
+      (record { each = λ b has is. subst (λ (o : Option Slot). Contains (slot_list_blocks t.disk o) b) at (over.owned.each b has is) })
       (distinct_list t.disk u.struct list_there)
   may_come (InHand hand) over never = absurd never
 
   -- blocks in flight are those of the contents
-  pub flying_in : (c : WriterContents) → AreWriterContentsOverFileOnThread t path c → IsFinishedAndInlineExactlyUpToLimit (inline_limit t.disk.profile t.disk.block_size) (storage_form_of_contents c) → (b : ℕ) → IsBlockInFlight t.map b → Contains (skip_list_blocks_of_struct t.disk (struct_of_finished_contents c)) b
+  pub flying_in : (c : WriterContents) → OverThreadFile t path c → IsFinishedInline (inline_limit t.disk.profile t.disk.block_size) (contents_form c) → (b : ℕ) → IsInFlight t.map b → Contains (struct_blocks t.disk (finished_struct c)) b
   flying_in (InMemory list) over few b flies = absurd (over.stands.stands.idle.none b flies)
   flying_in (Finished s) over large b flies = ((stored_of s over.stands).flying b flies).1
   flying_in (InHand hand) over never b flies = absurd never
 
   -- none of these is free, or a pair's
-  pub coming_taken : (c : WriterContents) → AreWriterContentsOverFileOnThread t path c → IsFinishedAndInlineExactlyUpToLimit (inline_limit t.disk.profile t.disk.block_size) (storage_form_of_contents c) → (b : ℕ) → 1 ≤ occurrence_count_of_number b (skip_list_blocks_of_struct t.disk (struct_of_finished_contents c)) → IsBlockFree t.map b → ⊥
+  pub coming_taken : (c : WriterContents) → OverThreadFile t path c → IsFinishedInline (inline_limit t.disk.profile t.disk.block_size) (contents_form c) → (b : ℕ) → 1 ≤ number_count b (struct_blocks t.disk (finished_struct c)) → IsFree t.map b → ⊥
   coming_taken (InMemory list) over few b some = absurd (omega arith)
-  coming_taken (Finished s) over large b some = All-contains (λ x. ¬ (IsBlockFree t.map x)) (blocks_of_list_on_thread t s) b (stored_of s over.stands).marked (Contains-occurrence_count_of_number (blocks_of_list_on_thread t s) b some)
+  coming_taken (Finished s) over large b some = All-contains (λ x. ¬ (IsFree t.map x)) (thread_list_blocks t s) b (stored_of s over.stands).marked (Contains-number_count (thread_list_blocks t s) b some)
   coming_taken (InHand hand) over never b some = absurd never
 
-  pub coming_apart : (c : WriterContents) → AreWriterContentsOverFileOnThread t path c → IsFinishedAndInlineExactlyUpToLimit (inline_limit t.disk.profile t.disk.block_size) (storage_form_of_contents c) → (b : ℕ) → 1 ≤ occurrence_count_of_number b (skip_list_blocks_of_struct t.disk (struct_of_finished_contents c)) → occurrence_count_of_number b (blocks_of_pairs t.pairs) ≡ 0
+  pub coming_apart : (c : WriterContents) → OverThreadFile t path c → IsFinishedInline (inline_limit t.disk.profile t.disk.block_size) (contents_form c) → (b : ℕ) → 1 ≤ number_count b (struct_blocks t.disk (finished_struct c)) → number_count b (blocks_of_pairs t.pairs) ≡ 0
   coming_apart (InMemory list) over few b some = absurd (omega arith)
   coming_apart (Finished s) over large b some = ⊎_elim
       (λ is. absurd (
-      let e = count_append b (blocks_of_pairs t.pairs) (flat_map (λ (x : Slot). skip_list_blocks_of_struct t.disk x.struct) (all_slots_not_moved t.pairs)) in
-      let u_is = (used b).1 (Contains-occurrence_count_of_number (used_blocks t.disk t.pairs) b (omega arith)) in
-      let own = subst (λ (o : Option Slot). Contains (skip_list_blocks_of_slot t.disk o) b) at (over.owned.each b (Contains-occurrence_count_of_number (blocks_of_list_on_thread t s) b some) u_is) in
-      let none = list_apart b (occurrence_count_of_number-Contains (skip_list_blocks_of_struct t.disk u.struct) b own) in
+      let e = count_append b (blocks_of_pairs t.pairs) (flat_map (λ (x : Slot). struct_blocks t.disk x.struct) (all_slots_not_moved t.pairs)) in
+      let u_is = (used b).1 (Contains-number_count (used_blocks t.disk t.pairs) b (omega arith)) in
+      let own = subst (λ (o : Option Slot). Contains (slot_list_blocks t.disk o) b) at (over.owned.each b (Contains-number_count (thread_list_blocks t s) b some) u_is) in
+      let none = list_apart b (number_count-Contains (struct_blocks t.disk u.struct) b own) in
       omega arith))
       (λ none. omega arith)
-      (cases_lt 0 (occurrence_count_of_number b (blocks_of_pairs t.pairs)))
+      (cases_lt 0 (number_count b (blocks_of_pairs t.pairs)))
   coming_apart (InHand hand) over never b some = absurd never
 
-  list_room : (c : WriterContents) → AreWriterContentsOverFileOnThread t path c → IsFinishedAndInlineExactlyUpToLimit (inline_limit t.disk.profile t.disk.block_size) (storage_form_of_contents c) → in_flight_block_count t.map ≤ skip_list_block_count_unless_inline t.disk.profile t.disk.block_size (length (bytes_of_writer_contents t c))
+  list_room : (c : WriterContents) → OverThreadFile t path c → IsFinishedInline (inline_limit t.disk.profile t.disk.block_size) (contents_form c) → in_flight_count t.map ≤ list_blocks_of t.disk.profile t.disk.block_size (length (writer_contents_bytes t c))
   list_room (InMemory list) over few = let e = no_flight t.map (λ b. over.stands.stands.idle.none b) in omega arith
   list_room (Finished s) over large =
       let size = size_of_list s (inline_limit t.disk.profile t.disk.block_size) large over.stands in
-      let few = few_flying (blocks_of_list_on_thread t s) t.map (λ b flies. ((stored_of s over.stands).flying b flies).1) in
-      let l = length_back t.disk.blocks (list_block_count_for_size t.disk.block_size s.size) s.head in
-      let k : skip_list_block_count_unless_inline t.disk.profile t.disk.block_size s.size ≡ list_block_count_for_size t.disk.block_size s.size
-      = ap (λ b. cond b 0 (list_block_count_for_size t.disk.block_size s.size)) (past s.size (inline_limit t.disk.profile t.disk.block_size) large) in
-      let m = ap (skip_list_block_count_unless_inline t.disk.profile t.disk.block_size) size in
+      let few = few_flying (thread_list_blocks t s) t.map (λ b flies. ((stored_of s over.stands).flying b flies).1) in
+      let l = length_back t.disk.blocks (block_count_for t.disk.block_size s.size) s.head in
+      let k : list_blocks_of t.disk.profile t.disk.block_size s.size ≡ block_count_for t.disk.block_size s.size
+      = ap (λ b. cond b 0 (block_count_for t.disk.block_size s.size)) (past s.size (inline_limit t.disk.profile t.disk.block_size) large) in
+      let m = ap (list_blocks_of t.disk.profile t.disk.block_size) size in
       omega arith
     where
       past : (n limit : ℕ) → limit < n → nat_le n limit ≡ false
@@ -157,15 +157,15 @@ module _ (t : KeptThread) (path : Path) (u : Slot) (ok : IsAcceptedImage t.disk 
           go true e = absurd (let k = leb-true n limit e in omega arith)
   list_room (InHand hand) over never = absurd never
 
-  pub room_there : (c : WriterContents) → CanCommitContentsAtPath t path c → HasSoManyFreeBlocks 2 t.map
+  pub room_there : (c : WriterContents) → CanCommitContents t path c → HasFreeBlocks 2 t.map
   room_there c can = let l = list_room c can.over can.finished in let r = can.room in omega arith
 
-pub over_read : (t : KeptThread) (h : List DeviceCallEvent) (path : Path) (c : WriterContents) → AreWriterContentsOverFileOnThread t path c → AreWriterContentsOverFileOnThread (with_history t h) path c
+pub over_read : (t : KeptThread) (h : List CallEvent) (path : Path) (c : WriterContents) → OverThreadFile t path c → OverThreadFile (with_history t h) path c
 over_read t h path c over = record {
   file = over.file;
   stands = record { geometry = over.stands.geometry; divided = over.stands.divided; stands = over.stands.stands };
   owned = over.owned;
 }
 
-pub can_read : (t : KeptThread) (h : List DeviceCallEvent) (path : Path) (c : WriterContents) → CanCommitContentsAtPath t path c → CanCommitContentsAtPath (with_history t h) path c
+pub can_read : (t : KeptThread) (h : List CallEvent) (path : Path) (c : WriterContents) → CanCommitContents t path c → CanCommitContents (with_history t h) path c
 can_read t h path c can = record { over = over_read t h path c can.over; finished = can.finished; room = can.room }

@@ -3,15 +3,15 @@ use Rattle.std.proofs.Common.{ℕ, ◌≡◌, ◌<◌, ◌≤◌, ◌+◌, ◌-�
 use Rattle.std.proofs.lemmas.List.{drop-drop}
 use Rattle.std.proofs.lemmas.Option.{get_or_from_slice_get}
 use Rattle.std.proofs.Math.Seq.{drop-append_seam}
-use Rattle.lfs_model.specs.Disk.{Disk}
-use Rattle.lfs_model.specs.InDirectory.{IsPairAtAddress, ArePairsWithoutSuperblock, slots_without_superblock, slots_of_pairs_in_order}
-use Rattle.lfs_model.specs.Names.{Name}
-use Rattle.lfs_model.specs.Slots.{Slot, is_superblock, same_pair}
-use Rattle.lfs_model.specs.Thread.{Pair, pairs_from_root_directory_on, first_pair_address, gstate_of_pairs, is_hard_tail, root_directory_address_of_pairs, pair_count_before_root, entries_not_moved}
-use Rattle.lfs_model.specs.Tree.{Path}
-use Rattle.lfs_model.specs.Profile.{AreNoEmptyPairsAfterHardTails, IsWritableImage}
-use Rattle.lfs_model.specs.View.{IsAcceptedImage}
-use Rattle.lfs_model.specs.Shown.{IsPathToDirectory, entries_by_directory_in_thread}
+use Rattle.lfs_model.specs.format.Disk.{Disk}
+use Rattle.lfs_model.specs.session.InDirectory.{IsPairAt, AreEntryPairs, entry_slots, all_slots}
+use Rattle.lfs_model.specs.format.Names.{Name}
+use Rattle.lfs_model.specs.format.Slots.{Slot, is_superblock, same_pair}
+use Rattle.lfs_model.specs.format.Thread.{Pair, pairs_from_root, first_address, pairs_gstate, is_hard_tail, root_address, pair_count_before_root, unmoved_entries}
+use Rattle.lfs_model.specs.tree.Tree.{Path}
+use Rattle.lfs_model.specs.tree.Profile.{HasNoEmpties, IsWritable}
+use Rattle.lfs_model.specs.tree.View.{IsAccepted}
+use Rattle.lfs_model.specs.tree.Shown.{LeadsTo, all_entries}
 use Rattle.lfs_model.proofs.Counts.{Each}
 use Rattle.lfs_model.proofs.Found.{HasDirectory}
 use Rattle.lfs_model.proofs.Global.{HasNoMove}
@@ -19,14 +19,14 @@ use Rattle.lfs_model.proofs.Layouts.{have_right}
 use Rattle.lfs_model.proofs.Listings.{IsRun}
 use Rattle.lfs_model.proofs.Searches.{IsDirectory, begins_directory, plain_behind}
 use Rattle.lfs_model.proofs.Splices as splices
-use Rattle.lfs_thread.specs.Steps.{empty_pair_at_anchor}
-use Rattle.lfs_lookup.specs.Listed.{hard_tail_joined_pairs}
+use Rattle.lfs_thread.specs.ThreadSteps.{empty_anchor}
+use Rattle.lfs_lookup.specs.Listed.{joined_pairs}
 use Rattle.lfs_lookup.proofs.Directories.{own_run, run_is}
 
 -- entries come of slots that aren't a superblock's
-none_first : (xs ys : List Slot) → Each (λ s. is_superblock s ≡ false) xs → slots_without_superblock (xs ++ ys) ≡ [] → (xs ≡ []) × (slots_without_superblock ys ≡ [])
+none_first : (xs ys : List Slot) → Each (λ s. is_superblock s ≡ false) xs → entry_slots (xs ++ ys) ≡ [] → (xs ≡ []) × (entry_slots ys ≡ [])
 none_first [] ys plain e = (refl, e)
-none_first (x ∷ xs) ys plain e = absurd (let k = sym (ap (λ b. cond (not b) (x ∷ slots_without_superblock (xs ++ ys)) (slots_without_superblock (xs ++ ys))) plain.0) ∙ e in cc)
+none_first (x ∷ xs) ys plain e = absurd (let k = sym (ap (λ b. cond (not b) (x ∷ entry_slots (xs ++ ys)) (entry_slots (xs ++ ys))) plain.0) ∙ e in cc)
 
 path_some : (above : Path) (name : Name) → [] ≡ above ++ name ∷ [] → ⊥
 path_some [] name e = absurd (cc)
@@ -37,19 +37,19 @@ pub record IsBare (p : Pair) : Type 0 where
   pub empty : p.content.slots ≡ []
   pub alone : is_hard_tail p.content.tail ≡ false
 
-module _ (disk : Disk) (ps : List Pair) (above : Path) (name : Name) (a : ℕ × ℕ) (n : ℕ) (ok : IsAcceptedImage disk ps) (fits : IsWritableImage disk ps) (none : HasNoMove (gstate_of_pairs ps))
-    (leads : IsPathToDirectory ps (above ++ name ∷ []) a) (b : IsPairAtAddress ps a n) (empty : entries_by_directory_in_thread ps a ≡ []) where
+module _ (disk : Disk) (ps : List Pair) (above : Path) (name : Name) (a : ℕ × ℕ) (n : ℕ) (ok : IsAccepted disk ps) (fits : IsWritable disk ps) (none : HasNoMove (pairs_gstate ps))
+    (leads : LeadsTo ps (above ++ name ∷ []) a) (b : IsPairAt ps a n) (empty : all_entries ps a ≡ []) where
   begun : IsDirectory ps a n
   begun = begins_directory disk ps (above ++ name ∷ []) a n ok leads b
 
-  abbrev d : HasDirectory (pairs_from_root_directory_on ps) a
+  abbrev d : HasDirectory (pairs_from_root ps) a
   d = begun.directory
 
   -- the root isn't named by an entry
   not_root : d.before ≡ [] → ⊥
   not_root e =
-      let root : root_directory_address_of_pairs ps ≡ d.first.at = ap first_pair_address (d.is ∙ ap (λ z. z ++ (d.first ∷ d.run ++ d.after)) e) in
-      path_some above name (ok.once [] (above ++ name ∷ []) (root_directory_address_of_pairs ps) a refl leads (subst (λ z. same_pair z a ≡ true) (sym root) d.at))
+      let root : root_address ps ≡ d.first.at = ap first_address (d.is ∙ ap (λ z. z ++ (d.first ∷ d.run ++ d.after)) e) in
+      path_some above name (ok.once [] (above ++ name ∷ []) (root_address ps) a refl leads (subst (λ z. same_pair z a ≡ true) (sym root) d.at))
 
   some_before : 1 ≤ length d.before
   some_before = go d.before not_root
@@ -61,27 +61,27 @@ module _ (disk : Disk) (ps : List Pair) (above : Path) (name : Name) (a : ℕ ×
   rest_here : drop n ps ≡ d.first ∷ d.run ++ d.after
   rest_here = ap (λ k. drop k ps) begun.number ∙ sym (drop-drop (length d.before) (pair_count_before_root ps) ps) ∙ ap (drop (length d.before)) d.is ∙ drop-append_seam d.before (d.first ∷ d.run ++ d.after)
 
-  plain : ArePairsWithoutSuperblock (d.first ∷ d.run ++ d.after)
+  plain : AreEntryPairs (d.first ∷ d.run ++ d.after)
   plain =
       let number = begun.number in
       let some = some_before in
       let low : pair_count_before_root ps ≤ n - 1 = omega arith in
       let next : n - 1 + 1 ≡ n = omega arith in
-      subst ArePairsWithoutSuperblock (ap (λ k. drop k ps) next ∙ rest_here) (plain_behind disk ps (n - 1) ok low)
+      subst AreEntryPairs (ap (λ k. drop k ps) next ∙ rest_here) (plain_behind disk ps (n - 1) ok low)
 
-  shown : slots_without_superblock (d.first.content.slots ++ slots_of_pairs_in_order d.run) ≡ []
-  shown = sym (splices.visible_in (gstate_of_pairs ps) none (d.first ∷ d.run)) ∙ ap (flat_map (entries_not_moved (gstate_of_pairs ps))) (sym (ap hard_tail_joined_pairs rest_here ∙ run_is d.first d.run d.after d.is_run))
+  shown : entry_slots (d.first.content.slots ++ all_slots d.run) ≡ []
+  shown = sym (splices.visible_in (pairs_gstate ps) none (d.first ∷ d.run)) ∙ ap (flat_map (unmoved_entries (pairs_gstate ps))) (sym (ap joined_pairs rest_here ∙ run_is d.first d.run d.after d.is_run))
       ∙ own_run disk ps (above ++ name ∷ []) a n ok leads b ∙ empty
 
-  first_bare : (d.first.content.slots ≡ []) × (slots_without_superblock (slots_of_pairs_in_order d.run) ≡ [])
-  first_bare = none_first d.first.content.slots (slots_of_pairs_in_order d.run) plain.0 shown
+  first_bare : (d.first.content.slots ≡ []) × (entry_slots (all_slots d.run) ≡ [])
+  first_bare = none_first d.first.content.slots (all_slots d.run) plain.0 shown
 
-  have : AreNoEmptyPairsAfterHardTails (is_hard_tail d.first.content.tail) (d.run ++ d.after)
-  have = (have_right None d.before (d.first ∷ d.run ++ d.after) (subst (AreNoEmptyPairsAfterHardTails false) d.is fits.no_empty_pair)).1
+  have : HasNoEmpties (is_hard_tail d.first.content.tail) (d.run ++ d.after)
+  have = (have_right None d.before (d.first ∷ d.run ++ d.after) (subst (HasNoEmpties false) d.is fits.no_empty_pair)).1
 
-  no_run : (run : List Pair) → d.run ≡ run → IsRun (d.first ∷ run) → ArePairsWithoutSuperblock (run ++ d.after) → slots_without_superblock (slots_of_pairs_in_order run) ≡ [] → AreNoEmptyPairsAfterHardTails (is_hard_tail d.first.content.tail) (run ++ d.after) → is_hard_tail d.first.content.tail ≡ false
+  no_run : (run : List Pair) → d.run ≡ run → IsRun (d.first ∷ run) → AreEntryPairs (run ++ d.after) → entry_slots (all_slots run) ≡ [] → HasNoEmpties (is_hard_tail d.first.content.tail) (run ++ d.after) → is_hard_tail d.first.content.tail ≡ false
   no_run [] e is_run clean shows filled = is_run
-  no_run (q ∷ run) e is_run clean shows filled = absurd (filled.0 is_run.0 (none_first q.content.slots (slots_of_pairs_in_order run) clean.0 shows).0)
+  no_run (q ∷ run) e is_run clean shows filled = absurd (filled.0 is_run.0 (none_first q.content.slots (all_slots run) clean.0 shows).0)
 
   bare_first : IsBare d.first
   bare_first = record { empty = first_bare.0; alone = no_run d.run refl d.is_run plain.1 first_bare.1 have }
@@ -95,9 +95,9 @@ module _ (disk : Disk) (ps : List Pair) (above : Path) (name : Name) (a : ℕ ×
       get_dropped (suc n) (x ∷ xs) = get_dropped n xs
 
   -- the pair of that number is the directory's only one
-  pub bare_there : IsBare (get_or ps n empty_pair_at_anchor)
-  bare_there = subst IsBare (sym (get_or_from_slice_get ps n d.first empty_pair_at_anchor first_there)) bare_first
+  pub bare_there : IsBare (get_or ps n empty_anchor)
+  bare_there = subst IsBare (sym (get_or_from_slice_get ps n d.first empty_anchor first_there)) bare_first
 
 -- the pair of that number is at that address
-pub at_there : (ps : List Pair) (a : ℕ × ℕ) (n : ℕ) → IsPairAtAddress ps a n → same_pair (get_or ps n empty_pair_at_anchor).at a ≡ true
-at_there ps a n b = subst (λ (p : Pair). same_pair p.at a ≡ true) (sym (get_or_from_slice_get ps n b.pair empty_pair_at_anchor b.there)) b.same
+pub at_there : (ps : List Pair) (a : ℕ × ℕ) (n : ℕ) → IsPairAt ps a n → same_pair (get_or ps n empty_anchor).at a ≡ true
+at_there ps a n b = subst (λ (p : Pair). same_pair p.at a ≡ true) (sym (get_or_from_slice_get ps n b.pair empty_anchor b.there)) b.same

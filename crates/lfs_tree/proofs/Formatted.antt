@@ -9,32 +9,32 @@ use Rattle.std.proofs.lemmas.List.{length-replicate}
 use Rattle.std.proofs.lemmas.Option.{same_Some}
 use Rattle.lfs_device.specs.declared.geometry.Geometry.{Geometry}
 use Rattle.lfs_device.specs.declared.device.BlockDevice.{Ghosts}
-use Rattle.lfs_device.specs.Calls.{ChangesOnlyTheseBlocks}
-use Rattle.lfs_device.specs.Shown.{disk_of_geometry_and_blocks}
-use Rattle.lfs_model.specs.Blocks.{Blocks}
-use Rattle.lfs_model.specs.BlockSets.{AreExactlyTheInFlightBlocks, AreExactlyTheUsedBlocks, BlockStateList, BlockState, Free, InFlight, IsBlockFree, Used}
-use Rattle.lfs_model.specs.Changes.{PairContentChange, raw_pair_content_after_changes}
-use Rattle.lfs_model.specs.Content.{pair_content_if_slots_complete, has_commit, current_block_of_two, current_block_of_pair_at, is_later_revision, empty_raw_pair_content, raw_content_of_pair_at}
+use Rattle.lfs_device.specs.DeviceCalls.{ChangesOnlyTheseBlocks}
+use Rattle.lfs_device.specs.DeviceDisk.{disk_of_blocks}
+use Rattle.lfs_model.specs.format.Blocks.{Blocks}
+use Rattle.lfs_model.specs.layers.BlockSets.{AreInFlight, AreUsed, BlockStates, BlockState, Free, InFlight, IsFree, Used}
+use Rattle.lfs_model.specs.layers.Changes.{PairChange, changed_content_of}
+use Rattle.lfs_model.specs.format.Content.{complete_content, has_commit, current_of_two, current_block, is_later, empty_raw_content, raw_content}
 use Rattle.lfs_model.specs.declared.order.NameOrder.{NameOrder}
-use Rattle.lfs_model.specs.Disk.{Disk, block_bytes_on_disk, block_count, disk_in_order}
-use Rattle.lfs_model.specs.Fresh.{content_of_fresh_disk, only_pair_of_fresh_disk, superblock_struct_bytes}
-use Rattle.lfs_model.specs.Geometry.{IsValidGeometry}
-use Rattle.lfs_model.specs.History.{DeviceCallEvent}
-use Rattle.lfs_model.specs.Log.{revision_of_block}
-use Rattle.lfs_model.specs.Slots.{zero_gstate}
-use Rattle.lfs_model.specs.Thread.{AreLinkedByTails, anchor_pair_address, blocks_of_pairs, blocks_of_pair_address}
-use Rattle.lfs_model.specs.View.{BeginsWithLogEntry, IsAcceptedImage, superblock_name_log_entry, view_of_disk}
-use Rattle.lfs_model.specs.Profile.{IsWritableImage}
-use Rattle.lfs_model.specs.WrittenContent.{log_entries_of_content}
+use Rattle.lfs_model.specs.format.Disk.{Disk, disk_block, block_count, ordered_disk}
+use Rattle.lfs_model.specs.tree.Fresh.{fresh_content, fresh_pair, superblock_bytes}
+use Rattle.lfs_model.specs.format.Geometry.{IsValidGeometry}
+use Rattle.lfs_model.specs.session.History.{CallEvent}
+use Rattle.lfs_model.specs.format.Log.{block_revision}
+use Rattle.lfs_model.specs.format.Slots.{zero_gstate}
+use Rattle.lfs_model.specs.format.Thread.{AreLinked, anchor_address, blocks_of_pairs, address_blocks}
+use Rattle.lfs_model.specs.tree.View.{BeginsWith, IsAccepted, superblock_entry, disk_view}
+use Rattle.lfs_model.specs.tree.Profile.{IsWritable}
+use Rattle.lfs_model.specs.layers.WrittenContent.{content_entries}
 use Rattle.lfs_model.proofs.Histories.{began}
 use Rattle.lfs_model.proofs.Fresh.{accepted, shows, writable}
 use Rattle.lfs_model.proofs.BlockSets.{Contains-cons, Contains-head, Contains-tail}
-use Rattle.lfs_pair.specs.Commit.{IsPairAddressOnDisk}
-use Rattle.lfs_pair.specs.Fresh as pair
-use Rattle.lfs_pair.specs.Writing.{HasContentInOneCommit}
-use Rattle.lfs_thread.specs.Kept.{AreAllBlocksUsed, PairHeader, KeptThread, WasKeptThreadOnDisk, pair_on_disk_at, pairs_of_headers, kept_thread_view, kept_thread_in_order}
-use Rattle.lfs_thread.specs.Steps.{ThreadChangesOnlyTheseBlocks}
-use Rattle.lfs_tree.specs.Formats.{IsBlockMapAfterFormat, IsHeaderOfEmptyRoot, IsThreadOfEmptyRoot, IsFreshlyFormatted, IsWritableImageWithEmptyRoot, superblock_slot_changes, content_with_superblock_only}
+use Rattle.lfs_pair.specs.Commits.{AddressIsOnDisk}
+use Rattle.lfs_pair.specs.FreshPair as pair
+use Rattle.lfs_pair.specs.Writing.{HasOneCommit}
+use Rattle.lfs_thread.specs.Kept.{AllBlocksUsed, PairHeader, KeptThread, WasKeptOnDisk, disk_pair_at, pairs_of_headers, kept_view, kept_in_order}
+use Rattle.lfs_thread.specs.ThreadSteps.{ChangesThreadBlocks}
+use Rattle.lfs_tree.specs.Formats.{IsFormattedMap, IsRootHeader, IsRootThread, IsFormatted, IsEmptyWritable, superblock_slot_changes, superblock_content}
 
 -- ---- the map
 
@@ -46,7 +46,7 @@ free_alone (suc n) (suc b) s e = free_alone n b s e
 none_there : (b : ℕ) → Contains [] b → ⊥
 none_there b has = let below : has.0 < 0 = has.1 in omega arith
 
-two_used : (m : ℕ) → AreExactlyTheUsedBlocks (Used ∷ Used ∷ replicate m Free) (0 ∷ 1 ∷ [])
+two_used : (m : ℕ) → AreUsed (Used ∷ Used ∷ replicate m Free) (0 ∷ 1 ∷ [])
 two_used m zero = (λ _. Contains-head 0 (1 ∷ []), λ _. refl)
 two_used m (suc zero) = (λ _. Contains-tail 0 1 (1 ∷ []) (Contains-head 1 []), λ _. refl)
 two_used m (suc (suc b)) = (λ used. absurd (let e : Free ≡ Used = free_alone m b Used used in cc), λ has. absurd (first (Contains-cons 0 (suc (suc b)) (1 ∷ []) has)))
@@ -59,12 +59,12 @@ two_used m (suc (suc b)) = (λ used. absurd (let e : Free ≡ Used = free_alone 
     first (inl e) = omega (arith, e)
     first (inr has) = second (Contains-cons 1 (suc (suc b)) [] has)
 
-none_in_flight : (m : ℕ) → AreExactlyTheInFlightBlocks (Used ∷ Used ∷ replicate m Free) []
+none_in_flight : (m : ℕ) → AreInFlight (Used ∷ Used ∷ replicate m Free) []
 none_in_flight m zero = (λ flies. absurd (let e : Used ≡ InFlight = same_Some Used InFlight flies in cc), λ has. absurd (none_there zero has))
 none_in_flight m (suc zero) = (λ flies. absurd (let e : Used ≡ InFlight = same_Some Used InFlight flies in cc), λ has. absurd (none_there (suc zero) has))
 none_in_flight m (suc (suc b)) = (λ flies. absurd (let e : Free ≡ InFlight = free_alone m b InFlight flies in cc), λ has. absurd (none_there (suc (suc b)) has))
 
-empty_map : (n : ℕ) → 2 ≤ n → IsBlockMapAfterFormat n (set (set (replicate n Free) 0 Used) 1 Used)
+empty_map : (n : ℕ) → 2 ≤ n → IsFormattedMap n (set (set (replicate n Free) 0 Used) 1 Used)
 empty_map zero few = absurd (omega arith)
 empty_map (suc zero) few = absurd (omega arith)
 empty_map (suc (suc m)) few = record {
@@ -73,130 +73,130 @@ empty_map (suc (suc m)) few = record {
   in_flight = none_in_flight m;
 }
 
-first_free : (n : ℕ) → 2 ≤ n → IsBlockFree (replicate n Free) 0
+first_free : (n : ℕ) → 2 ≤ n → IsFree (replicate n Free) 0
 first_free zero few = absurd (omega arith)
 first_free (suc n) few = refl
 
-second_free : (n : ℕ) → 2 ≤ n → IsBlockFree (set (replicate n Free) 0 Used) 1
+second_free : (n : ℕ) → 2 ≤ n → IsFree (set (replicate n Free) 0 Used) 1
 second_free zero few = absurd (omega arith)
 second_free (suc zero) few = absurd (omega arith)
 second_free (suc (suc n)) few = refl
 
 -- the first block is marked, and then the second
-pub marked_first : (n : ℕ) (was now : BlockStateList) (is_free : Bool) → 2 ≤ n → was ≡ replicate n Free → (IsBlockFree was 0 → IsTrue is_free) → OnTrue is_free (now ≡ set was 0 Used)
+pub marked_first : (n : ℕ) (was now : BlockStates) (is_free : Bool) → 2 ≤ n → was ≡ replicate n Free → (IsFree was 0 → IsTrue is_free) → OnTrue is_free (now ≡ set was 0 Used)
     → now ≡ set (replicate n Free) 0 Used
 marked_first n was now is_free few e free marked =
-    OnTrue_at (free (subst (λ s. IsBlockFree s 0) (sym e) (first_free n few))) marked ∙ ap (λ s. set s 0 Used) e
+    OnTrue_at (free (subst (λ s. IsFree s 0) (sym e) (first_free n few))) marked ∙ ap (λ s. set s 0 Used) e
 
-pub marked_both : (n : ℕ) (now last : BlockStateList) (is_free : Bool) → 2 ≤ n → now ≡ set (replicate n Free) 0 Used → (IsBlockFree now 1 → IsTrue is_free) → OnTrue is_free (last ≡ set now 1 Used)
-    → IsBlockMapAfterFormat n last
+pub marked_both : (n : ℕ) (now last : BlockStates) (is_free : Bool) → 2 ≤ n → now ≡ set (replicate n Free) 0 Used → (IsFree now 1 → IsTrue is_free) → OnTrue is_free (last ≡ set now 1 Used)
+    → IsFormattedMap n last
 marked_both n now last is_free few e free marked =
-    subst (IsBlockMapAfterFormat n) (sym (OnTrue_at (free (subst (λ s. IsBlockFree s 1) (sym e) (second_free n few))) marked ∙ ap (λ s. set s 1 Used) e)) (empty_map n few)
+    subst (IsFormattedMap n) (sym (OnTrue_at (free (subst (λ s. IsFree s 1) (sym e) (second_free n few))) marked ∙ ap (λ s. set s 1 Used) e)) (empty_map n few)
 
 -- ---- the pair
 
 -- what the superblock's changes make of nothing
-made : (disk : Disk) → raw_pair_content_after_changes empty_raw_pair_content (superblock_slot_changes (superblock_struct_bytes disk.profile disk.block_size (block_count disk))) ≡ Some (content_with_superblock_only disk)
+made : (disk : Disk) → changed_content_of empty_raw_content (superblock_slot_changes (superblock_bytes disk.profile disk.block_size (block_count disk))) ≡ Some (superblock_content disk)
 made disk = refl
 
-completes : (disk : Disk) → pair_content_if_slots_complete (content_with_superblock_only disk) ≡ Some (content_of_fresh_disk disk.profile disk.block_size (block_count disk))
+completes : (disk : Disk) → complete_content (superblock_content disk) ≡ Some (fresh_content disk.profile disk.block_size (block_count disk))
 completes disk = refl
 
-address : (disk : Disk) → 2 ≤ block_count disk → IsPairAddressOnDisk disk anchor_pair_address
+address : (disk : Disk) → 2 ≤ block_count disk → AddressIsOnDisk disk anchor_address
 address disk few = record { apart = λ e. absurd (omega (arith, e)); first = omega (arith, few); second = omega (arith, few) }
 
-can_be_fresh : (disk : Disk) → IsValidGeometry disk.block_size disk.page (block_count disk) → pair.CanWriteFreshPair disk anchor_pair_address (superblock_slot_changes (superblock_struct_bytes disk.profile disk.block_size (block_count disk)))
+can_be_fresh : (disk : Disk) → IsValidGeometry disk.block_size disk.page (block_count disk) → pair.CanWriteFresh disk anchor_address (superblock_slot_changes (superblock_bytes disk.profile disk.block_size (block_count disk)))
 can_be_fresh disk g = record {
   address = address disk g.no_fewer;
-  new = content_with_superblock_only disk;
+  new = superblock_content disk;
   changed = made disk;
   names = (refl, tt);
   fits = record { size = omega (arith, g.pages, g.no_smaller); count = omega arith };
 }
 
 -- the first block holds, since no log is in the second
-holder_first : (a b : List ℕ) → has_commit a ≡ true → has_commit b ≡ false → current_block_of_two a b ≡ Some a
+holder_first : (a b : List ℕ) → has_commit a ≡ true → has_commit b ≡ false → current_of_two a b ≡ Some a
 holder_first a b first second =
-    ap₂ (λ p q. cond (not p) (cond q (Some b) None) (cond (q && is_later_revision (revision_of_block a) (revision_of_block b)) (Some b) (Some a))) first second
+    ap₂ (λ p q. cond (not p) (cond q (Some b) None) (cond (q && is_later (block_revision a) (block_revision b)) (Some b) (Some a))) first second
 
-module _ (disk : Disk) (before history : List DeviceCallEvent) (h : PairHeader) (g : IsValidGeometry disk.block_size disk.page (block_count disk))
-    (is : pair.IsFreshPair before (superblock_slot_changes (superblock_struct_bytes disk.profile disk.block_size (block_count disk))) disk history anchor_pair_address h) where
-  new_is : is.new ≡ content_with_superblock_only disk
-  new_is = same_Some is.new (content_with_superblock_only disk) (sym is.made ∙ made disk)
+module _ (disk : Disk) (before history : List CallEvent) (h : PairHeader) (g : IsValidGeometry disk.block_size disk.page (block_count disk))
+    (is : pair.IsFreshPair before (superblock_slot_changes (superblock_bytes disk.profile disk.block_size (block_count disk))) disk history anchor_address h) where
+  new_is : is.new ≡ superblock_content disk
+  new_is = same_Some is.new (superblock_content disk) (sym is.made ∙ made disk)
 
-  begins : BeginsWithLogEntry (current_block_of_pair_at disk anchor_pair_address) superblock_name_log_entry
+  begins : BeginsWith (current_block disk anchor_address) superblock_entry
   begins =
-      subst (λ o. BeginsWithLogEntry o superblock_name_log_entry) (sym (holder_first (block_bytes_on_disk disk 0) (block_bytes_on_disk disk 1) is.fresh.anew.has_commit is.fresh.cleared))
+      subst (λ o. BeginsWith o superblock_entry) (sym (holder_first (disk_block disk 0) (disk_block disk 1) is.fresh.anew.has_commit is.fresh.cleared))
       (ap (λ commits. slice_get (flat_map (λ c. c) commits) 0) is.fresh.anew.commits
-      ∙ ap (λ c. slice_get (flat_map (λ c. c) ((log_entries_of_content c ++ is.fresh.anew.checksum ∷ []) ∷ [])) 0) new_is)
+      ∙ ap (λ c. slice_get (flat_map (λ c. c) ((content_entries c ++ is.fresh.anew.checksum ∷ []) ∷ [])) 0) new_is)
 
-  is_root : IsHeaderOfEmptyRoot disk history h
+  is_root : IsRootHeader disk history h
   is_root = record {
     header = record {
-      address = subst (IsPairAddressOnDisk disk) (sym is.holds.same) (address disk g.no_fewer);
+      address = subst (AddressIsOnDisk disk) (sym is.holds.same) (address disk g.no_fewer);
       held = is.new;
       is_pair = is.holds.is_pair;
-      raw = ap (raw_content_of_pair_at disk) is.holds.same ∙ is.holds.content;
-      content = content_of_fresh_disk disk.profile disk.block_size (block_count disk);
-      complete = ap pair_content_if_slots_complete new_is ∙ completes disk;
+      raw = ap (raw_content disk) is.holds.same ∙ is.holds.content;
+      content = fresh_content disk.profile disk.block_size (block_count disk);
+      complete = ap complete_content new_is ∙ completes disk;
     };
     at = is.holds.same;
     fresh = record {
       geometry = g;
-      content = ap (option_and_then pair_content_if_slots_complete) is.holds.content ∙ ap pair_content_if_slots_complete new_is ∙ completes disk;
+      content = ap (option_and_then complete_content) is.holds.content ∙ ap complete_content new_is ∙ completes disk;
       first = begins;
     };
-    first = subst (λ c. HasContentInOneCommit 1 c (block_bytes_on_disk disk 0)) new_is is.fresh.anew;
+    first = subst (λ c. HasOneCommit 1 c (disk_block disk 0)) new_is is.fresh.anew;
     second = is.fresh.cleared;
   }
 
 -- ---- of a device
 
 -- the changes are those of a disk of that geometry
-changes_are : (k : Geometry) (n : ℕ) (changes : List PairContentChange) (bytes fields : List ℕ) → n ≡ k.block_count → changes ≡ superblock_slot_changes bytes → bytes ≡ fields → fields ≡ superblock_struct_bytes k.profile k.block_size k.block_count
-    → changes ≡ superblock_slot_changes (superblock_struct_bytes k.profile k.block_size n)
-changes_are k n changes bytes fields count e f b = e ∙ ap superblock_slot_changes (f ∙ b ∙ ap (superblock_struct_bytes k.profile k.block_size) (sym count))
+changes_are : (k : Geometry) (n : ℕ) (changes : List PairChange) (bytes fields : List ℕ) → n ≡ k.block_count → changes ≡ superblock_slot_changes bytes → bytes ≡ fields → fields ≡ superblock_bytes k.profile k.block_size k.block_count
+    → changes ≡ superblock_slot_changes (superblock_bytes k.profile k.block_size n)
+changes_are k n changes bytes fields count e f b = e ∙ ap superblock_slot_changes (f ∙ b ∙ ap (superblock_bytes k.profile k.block_size) (sym count))
 
 geometry_is : (k : Geometry) (blocks : Blocks) → length blocks ≡ k.block_count → IsValidGeometry k.block_size k.page (length blocks)
 geometry_is k blocks count = subst (IsValidGeometry k.block_size k.page) (sym count) k.valid
 
-pub can_root : (k asked : Geometry) (blocks : Blocks) (changes : List PairContentChange) (bytes fields : List ℕ) → length blocks ≡ k.block_count → asked ≡ k → changes ≡ superblock_slot_changes bytes → bytes ≡ fields
-    → fields ≡ superblock_struct_bytes asked.profile asked.block_size asked.block_count → pair.CanWriteFreshPair (disk_of_geometry_and_blocks k blocks) anchor_pair_address changes
+pub can_root : (k asked : Geometry) (blocks : Blocks) (changes : List PairChange) (bytes fields : List ℕ) → length blocks ≡ k.block_count → asked ≡ k → changes ≡ superblock_slot_changes bytes → bytes ≡ fields
+    → fields ≡ superblock_bytes asked.profile asked.block_size asked.block_count → pair.CanWriteFresh (disk_of_blocks k blocks) anchor_address changes
 can_root k asked blocks changes bytes fields count same e f b =
-    subst (pair.CanWriteFreshPair (disk_of_geometry_and_blocks k blocks) anchor_pair_address) (sym (changes_are k (length blocks) changes bytes fields count e f (b ∙ ap (λ (j : Geometry). superblock_struct_bytes j.profile j.block_size j.block_count) same)))
-    (can_be_fresh (disk_of_geometry_and_blocks k blocks) (geometry_is k blocks count))
+    subst (pair.CanWriteFresh (disk_of_blocks k blocks) anchor_address) (sym (changes_are k (length blocks) changes bytes fields count e f (b ∙ ap (λ (j : Geometry). superblock_bytes j.profile j.block_size j.block_count) same)))
+    (can_be_fresh (disk_of_blocks k blocks) (geometry_is k blocks count))
 
-pub device_root : (k asked : Geometry) (blocks : Blocks) (before history : List DeviceCallEvent) (h : PairHeader) (changes : List PairContentChange) (bytes fields : List ℕ) → length blocks ≡ k.block_count → asked ≡ k → changes ≡ superblock_slot_changes bytes → bytes ≡ fields
-    → fields ≡ superblock_struct_bytes asked.profile asked.block_size asked.block_count → pair.IsFreshPair before changes (disk_of_geometry_and_blocks k blocks) history anchor_pair_address h → IsHeaderOfEmptyRoot (disk_of_geometry_and_blocks k blocks) history h
+pub device_root : (k asked : Geometry) (blocks : Blocks) (before history : List CallEvent) (h : PairHeader) (changes : List PairChange) (bytes fields : List ℕ) → length blocks ≡ k.block_count → asked ≡ k → changes ≡ superblock_slot_changes bytes → bytes ≡ fields
+    → fields ≡ superblock_bytes asked.profile asked.block_size asked.block_count → pair.IsFreshPair before changes (disk_of_blocks k blocks) history anchor_address h → IsRootHeader (disk_of_blocks k blocks) history h
 device_root k asked blocks before history h changes bytes fields count same e f b is =
-    is_root (disk_of_geometry_and_blocks k blocks) before history h (geometry_is k blocks count)
-    (subst (λ z. pair.IsFreshPair before z (disk_of_geometry_and_blocks k blocks) history anchor_pair_address h) (changes_are k (length blocks) changes bytes fields count e f (b ∙ ap (λ (j : Geometry). superblock_struct_bytes j.profile j.block_size j.block_count) same)) is)
+    is_root (disk_of_blocks k blocks) before history h (geometry_is k blocks count)
+    (subst (λ z. pair.IsFreshPair before z (disk_of_blocks k blocks) history anchor_address h) (changes_are k (length blocks) changes bytes fields count e f (b ∙ ap (λ (j : Geometry). superblock_bytes j.profile j.block_size j.block_count) same)) is)
 
 -- ---- what is kept
 
-pairs_are : (disk : Disk) (history : List DeviceCallEvent) (h : PairHeader) → IsHeaderOfEmptyRoot disk history h → pairs_of_headers disk (h ∷ []) ≡ only_pair_of_fresh_disk disk ∷ []
+pairs_are : (disk : Disk) (history : List CallEvent) (h : PairHeader) → IsRootHeader disk history h → pairs_of_headers disk (h ∷ []) ≡ fresh_pair disk ∷ []
 pairs_are disk history h root =
-    ap (λ at. pair_on_disk_at disk at ∷ []) root.at
-    ∙ ap (λ o. record { at = anchor_pair_address; content = unwrap_or o (record { slots = []; tail = None; move = zero_gstate }) } ∷ []) root.fresh.content
+    ap (λ at. disk_pair_at disk at ∷ []) root.at
+    ∙ ap (λ o. record { at = anchor_address; content = unwrap_or o (record { slots = []; tail = None; move = zero_gstate }) } ∷ []) root.fresh.content
 
-kept : (disk : Disk) (history : List DeviceCallEvent) (h : PairHeader) (sets : BlockStateList) → IsHeaderOfEmptyRoot disk history h → IsBlockMapAfterFormat (block_count disk) sets → WasKeptThreadOnDisk disk history (h ∷ []) sets
+kept : (disk : Disk) (history : List CallEvent) (h : PairHeader) (sets : BlockStates) → IsRootHeader disk history h → IsFormattedMap (block_count disk) sets → WasKeptOnDisk disk history (h ∷ []) sets
 unfolding IsDistinct
 kept disk history h sets root map = record {
   before = history;
   since = began;
   each = (root.header, tt);
-  links = subst (λ ps. AreLinkedByTails (Some anchor_pair_address) ps) (sym (pairs_are disk history h root)) (refl, refl);
+  links = subst (λ ps. AreLinked (Some anchor_address) ps) (sym (pairs_are disk history h root)) (refl, refl);
   distinct = subst (λ ps. IsDistinct nat_eq (blocks_of_pairs ps)) (sym (pairs_are disk history h root)) ((refl, tt), (tt, tt));
   size = map.size;
-  used = subst (λ ps. AreAllBlocksUsed sets (blocks_of_pairs ps)) (sym (pairs_are disk history h root))
+  used = subst (λ ps. AllBlocksUsed sets (blocks_of_pairs ps)) (sym (pairs_are disk history h root))
       ((map.used 0).1 (Contains-head 0 (1 ∷ [])), ((map.used 1).1 (Contains-tail 0 1 (1 ∷ []) (Contains-head 1 [])), tt));
 }
 
-pub empty_kept : (disk : Disk) (history : List DeviceCallEvent) (hs : List PairHeader) (sets : BlockStateList) (n : ℕ) → block_count disk ≡ n → IsThreadOfEmptyRoot disk history hs → IsBlockMapAfterFormat n sets → WasKeptThreadOnDisk disk history hs sets
+pub empty_kept : (disk : Disk) (history : List CallEvent) (hs : List PairHeader) (sets : BlockStates) (n : ℕ) → block_count disk ≡ n → IsRootThread disk history hs → IsFormattedMap n sets → WasKeptOnDisk disk history hs sets
 empty_kept disk history hs sets n count thread map =
-    subst (λ z. WasKeptThreadOnDisk disk history z sets) (sym thread.only) (kept disk history thread.first sets thread.root (subst (λ k. IsBlockMapAfterFormat k sets) (sym count) map))
+    subst (λ z. WasKeptOnDisk disk history z sets) (sym thread.only) (kept disk history thread.first sets thread.root (subst (λ k. IsFormattedMap k sets) (sym count) map))
 
-pub empty_formatted : (order : NameOrder) (disk : Disk) (history : List DeviceCallEvent) (hs : List PairHeader) (sets : BlockStateList) (n : ℕ) → block_count disk ≡ n → IsThreadOfEmptyRoot disk history hs → IsBlockMapAfterFormat n sets → IsFreshlyFormatted (kept_thread_view (disk_in_order order disk) history hs sets)
+pub empty_formatted : (order : NameOrder) (disk : Disk) (history : List CallEvent) (hs : List PairHeader) (sets : BlockStates) (n : ℕ) → block_count disk ≡ n → IsRootThread disk history hs → IsFormattedMap n sets → IsFormatted (kept_view (ordered_disk order disk) history hs sets)
 empty_formatted order disk history hs sets n count thread map = record {
   fresh = record { geometry = thread.root.fresh.geometry; content = thread.root.fresh.content; first = thread.root.fresh.first };
   first = thread.root.first;
@@ -207,15 +207,15 @@ empty_formatted order disk history hs sets n count thread map = record {
   size = map.size ∙ sym count;
 }
 
-pub shows_empty : (t : KeptThread) → IsFreshlyFormatted t → IsWritableImageWithEmptyRoot t
+pub shows_empty : (t : KeptThread) → IsFormatted t → IsEmptyWritable t
 shows_empty t h = record {
-  accepted = subst (IsAcceptedImage t.disk) (sym h.pairs) (accepted t.disk h.fresh);
-  writable = subst (IsWritableImage t.disk) (sym h.pairs) (writable t.disk h.fresh);
-  view = ap (view_of_disk t.disk) h.pairs ∙ ap (λ tree. record { tree = tree; gstate = zero_gstate; used = blocks_of_pair_address anchor_pair_address }) (shows t.disk);
+  accepted = subst (IsAccepted t.disk) (sym h.pairs) (accepted t.disk h.fresh);
+  writable = subst (IsWritable t.disk) (sym h.pairs) (writable t.disk h.fresh);
+  view = ap (disk_view t.disk) h.pairs ∙ ap (λ tree. record { tree = tree; gstate = zero_gstate; used = address_blocks anchor_address }) (shows t.disk);
 }
 
 -- what was written of the device, in the words of the thread
-pub wrote : {D : Type 0} (g : Ghosts D) (order : NameOrder) {old new : D} (hs : List PairHeader) (sets : BlockStateList) (bs : List ℕ) → ChangesOnlyTheseBlocks g bs old new → ThreadChangesOnlyTheseBlocks bs (kept_thread_in_order g order old [] []) (kept_thread_in_order g order new hs sets)
+pub wrote : {D : Type 0} (g : Ghosts D) (order : NameOrder) {old new : D} (hs : List PairHeader) (sets : BlockStates) (bs : List ℕ) → ChangesOnlyTheseBlocks g bs old new → ChangesThreadBlocks bs (kept_in_order g order old [] []) (kept_in_order g order new hs sets)
 wrote g order hs sets bs w = record {
   others = w.others;
   elsewhere = w.elsewhere;

@@ -4,90 +4,90 @@ use Rattle.std.specs.List.{IsDistinct}
 use Rattle.std.specs.Prelude.{◌↔◌, IsTrue}
 use Rattle.lfs_device.specs.declared.device.BlockDevice.{Ghosts}
 use Rattle.lfs_device.specs.declared.error.Error.{Error}
-use Rattle.lfs_model.specs.Disk.{disk_in_order, Disk, block_count}
+use Rattle.lfs_model.specs.format.Disk.{ordered_disk, Disk, block_count}
 use Rattle.lfs_device.specs.declared.error.Error.TheVariants.{Io}
-use Rattle.lfs_model.specs.BlockSets.{AreExactlyTheInFlightBlocks, AreExactlyTheUsedBlocks, BlockStateList}
-use Rattle.lfs_model.specs.History.{DeviceCallEvent, AreCallsSinceOnlyReads, fault_count_of_history, read_count_of_history}
-use Rattle.lfs_model.specs.Thread.{Pair, pair_count_before_root}
-use Rattle.lfs_model.specs.View.{IsAcceptedImage, DiskView}
-use Rattle.lfs_model.specs.Profile.{IsWritableImage}
-use Rattle.lfs_model.specs.Shown.{used_blocks}
-use Rattle.lfs_model.proofs.BlockSets.{in_flight_block_count-AreExactlyTheInFlightBlocks}
-use Rattle.lfs_model.proofs.Histories.{AreCallsSinceOnlyReads-trans, read_count_of_history-since}
-use Rattle.lfs_mount.specs.Accepted.{IsMountedThread}
+use Rattle.lfs_model.specs.layers.BlockSets.{AreInFlight, AreUsed, BlockStates}
+use Rattle.lfs_model.specs.session.History.{CallEvent, OnlyReadsSince, fault_count, read_count}
+use Rattle.lfs_model.specs.format.Thread.{Pair, pair_count_before_root}
+use Rattle.lfs_model.specs.tree.View.{IsAccepted, DiskView}
+use Rattle.lfs_model.specs.tree.Profile.{IsWritable}
+use Rattle.lfs_model.specs.tree.Shown.{used_blocks}
+use Rattle.lfs_model.proofs.BlockSets.{in_flight_count-AreInFlight}
+use Rattle.lfs_model.proofs.Histories.{OnlyReadsSince-trans, read_count-since}
+use Rattle.lfs_mount.specs.Accepted.{IsMountedOn}
 use Rattle.lfs_model.specs.declared.order.NameOrder.{NameOrder}
 use Rattle.lfs_model.specs.declared.order.NameOrder.TheVariants.{LongerFirst}
-use Rattle.lfs_thread.specs.Device.{GivesDeviceBackOnlyReadWithError}
+use Rattle.lfs_thread.specs.ThreadDevice.{GivesDeviceBackOnlyReadWithError}
 use Rattle.lfs_thread.specs.Kept.{KeptThread, ThreadView, disk_of_device}
-use Rattle.lfs_thread.specs.Steps.{IsThreadOnlyRead}
-use Rattle.lfs_tree.specs.Formats.{IsFreshlyFormatted, IsWritableImageWithEmptyRoot}
-use Rattle.lfs_tree.specs.RootedThreads.{IsSoundThreadWithRootAtPairNumber, tree_state_of_kept_thread, tree_state_of_thread}
-use Rattle.lfs_lookup.specs.Reading.{OnlyReadsThreadAndReportsErrors}
-use Rattle.lfs_tree.specs.TreeState.{IsMountedTree, IsSoundTreeState}
+use Rattle.lfs_thread.specs.ThreadSteps.{OnlyReadsThread}
+use Rattle.lfs_tree.specs.Formats.{IsFormatted, IsEmptyWritable}
+use Rattle.lfs_tree.specs.RootedThreads.{IsSoundWithRoot, kept_state, thread_state}
+use Rattle.lfs_lookup.specs.LookupReading.{OnlyReadsThreadAndReportsErrors}
+use Rattle.lfs_tree.specs.TreeState.{IsMountedTree, IsSoundState}
 use Rattle.lfs_lookup.proofs.Reading.{HasRead}
 use Rattle.lfs_tree.proofs.SameErrors.{same_error}
 
 -- what is sound stays so where it was only read
-pub sound_read : (a b : KeptThread) (writable failed now : Bool) → IsThreadOnlyRead a b → IsSoundTreeState (tree_state_of_kept_thread a writable failed) → IsSoundTreeState (tree_state_of_kept_thread b writable now)
+pub sound_read : (a b : KeptThread) (writable failed now : Bool) → OnlyReadsThread a b → IsSoundState (kept_state a writable failed) → IsSoundState (kept_state b writable now)
 sound_read a b writable failed now r s = record {
-  accepted = subst (λ (d : Disk). IsAcceptedImage d b.pairs) (sym r.disk) (subst (λ (ps : List Pair). IsAcceptedImage a.disk ps) (sym r.pairs) s.accepted);
-  fits = λ e. subst (λ (d : Disk). IsWritableImage d b.pairs) (sym r.disk) (subst (λ (ps : List Pair). IsWritableImage a.disk ps) (sym r.pairs) (s.fits e));
-  is_kept = λ h. s.is_kept (subst (λ (ps : List Pair). IsWritableImage a.disk ps) r.pairs (subst (λ (d : Disk). IsWritableImage d b.pairs) r.disk h));
-  used = subst (λ (d : Disk). AreExactlyTheUsedBlocks b.map (used_blocks d b.pairs)) (sym r.disk) (subst (λ (ps : List Pair). AreExactlyTheUsedBlocks b.map (used_blocks a.disk ps)) (sym r.pairs)
-      (subst (λ (sets : BlockStateList). AreExactlyTheUsedBlocks sets (used_blocks a.disk a.pairs)) (sym r.map) s.used));
-  size = ap (λ (sets : BlockStateList). length sets) r.map ∙ s.size ∙ ap (λ (d : Disk). block_count d) (sym r.disk);
+  accepted = subst (λ (d : Disk). IsAccepted d b.pairs) (sym r.disk) (subst (λ (ps : List Pair). IsAccepted a.disk ps) (sym r.pairs) s.accepted);
+  fits = λ e. subst (λ (d : Disk). IsWritable d b.pairs) (sym r.disk) (subst (λ (ps : List Pair). IsWritable a.disk ps) (sym r.pairs) (s.fits e));
+  is_kept = λ h. s.is_kept (subst (λ (ps : List Pair). IsWritable a.disk ps) r.pairs (subst (λ (d : Disk). IsWritable d b.pairs) r.disk h));
+  used = subst (λ (d : Disk). AreUsed b.map (used_blocks d b.pairs)) (sym r.disk) (subst (λ (ps : List Pair). AreUsed b.map (used_blocks a.disk ps)) (sym r.pairs)
+      (subst (λ (sets : BlockStates). AreUsed sets (used_blocks a.disk a.pairs)) (sym r.map) s.used));
+  size = ap (λ (sets : BlockStates). length sets) r.map ∙ s.size ∙ ap (λ (d : Disk). block_count d) (sym r.disk);
 }
 
 none_twice : IsDistinct nat_eq []
 unfolding IsDistinct
 none_twice = tt
 
-module _ (disk : Disk) (history : List DeviceCallEvent) (a b : ThreadView) (root : ℕ) (writable : Bool) (m : IsMountedThread disk history a) (r : HasRead a b)
-    (is : root ≡ pair_count_before_root a.kept.pairs) (fits : IsTrue writable ↔ IsWritableImage a.kept.disk a.kept.pairs) where
-  sound_now : IsSoundTreeState (tree_state_of_kept_thread b.kept writable false)
+module _ (disk : Disk) (history : List CallEvent) (a b : ThreadView) (root : ℕ) (writable : Bool) (m : IsMountedOn disk history a) (r : HasRead a b)
+    (is : root ≡ pair_count_before_root a.kept.pairs) (fits : IsTrue writable ↔ IsWritable a.kept.disk a.kept.pairs) where
+  sound_now : IsSoundState (kept_state b.kept writable false)
   sound_now = sound_read a.kept b.kept writable false false r.only (record {
-    accepted = subst (λ (d : Disk). IsAcceptedImage d a.kept.pairs) (sym m.disk_is) m.accepted;
+    accepted = subst (λ (d : Disk). IsAccepted d a.kept.pairs) (sym m.disk_is) m.accepted;
     fits = λ e. fits.0 e;
     is_kept = λ h. fits.1 h;
-    used = subst (λ (d : Disk). AreExactlyTheUsedBlocks a.kept.map (used_blocks d a.kept.pairs)) (sym m.disk_is) m.used;
+    used = subst (λ (d : Disk). AreUsed a.kept.map (used_blocks d a.kept.pairs)) (sym m.disk_is) m.used;
     size = m.size ∙ ap (λ (d : Disk). block_count d) (sym m.disk_is);
   })
 
-  pub mounted_rooted : IsSoundThreadWithRootAtPairNumber b root writable
+  pub mounted_rooted : IsSoundWithRoot b root writable
   mounted_rooted = record { works = r.works; sound = sound_now; root_is = is ∙ ap pair_count_before_root (sym r.only.pairs) }
 
-  pub mounted_tree : read_count_of_history history < read_count_of_history a.kept.history → IsMountedTree disk history (tree_state_of_thread b writable)
+  pub mounted_tree : read_count history < read_count a.kept.history → IsMountedTree disk history (thread_state b writable)
   mounted_tree called = record {
     works = r.works;
     disk_is = r.only.disk ∙ m.disk_is;
-    reads = AreCallsSinceOnlyReads-trans m.reads r.only.reads (ap (λ (d : Disk). d.blocks) m.disk_is);
-    called = (let k = read_count_of_history-since r.only.reads in omega (arith, called, k));
+    reads = OnlyReadsSince-trans m.reads r.only.reads (ap (λ (d : Disk). d.blocks) m.disk_is);
+    called = (let k = read_count-since r.only.reads in omega (arith, called, k));
     no_fault = r.same ∙ m.no_fault;
     sound = record { accepted = sound_now.accepted; fits = sound_now.fits; is_kept = sound_now.is_kept; used = sound_now.used; size = sound_now.size };
-    none_in_flight = in_flight_block_count-AreExactlyTheInFlightBlocks b.kept.map [] none_twice (subst (λ (sets : BlockStateList). AreExactlyTheInFlightBlocks sets []) (sym r.only.map) m.none_in_flight);
+    none_in_flight = in_flight_count-AreInFlight b.kept.map [] none_twice (subst (λ (sets : BlockStates). AreInFlight sets []) (sym r.only.map) m.none_in_flight);
   }
 
 -- the device comes back with the error of a read
 pub read_back : {D X : Type 0} (g : Ghosts D) (old back : D) (order now : NameOrder) (a b : ThreadView) (r : Result X Error) (e : Error)
-    → IsMountedThread (disk_in_order order (disk_of_device g old)) (g.history old) a → r ≡ Err e → OnlyReadsThreadAndReportsErrors a b r → disk_in_order now (disk_of_device g back) ≡ b.kept.disk → g.history back ≡ b.kept.history
+    → IsMountedOn (ordered_disk order (disk_of_device g old)) (g.history old) a → r ≡ Err e → OnlyReadsThreadAndReportsErrors a b r → ordered_disk now (disk_of_device g back) ≡ b.kept.disk → g.history back ≡ b.kept.history
     → GivesDeviceBackOnlyReadWithError g old back e
 read_back {X = X} g old back order now a b r e m is read same later = record {
-  disk = ap (disk_in_order LongerFirst) (same ∙ read.only.disk ∙ m.disk_is);
-  reads = subst (λ (h : List DeviceCallEvent). AreCallsSinceOnlyReads (g.blocks old) (g.history old) h) (sym later) (AreCallsSinceOnlyReads-trans m.reads read.only.reads (ap (λ (d : Disk). d.blocks) m.disk_is));
-  fault = λ io. (let k = read.reported.fault (is ∙ ap Err io) in let n = m.no_fault in let l = ap fault_count_of_history later in omega (arith, k, n, l));
-  no_fault = λ other. ap fault_count_of_history later ∙ read.reported.no_fault (λ z. other (same_error e Io (sym is ∙ z))) ∙ m.no_fault;
+  disk = ap (ordered_disk LongerFirst) (same ∙ read.only.disk ∙ m.disk_is);
+  reads = subst (λ (h : List CallEvent). OnlyReadsSince (g.blocks old) (g.history old) h) (sym later) (OnlyReadsSince-trans m.reads read.only.reads (ap (λ (d : Disk). d.blocks) m.disk_is));
+  fault = λ io. (let k = read.reported.fault (is ∙ ap Err io) in let n = m.no_fault in let l = ap fault_count later in omega (arith, k, n, l));
+  no_fault = λ other. ap fault_count later ∙ read.reported.no_fault (λ z. other (same_error e Io (sym is ∙ z))) ∙ m.no_fault;
 }
 
 -- a fresh image as a tree
-module _ (t : ThreadView) (works : t.failed ≡ false) (f : IsFreshlyFormatted t.kept) (s : IsWritableImageWithEmptyRoot t.kept) where
-  pub fresh_sound : IsSoundTreeState (tree_state_of_kept_thread t.kept true false)
+module _ (t : ThreadView) (works : t.failed ≡ false) (f : IsFormatted t.kept) (s : IsEmptyWritable t.kept) where
+  pub fresh_sound : IsSoundState (kept_state t.kept true false)
   fresh_sound = record {
     accepted = s.accepted;
     fits = λ e. s.writable;
     is_kept = λ h. refl;
-    used = subst (λ (bs : List ℕ). AreExactlyTheUsedBlocks t.kept.map bs) (sym (ap (λ (v : DiskView). v.used) s.view)) f.used;
+    used = subst (λ (bs : List ℕ). AreUsed t.kept.map bs) (sym (ap (λ (v : DiskView). v.used) s.view)) f.used;
     size = f.size;
   }
 
-  pub fresh_rooted : IsSoundThreadWithRootAtPairNumber t 0 true
+  pub fresh_rooted : IsSoundWithRoot t 0 true
   fresh_rooted = record { works = works; sound = fresh_sound; root_is = sym (ap pair_count_before_root f.pairs) }

@@ -7,29 +7,29 @@ use Rattle.std.proofs.lemmas.List.Elements.{All-from_recursion}
 use Rattle.std.proofs.lemmas.Option.{same_Some}
 use Rattle.lfs_device.specs.declared.error.Error.{Error}
 use Rattle.lfs_device.specs.declared.geometry.Geometry.{Geometry}
-use Rattle.lfs_model.specs.TreeEdits.{file_bytes_of_node, is_file}
-use Rattle.lfs_model.specs.Blocks.{Blocks}
-use Rattle.lfs_model.specs.BlockSets.{AreExactlyTheUsedBlocks, BlockStateList, IsBlockFree, IsBlockInFlight, IsBlockMarkedUsedInMap, in_flight_block_count}
-use Rattle.lfs_model.specs.BlockSets.BlockState.{Free, Used}
-use Rattle.lfs_model.specs.Disk.{inline_limit}
-use Rattle.lfs_model.specs.History.{DeviceCallEvent}
-use Rattle.lfs_model.specs.SkipLists.{IsSkipList, bytes_of_skip_list}
-use Rattle.lfs_model.specs.SlotEdits.{slot_of_path}
-use Rattle.lfs_model.specs.Slots.{Slot, Struct, Inline, Ctz}
-use Rattle.lfs_model.specs.Thread.{blocks_of_pairs}
-use Rattle.lfs_model.specs.Tree.{Path}
-use Rattle.lfs_model.specs.Profile.{HasInlineBytesWithinLimit}
-use Rattle.lfs_model.specs.View.{IsAcceptedImage, IsSkipListIfCtzStruct}
-use Rattle.lfs_model.specs.Shown.{all_slots_not_moved, skip_list_blocks_of_struct, tree_on_disk, used_blocks}
+use Rattle.lfs_model.specs.session.TreeEdits.{file_bytes, is_file}
+use Rattle.lfs_model.specs.format.Blocks.{Blocks}
+use Rattle.lfs_model.specs.layers.BlockSets.{AreUsed, BlockStates, IsFree, IsInFlight, IsUsedBlock, in_flight_count}
+use Rattle.lfs_model.specs.layers.BlockSets.BlockState.{Free, Used}
+use Rattle.lfs_model.specs.format.Disk.{inline_limit}
+use Rattle.lfs_model.specs.session.History.{CallEvent}
+use Rattle.lfs_model.specs.format.SkipLists.{IsSkipList, list_bytes}
+use Rattle.lfs_model.specs.session.SlotEdits.{slot_of}
+use Rattle.lfs_model.specs.format.Slots.{Slot, Struct, Inline, Ctz}
+use Rattle.lfs_model.specs.format.Thread.{blocks_of_pairs}
+use Rattle.lfs_model.specs.tree.Tree.{Path}
+use Rattle.lfs_model.specs.tree.Profile.{InlineBytesFit}
+use Rattle.lfs_model.specs.tree.View.{IsAccepted, IsWellFormedCtz}
+use Rattle.lfs_model.specs.tree.Shown.{all_slots_not_moved, struct_blocks, tree_on_disk, used_blocks}
 use Rattle.lfs_model.proofs.BlockCounts.{few_flying, in_flight-freed}
-use Rattle.lfs_model.proofs.BlockSets.{Contains-occurrence_count_of_number}
+use Rattle.lfs_model.proofs.BlockSets.{Contains-number_count}
 use Rattle.lfs_model.proofs.Counts.{Each, count_append, each_from_counted, each_pieces}
-use Rattle.lfs_tree.specs.ThreadContents.{list_blocks_of_contents}
-use Rattle.lfs_thread.specs.Beside.{DiskHasGeometry}
+use Rattle.lfs_tree.specs.ThreadContents.{contents_list_blocks}
+use Rattle.lfs_thread.specs.Beside.{HasGeometryOf}
 use Rattle.lfs_thread.specs.Kept.{KeptThread}
-use Rattle.lfs_lookup.specs.FileBytes.{file_bytes_of_struct}
-use Rattle.lfs_tree.specs.OpenContents.{IsFormOfOpenedContents, AreWriterContentsOverFileOnThread, skip_list_blocks_of_slot, bytes_of_writer_contents, skip_list_blocks_at_path}
-use Rattle.lfs_tree.specs.Openings.{CanOpenSlotFileWithNothingInFlight, AreOpenedContentsOfStruct, form_of_opened_storage}
+use Rattle.lfs_lookup.specs.FileBytes.{struct_file_bytes}
+use Rattle.lfs_tree.specs.OpenContents.{IsOpenedForm, OverThreadFile, slot_list_blocks, writer_contents_bytes, list_blocks_at}
+use Rattle.lfs_tree.specs.Openings.{CanOpenSlot, AreOpenedContents, opened_form}
 use Rattle.lfs_lookup.specs.declared.entry.FileStorage.{FileStorage}
 use Rattle.lfs_lookup.specs.declared.entry.FileStorage.TheVariants as entry
 use Rattle.lfs_lookup.specs.declared.search.SlotPosition.{SlotPosition}
@@ -38,41 +38,41 @@ use Rattle.lfs_tree.proofs.BesideWritten.{bytes_of_held}
 use Rattle.lfs_lookup.proofs.BytesAtSlots.{IsFileOf, file_since}
 use Rattle.lfs_tree.proofs.Carried.{with_history}
 use Rattle.lfs_tree.proofs.SlotsHave.{slot_has}
-use Rattle.lfs_file.specs.Contents.{AreConsistentContentsWithBytesAndForm, HasNoBlockInFlight, storage_form_of_contents}
+use Rattle.lfs_file.specs.Contents.{HaveForm, NoneInFlight, contents_form}
 use Rattle.lfs_file.specs.Form as form
-use Rattle.lfs_file.specs.Form.{ContentsStorageForm}
-use Rattle.lfs_file.specs.Hand.{IsFinishedListConsistentWithMapAndDisk}
+use Rattle.lfs_file.specs.Form.{StorageForm}
+use Rattle.lfs_file.specs.Hand.{FinishedListOnDisk}
 use Rattle.lfs_file.specs.declared.contents.WriterContents.{WriterContents}
 use Rattle.lfs_file.specs.declared.contents.WriterContents.TheVariants.{InMemory, Finished, InHand}
 use Rattle.lfs_file.specs.declared.stored_list.StoredList.{StoredList}
 
 -- ---- where no block is in flight
 
-pub none_flying : (sets : BlockStateList) → in_flight_block_count sets ≡ 0 → (b : ℕ) → ¬ (IsBlockInFlight sets b)
+pub none_flying : (sets : BlockStates) → in_flight_count sets ≡ 0 → (b : ℕ) → ¬ (IsInFlight sets b)
 none_flying sets none b flies = absurd (let e = in_flight-freed sets b flies in omega arith)
 
-pub no_flight : (sets : BlockStateList) → ((b : ℕ) → ¬ (IsBlockInFlight sets b)) → in_flight_block_count sets ≡ 0
+pub no_flight : (sets : BlockStates) → ((b : ℕ) → ¬ (IsInFlight sets b)) → in_flight_count sets ≡ 0
 no_flight sets none = let e = few_flying [] sets (λ b flies. absurd (none b flies)) in omega arith
 
-pub idle_is : (t : KeptThread) → in_flight_block_count t.map ≡ 0 → length t.map ≡ length t.disk.blocks → HasNoBlockInFlight t.map t.disk.blocks
+pub idle_is : (t : KeptThread) → in_flight_count t.map ≡ 0 → length t.map ≡ length t.disk.blocks → NoneInFlight t.map t.disk.blocks
 idle_is t none size = record { count = size; none = none_flying t.map none }
 
 -- ---- in memory
 
-owns_nothing : (t : KeptThread) (c : WriterContents) (size : ℕ) (own : List ℕ) → storage_form_of_contents c ≡ form.InMemory size → (b : ℕ) → Contains (list_blocks_of_contents t c) b → Contains own b
+owns_nothing : (t : KeptThread) (c : WriterContents) (size : ℕ) (own : List ℕ) → contents_form c ≡ form.InMemory size → (b : ℕ) → Contains (contents_list_blocks t c) b → Contains own b
 owns_nothing t (InMemory list) size own e b has = absurd (omega (arith, has.1))
 owns_nothing t (Finished stored) size own e b has = absurd (cc)
 owns_nothing t (InHand hand) size own e b has = absurd (cc)
 
-pub opened_in_memory : (t : KeptThread) (geometry : Geometry) (xs bytes : List ℕ) (s : Struct) (size : ℕ) (r : Result WriterContents Error) → DiskHasGeometry geometry t.disk → HasNoBlockInFlight t.map t.disk.blocks → xs ≡ bytes → s ≡ Inline bytes → length bytes ≡ size
-    → IfOk r (λ c. (map : BlockStateList) (disk : Blocks) → HasNoBlockInFlight map disk → AreConsistentContentsWithBytesAndForm map disk geometry c xs (form.InMemory (length xs))) → IfOk r (AreOpenedContentsOfStruct t s (form.InMemory size))
+pub opened_in_memory : (t : KeptThread) (geometry : Geometry) (xs bytes : List ℕ) (s : Struct) (size : ℕ) (r : Result WriterContents Error) → HasGeometryOf geometry t.disk → NoneInFlight t.map t.disk.blocks → xs ≡ bytes → s ≡ Inline bytes → length bytes ≡ size
+    → IfOk r (λ c. (map : BlockStates) (disk : Blocks) → NoneInFlight map disk → HaveForm map disk geometry c xs (form.InMemory (length xs))) → IfOk r (AreOpenedContents t s (form.InMemory size))
 opened_in_memory t geometry xs bytes s size (Err x) divided idle same e l h = tt
 opened_in_memory t geometry xs bytes s size (Ok c) divided idle same e l h =
     let has = h t.map t.disk.blocks idle in
-    let shape : storage_form_of_contents c ≡ form.InMemory size = has.form ∙ ap (λ n. form.InMemory n) (ap length same ∙ l) in
+    let shape : contents_form c ≡ form.InMemory size = has.form ∙ ap (λ n. form.InMemory n) (ap length same ∙ l) in
     record {
-      holds = record { geometry = geometry; divided = divided; has = record { stands = has.stands; has = has.has ∙ same ∙ sym (ap (file_bytes_of_struct t.disk) e); form = shape } };
-      owned = record { each = λ b has used. owns_nothing t c size (skip_list_blocks_of_struct t.disk s) shape b has };
+      holds = record { geometry = geometry; divided = divided; has = record { stands = has.stands; has = has.has ∙ same ∙ sym (ap (struct_file_bytes t.disk) e); form = shape } };
+      owned = record { each = λ b has used. owns_nothing t c size (struct_blocks t.disk s) shape b has };
     }
 
 no_drop : (xs : List ℕ) → drop 0 xs ≡ xs
@@ -84,16 +84,16 @@ all_taken xs bytes len l e = e ∙ ap (take len) (no_drop bytes) ∙ ap (λ n. t
 
 -- ---- a list
 
-pub opened_list : (t : KeptThread) (geometry : Geometry) (head size : ℕ) (slot : SlotPosition) (held : Slot) → DiskHasGeometry geometry t.disk → CanOpenSlotFileWithNothingInFlight t slot (entry.List head size) held
-    → AreOpenedContentsOfStruct t held.struct (form.Finished size false) (Finished (record { head = head; size = size; in_flight = false }))
+pub opened_list : (t : KeptThread) (geometry : Geometry) (head size : ℕ) (slot : SlotPosition) (held : Slot) → HasGeometryOf geometry t.disk → CanOpenSlot t slot (entry.List head size) held
+    → AreOpenedContents t held.struct (form.Finished size false) (Finished (record { head = head; size = size; in_flight = false }))
 opened_list t geometry head size slot held divided can =
     let is : held.struct ≡ Ctz head size = can.file.shows in
-    let list : IsSkipList t.disk.blocks t.disk.block_size head size = subst (IsSkipListIfCtzStruct t.disk) is can.file.list in
+    let list : IsSkipList t.disk.blocks t.disk.block_size head size = subst (IsWellFormedCtz t.disk) is can.file.list in
     let s : StoredList = record { head = head; size = size; in_flight = false } in
-    let stands : IsFinishedListConsistentWithMapAndDisk t.map t.disk.blocks t.disk.block_size (record { head = head; size = size; in_flight = false }) = record {
+    let stands : FinishedListOnDisk t.map t.disk.blocks t.disk.block_size (record { head = head; size = size; in_flight = false }) = record {
       base = inr list;
       count = can.idle.count;
-      marked = subst (λ (z : Struct). All (λ b. ¬ (IsBlockFree t.map b)) (skip_list_blocks_of_struct t.disk z)) is can.marked;
+      marked = subst (λ (z : Struct). All (λ b. ¬ (IsFree t.map b)) (struct_blocks t.disk z)) is can.marked;
       flying = λ b flies. absurd (can.idle.none b flies);
     } in
     record {
@@ -101,82 +101,82 @@ opened_list t geometry head size slot held divided can =
         geometry = geometry;
         divided = divided;
         has = record {
-          stands = subst (λ (n : ℕ). IsFinishedListConsistentWithMapAndDisk t.map t.disk.blocks n (record { head = head; size = size; in_flight = false })) (sym divided.block_size) stands;
-          has = ap (λ (n : ℕ). bytes_of_skip_list t.disk.blocks n head size) divided.block_size ∙ sym (ap (file_bytes_of_struct t.disk) is);
+          stands = subst (λ (n : ℕ). FinishedListOnDisk t.map t.disk.blocks n (record { head = head; size = size; in_flight = false })) (sym divided.block_size) stands;
+          has = ap (λ (n : ℕ). list_bytes t.disk.blocks n head size) divided.block_size ∙ sym (ap (struct_file_bytes t.disk) is);
           form = refl;
         };
       };
-      owned = record { each = λ b has used. subst (λ (z : Struct). Contains (skip_list_blocks_of_struct t.disk z) b) (sym is) has };
+      owned = record { each = λ b has used. subst (λ (z : Struct). Contains (struct_blocks t.disk z) b) (sym is) has };
     }
 
 -- ---- the file at a path
 
-pub not_free : (sets : BlockStateList) (b : ℕ) → IsBlockMarkedUsedInMap sets b → ¬ (IsBlockFree sets b)
+pub not_free : (sets : BlockStates) (b : ℕ) → IsUsedBlock sets b → ¬ (IsFree sets b)
 not_free sets b used free = absurd (let k : Used ≡ Free = same_Some Used Free (sym used ∙ free) in cc)
 
 -- no block of its list is free
-pub marked_there : (t : KeptThread) (path : Path) (held : Slot) → IsAcceptedImage t.disk t.pairs → AreExactlyTheUsedBlocks t.map (used_blocks t.disk t.pairs) → slot_of_path t.pairs path ≡ Some held
-    → All (λ b. IsBlockMarkedUsedInMap t.map b) (skip_list_blocks_of_struct t.disk held.struct)
+pub marked_there : (t : KeptThread) (path : Path) (held : Slot) → IsAccepted t.disk t.pairs → AreUsed t.map (used_blocks t.disk t.pairs) → slot_of t.pairs path ≡ Some held
+    → All (λ b. IsUsedBlock t.map b) (struct_blocks t.disk held.struct)
 marked_there t path held ok used at =
-    All-from_recursion (λ b. IsBlockMarkedUsedInMap t.map b) (skip_list_blocks_of_struct t.disk held.struct)
-    (slot_has (λ (s : Slot). Each (λ b. IsBlockMarkedUsedInMap t.map b) (skip_list_blocks_of_struct t.disk s.struct)) t.disk t.pairs ok
-    (each_pieces (λ b. IsBlockMarkedUsedInMap t.map b) (λ (s : Slot). skip_list_blocks_of_struct t.disk s.struct) (all_slots_not_moved t.pairs)
-    (each_from_counted (λ b. IsBlockMarkedUsedInMap t.map b) (flat_map (λ (s : Slot). skip_list_blocks_of_struct t.disk s.struct) (all_slots_not_moved t.pairs))
-    (λ b some. (used b).1 (Contains-occurrence_count_of_number (used_blocks t.disk t.pairs) b
-    (let e = count_append b (blocks_of_pairs t.pairs) (flat_map (λ (s : Slot). skip_list_blocks_of_struct t.disk s.struct) (all_slots_not_moved t.pairs)) in omega arith)))))
+    All-from_recursion (λ b. IsUsedBlock t.map b) (struct_blocks t.disk held.struct)
+    (slot_has (λ (s : Slot). Each (λ b. IsUsedBlock t.map b) (struct_blocks t.disk s.struct)) t.disk t.pairs ok
+    (each_pieces (λ b. IsUsedBlock t.map b) (λ (s : Slot). struct_blocks t.disk s.struct) (all_slots_not_moved t.pairs)
+    (each_from_counted (λ b. IsUsedBlock t.map b) (flat_map (λ (s : Slot). struct_blocks t.disk s.struct) (all_slots_not_moved t.pairs))
+    (λ b some. (used b).1 (Contains-number_count (used_blocks t.disk t.pairs) b
+    (let e = count_append b (blocks_of_pairs t.pairs) (flat_map (λ (s : Slot). struct_blocks t.disk s.struct) (all_slots_not_moved t.pairs)) in omega arith)))))
     tt path held at)
 
-module _ (t : KeptThread) (h : List DeviceCallEvent) (path : Path) (slot : SlotPosition) (contents : FileStorage) (f : IsFileOf t path slot contents) (ok : IsAcceptedImage t.disk t.pairs) (used : AreExactlyTheUsedBlocks t.map (used_blocks t.disk t.pairs))
-    (idle : HasNoBlockInFlight t.map t.disk.blocks) where
-  pub can_be_opened : CanOpenSlotFileWithNothingInFlight (with_history t h) slot contents f.held
+module _ (t : KeptThread) (h : List CallEvent) (path : Path) (slot : SlotPosition) (contents : FileStorage) (f : IsFileOf t path slot contents) (ok : IsAccepted t.disk t.pairs) (used : AreUsed t.map (used_blocks t.disk t.pairs))
+    (idle : NoneInFlight t.map t.disk.blocks) where
+  pub can_be_opened : CanOpenSlot (with_history t h) slot contents f.held
   can_be_opened = record {
     file = file_since t (with_history t h) slot contents f.held refl refl f.file;
     idle = record { count = idle.count; none = idle.none };
     marked = λ k d l. not_free t.map _ (marked_there t path f.held ok used f.at k d l);
   }
 
-  module _ (file : is_file (tree_on_disk t.disk t.pairs path) ≡ true) (now : List DeviceCallEvent) (r : Result WriterContents Error) where
-    pub over_opened : IfOk r (AreOpenedContentsOfStruct (with_history t now) f.held.struct (form_of_opened_storage contents)) → IfOk r (AreWriterContentsOverFileOnThread (with_history t now) path)
+  module _ (file : is_file (tree_on_disk t.disk t.pairs path) ≡ true) (now : List CallEvent) (r : Result WriterContents Error) where
+    pub over_opened : IfOk r (AreOpenedContents (with_history t now) f.held.struct (opened_form contents)) → IfOk r (OverThreadFile (with_history t now) path)
     over_opened opened = go r opened
       where
-        go : (r : Result WriterContents Error) → IfOk r (AreOpenedContentsOfStruct (with_history t now) f.held.struct (form_of_opened_storage contents)) → IfOk r (AreWriterContentsOverFileOnThread (with_history t now) path)
+        go : (r : Result WriterContents Error) → IfOk r (AreOpenedContents (with_history t now) f.held.struct (opened_form contents)) → IfOk r (OverThreadFile (with_history t now) path)
         go (Err x) o = tt
         go (Ok c) o = record {
           file = file;
           stands = record { geometry = o.holds.geometry; divided = o.holds.divided; stands = o.holds.has.stands };
-          owned = record { each = λ b has is. subst (λ (z : Option Slot). Contains (skip_list_blocks_of_slot t.disk z) b) (sym f.at) (o.owned.each b has is) };
+          owned = record { each = λ b has is. subst (λ (z : Option Slot). Contains (slot_list_blocks t.disk z) b) (sym f.at) (o.owned.each b has is) };
         }
 
-    pub bytes_opened : IfOk r (AreOpenedContentsOfStruct (with_history t now) f.held.struct (form_of_opened_storage contents)) → IfOk r (λ c. bytes_of_writer_contents (with_history t now) c ≡ file_bytes_of_node (tree_on_disk t.disk t.pairs path))
+    pub bytes_opened : IfOk r (AreOpenedContents (with_history t now) f.held.struct (opened_form contents)) → IfOk r (λ c. writer_contents_bytes (with_history t now) c ≡ file_bytes (tree_on_disk t.disk t.pairs path))
     bytes_opened opened = go r opened
       where
-        go : (r : Result WriterContents Error) → IfOk r (AreOpenedContentsOfStruct (with_history t now) f.held.struct (form_of_opened_storage contents)) → IfOk r (λ c. bytes_of_writer_contents (with_history t now) c ≡ file_bytes_of_node (tree_on_disk t.disk t.pairs path))
+        go : (r : Result WriterContents Error) → IfOk r (AreOpenedContents (with_history t now) f.held.struct (opened_form contents)) → IfOk r (λ c. writer_contents_bytes (with_history t now) c ≡ file_bytes (tree_on_disk t.disk t.pairs path))
         go (Err x) o = tt
-        go (Ok c) o = bytes_of_held (with_history t now) c (file_bytes_of_struct t.disk f.held.struct) (form_of_opened_storage contents) o.holds ∙ f.bytes
+        go (Ok c) o = bytes_of_held (with_history t now) c (struct_file_bytes t.disk f.held.struct) (opened_form contents) o.holds ∙ f.bytes
 
 -- contents as they are opened
-pub form_opened : (t : KeptThread) (path : Path) (slot : SlotPosition) (contents : FileStorage) (f : IsFileOf t path slot contents) → HasInlineBytesWithinLimit (inline_limit t.disk.profile t.disk.block_size) f.held.struct → SizedLists t.disk → (shape : ContentsStorageForm) → shape ≡ form_of_opened_storage contents
-    → IsFormOfOpenedContents t.disk.profile t.disk.block_size (length (file_bytes_of_node (tree_on_disk t.disk t.pairs path))) shape
+pub form_opened : (t : KeptThread) (path : Path) (slot : SlotPosition) (contents : FileStorage) (f : IsFileOf t path slot contents) → InlineBytesFit (inline_limit t.disk.profile t.disk.block_size) f.held.struct → SizedLists t.disk → (shape : StorageForm) → shape ≡ opened_form contents
+    → IsOpenedForm t.disk.profile t.disk.block_size (length (file_bytes (tree_on_disk t.disk t.pairs path))) shape
 form_opened t path slot (entry.Inline len) f few sized shape e =
     let k = f.file.shows in
-    let l : len ≡ length (file_bytes_of_node (tree_on_disk t.disk t.pairs path)) = sym k.1.1.0 ∙ sym (ap (λ z. length (file_bytes_of_struct t.disk z)) k.1.0) ∙ ap length f.bytes in
-    let m : length k.0 ≤ inline_limit t.disk.profile t.disk.block_size = subst (HasInlineBytesWithinLimit (inline_limit t.disk.profile t.disk.block_size)) k.1.0 few in
+    let l : len ≡ length (file_bytes (tree_on_disk t.disk t.pairs path)) = sym k.1.1.0 ∙ sym (ap (λ z. length (struct_file_bytes t.disk z)) k.1.0) ∙ ap length f.bytes in
+    let m : length k.0 ≤ inline_limit t.disk.profile t.disk.block_size = subst (InlineBytesFit (inline_limit t.disk.profile t.disk.block_size)) k.1.0 few in
     let n = k.1.1.0 in
     inl (e ∙ ap (λ n. form.InMemory n) l, omega arith)
 form_opened t path slot (entry.List head size) f few sized shape e =
     let k = f.file.shows in
-    let l : size ≡ length (file_bytes_of_node (tree_on_disk t.disk t.pairs path)) = sym (sized head size (subst (IsSkipListIfCtzStruct t.disk) k f.file.list)) ∙ sym (ap (λ z. length (file_bytes_of_struct t.disk z)) k) ∙ ap length f.bytes in
+    let l : size ≡ length (file_bytes (tree_on_disk t.disk t.pairs path)) = sym (sized head size (subst (IsWellFormedCtz t.disk) k f.file.list)) ∙ sym (ap (λ z. length (struct_file_bytes t.disk z)) k) ∙ ap length f.bytes in
     inr (e ∙ ap (λ n. form.Finished n false) l)
 
-pub form_of_opened : (t : KeptThread) (s : Struct) (shape : ContentsStorageForm) (r : Result WriterContents Error) (P : ContentsStorageForm → Type 0) → ((f : ContentsStorageForm) → f ≡ shape → P f) → IfOk r (AreOpenedContentsOfStruct t s shape) → IfOk r (λ c. P (storage_form_of_contents c))
+pub form_of_opened : (t : KeptThread) (s : Struct) (shape : StorageForm) (r : Result WriterContents Error) (P : StorageForm → Type 0) → ((f : StorageForm) → f ≡ shape → P f) → IfOk r (AreOpenedContents t s shape) → IfOk r (λ c. P (contents_form c))
 form_of_opened t s shape (Err x) P of o = tt
-form_of_opened t s shape (Ok c) P of o = of (storage_form_of_contents c) o.holds.has.form
+form_of_opened t s shape (Ok c) P of o = of (contents_form c) o.holds.has.form
 
 -- contents of no bytes are over each file
-pub over_empty : (t : KeptThread) (path : Path) (r : Result WriterContents Error) → is_file (tree_on_disk t.disk t.pairs path) ≡ true → IfOk r (AreOpenedContentsOfStruct t (Inline []) (form.InMemory 0)) → IfOk r (AreWriterContentsOverFileOnThread t path)
+pub over_empty : (t : KeptThread) (path : Path) (r : Result WriterContents Error) → is_file (tree_on_disk t.disk t.pairs path) ≡ true → IfOk r (AreOpenedContents t (Inline []) (form.InMemory 0)) → IfOk r (OverThreadFile t path)
 over_empty t path (Err x) file o = tt
 over_empty t path (Ok c) file o = record {
   file = file;
   stands = record { geometry = o.holds.geometry; divided = o.holds.divided; stands = o.holds.has.stands };
-  owned = record { each = λ b has used. owns_nothing t c 0 (skip_list_blocks_at_path t path) o.holds.has.form b has };
+  owned = record { each = λ b has used. owns_nothing t c 0 (list_blocks_at t path) o.holds.has.form b has };
 }

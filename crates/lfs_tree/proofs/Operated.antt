@@ -3,26 +3,26 @@ use Rattle.std.proofs.Common.{ℕ, ◌≡◌, ◌∙◌, false, true, List, [], 
 use Rattle.std.specs.Prelude.{IfErr, OnOk, is_err, is_some}
 use Rattle.lfs_device.specs.declared.error.Error.{Error}
 use Rattle.lfs_device.specs.declared.error.Error.TheVariants.{Io}
-use Rattle.lfs_model.specs.Content.{attributes_with_attribute, attributes_without_attribute}
-use Rattle.lfs_model.specs.History.{DeviceCallEvent, AreCallsSinceOnlyReads, fault_count_of_history}
-use Rattle.lfs_model.specs.Operations as ops
-use Rattle.lfs_model.specs.Operations.{FlagsOfOpen, Operation}
-use Rattle.lfs_model.specs.Refusals.{path_of_bytes_or_root}
-use Rattle.lfs_model.specs.Run.{is_recover_operation, renames_to_itself}
-use Rattle.lfs_model.specs.Shown.{tree_on_disk}
-use Rattle.lfs_model.specs.Tree.{DirectoryNode, Path, Tree}
-use Rattle.lfs_model.specs.TreeEdits.{tree_after_creation, tree_after_removal, tree_after_rename, same_path}
-use Rattle.lfs_operations.specs.Changing.{has_thread_failed_after_result}
-use Rattle.lfs_operations.specs.Ready.{KeepsPairCountBeforeRoot}
+use Rattle.lfs_model.specs.format.Content.{attributes_with, attributes_without}
+use Rattle.lfs_model.specs.session.History.{CallEvent, OnlyReadsSince, fault_count}
+use Rattle.lfs_model.specs.session.Operations as ops
+use Rattle.lfs_model.specs.session.Operations.{FlagsOfOpen, Operation}
+use Rattle.lfs_model.specs.session.Refusals.{path_or_root}
+use Rattle.lfs_model.specs.session.Run.{is_recover, renames_itself}
+use Rattle.lfs_model.specs.tree.Shown.{tree_on_disk}
+use Rattle.lfs_model.specs.tree.Tree.{DirectoryNode, Path, Tree}
+use Rattle.lfs_model.specs.session.TreeEdits.{tree_creating, tree_removing, tree_renaming, same_path}
+use Rattle.lfs_operations.specs.Changing.{has_failed_after}
+use Rattle.lfs_operations.specs.Ready.{KeepsRootBeginning}
 use Rattle.lfs_thread.specs.Kept.{KeptThread, ThreadView}
-use Rattle.lfs_thread.specs.Steps.{ThreadChangesOnlyTheseBlocks}
-use Rattle.lfs_tree.specs.Calls as call
-use Rattle.lfs_tree.specs.Calls.{IsCallOfOperation, tree_after_call}
-use Rattle.lfs_tree.specs.TreeChanges.{AppliesOperationOnThread, HasFurtherDeviceCalls, CanChangeRecoveredImage, ChangesTreeOrFails, HasSoundImageOfTree, SurvivesWithOldOrNewTree, ReportsIoWithFaultOrNoMemory}
-use Rattle.lfs_tree.specs.SlotChanges.{tree_with_attributes_changed}
-use Rattle.lfs_tree.specs.RootedThreads.{tree_state_of_kept_thread}
-use Rattle.lfs_tree.specs.TreeState.{disk_summary_of_tree}
-use Rattle.lfs_lookup.specs.Reading.{OnlyReadsThreadAndReportsErrors}
+use Rattle.lfs_thread.specs.ThreadSteps.{ChangesThreadBlocks}
+use Rattle.lfs_tree.specs.TreeCalls as call
+use Rattle.lfs_tree.specs.TreeCalls.{IsOperationCall, tree_after_call}
+use Rattle.lfs_tree.specs.TreeChanges.{AppliesOperation, HasFurtherCalls, CanChangeRecovered, ChangesTreeOrFails, HasSoundImage, SurvivesEither, ReportsFaults}
+use Rattle.lfs_tree.specs.SlotChanges.{tree_with_attributes}
+use Rattle.lfs_tree.specs.RootedThreads.{kept_state}
+use Rattle.lfs_tree.specs.TreeState.{tree_summary}
+use Rattle.lfs_lookup.specs.LookupReading.{OnlyReadsThreadAndReportsErrors}
 use Rattle.lfs_tree.proofs.SameErrors.{same_error}
 use Rattle.lfs_tree.proofs.Carried.{with_history}
 use Rattle.lfs_tree.proofs.CarrySurvives.{created_shows, survives_reading}
@@ -30,69 +30,69 @@ use Rattle.lfs_tree.proofs.ReportedFaults.{ReportsFaultsSince, called_by_reading
 
 -- ---- the operations that a call does
 
-pub does_mkdir : (P : Operation → Type 0) (path : Path) → ((given : List ℕ) → path_of_bytes_or_root given ≡ path → P (ops.Mkdir given)) → (op : Operation) → IsCallOfOperation (call.Mkdir path) op → P op
+pub does_mkdir : (P : Operation → Type 0) (path : Path) → ((given : List ℕ) → path_or_root given ≡ path → P (ops.Mkdir given)) → (op : Operation) → IsOperationCall (call.Mkdir path) op → P op
 does_mkdir P path h op d = subst P (sym d.1.0) (h d.0 d.1.1)
 
-pub does_create : (P : Operation → Type 0) (path : Path) → ((given : List ℕ) (flags : FlagsOfOpen) → path_of_bytes_or_root given ≡ path → P (ops.Open given flags)) → (op : Operation) → IsCallOfOperation (call.Create path) op → P op
+pub does_create : (P : Operation → Type 0) (path : Path) → ((given : List ℕ) (flags : FlagsOfOpen) → path_or_root given ≡ path → P (ops.Open given flags)) → (op : Operation) → IsOperationCall (call.Create path) op → P op
 does_create P path h op d = subst P (sym d.1.1.0) (h d.0 d.1.0 d.1.1.1)
 
-pub does_remove : (P : Operation → Type 0) (path : Path) → ((given : List ℕ) → path_of_bytes_or_root given ≡ path → P (ops.Remove given)) → (op : Operation) → IsCallOfOperation (call.Remove path) op → P op
+pub does_remove : (P : Operation → Type 0) (path : Path) → ((given : List ℕ) → path_or_root given ≡ path → P (ops.Remove given)) → (op : Operation) → IsOperationCall (call.Remove path) op → P op
 does_remove P path h op d = subst P (sym d.1.0) (h d.0 d.1.1)
 
-pub does_rename : (P : Operation → Type 0) (from to : Path) → ((given to_given : List ℕ) → path_of_bytes_or_root given ≡ from → path_of_bytes_or_root to_given ≡ to → P (ops.Rename given to_given)) → (op : Operation) → IsCallOfOperation (call.Rename from to) op → P op
+pub does_rename : (P : Operation → Type 0) (from to : Path) → ((given to_given : List ℕ) → path_or_root given ≡ from → path_or_root to_given ≡ to → P (ops.Rename given to_given)) → (op : Operation) → IsOperationCall (call.Rename from to) op → P op
 does_rename P from to h op d = subst P (sym d.1.1.0) (h d.0 d.1.0 d.1.1.1.0 d.1.1.1.1)
 
-pub does_set : (P : Operation → Type 0) (path : Path) (kind : ℕ) (bytes : List ℕ) → ((given : List ℕ) → path_of_bytes_or_root given ≡ path → P (ops.SetAttr given kind bytes)) → (op : Operation) → IsCallOfOperation (call.SetAttr path kind bytes) op → P op
+pub does_set : (P : Operation → Type 0) (path : Path) (kind : ℕ) (bytes : List ℕ) → ((given : List ℕ) → path_or_root given ≡ path → P (ops.SetAttr given kind bytes)) → (op : Operation) → IsOperationCall (call.SetAttr path kind bytes) op → P op
 does_set P path kind bytes h op d = subst P (sym d.1.0) (h d.0 d.1.1)
 
-pub does_clear : (P : Operation → Type 0) (path : Path) (kind : ℕ) → ((given : List ℕ) → path_of_bytes_or_root given ≡ path → P (ops.RemoveAttr given kind)) → (op : Operation) → IsCallOfOperation (call.RemoveAttr path kind) op → P op
+pub does_clear : (P : Operation → Type 0) (path : Path) (kind : ℕ) → ((given : List ℕ) → path_or_root given ≡ path → P (ops.RemoveAttr given kind)) → (op : Operation) → IsOperationCall (call.RemoveAttr path kind) op → P op
 does_clear P path kind h op d = subst P (sym d.1.0) (h d.0 d.1.1)
 
 -- what is carried out behind a recovery: a change of its own
 abbrev pub IsPlain : Operation → Type 0
-IsPlain op = (renames_to_itself op ≡ false) × (is_recover_operation op ≡ false)
+IsPlain op = (renames_itself op ≡ false) × (is_recover op ≡ false)
 
-pub plain_mkdir : (path : Path) (op : Operation) → IsCallOfOperation (call.Mkdir path) op → IsPlain op
+pub plain_mkdir : (path : Path) (op : Operation) → IsOperationCall (call.Mkdir path) op → IsPlain op
 plain_mkdir path = does_mkdir IsPlain path (λ given e. (refl, refl))
 
-pub plain_create : (path : Path) (op : Operation) → IsCallOfOperation (call.Create path) op → IsPlain op
+pub plain_create : (path : Path) (op : Operation) → IsOperationCall (call.Create path) op → IsPlain op
 plain_create path = does_create IsPlain path (λ given flags e. (refl, refl))
 
-pub plain_remove : (path : Path) (op : Operation) → IsCallOfOperation (call.Remove path) op → IsPlain op
+pub plain_remove : (path : Path) (op : Operation) → IsOperationCall (call.Remove path) op → IsPlain op
 plain_remove path = does_remove IsPlain path (λ given e. (refl, refl))
 
-pub plain_rename : (from to : Path) → same_path from to ≡ false → (op : Operation) → IsCallOfOperation (call.Rename from to) op → IsPlain op
+pub plain_rename : (from to : Path) → same_path from to ≡ false → (op : Operation) → IsOperationCall (call.Rename from to) op → IsPlain op
 plain_rename from to apart = does_rename IsPlain from to (λ given to_given e f. (ap₂ same_path e f ∙ apart, refl))
 
-pub plain_set : (path : Path) (kind : ℕ) (bytes : List ℕ) (op : Operation) → IsCallOfOperation (call.SetAttr path kind bytes) op → IsPlain op
+pub plain_set : (path : Path) (kind : ℕ) (bytes : List ℕ) (op : Operation) → IsOperationCall (call.SetAttr path kind bytes) op → IsPlain op
 plain_set path kind bytes = does_set IsPlain path kind bytes (λ given e. (refl, refl))
 
-pub plain_clear : (path : Path) (kind : ℕ) (op : Operation) → IsCallOfOperation (call.RemoveAttr path kind) op → IsPlain op
+pub plain_clear : (path : Path) (kind : ℕ) (op : Operation) → IsOperationCall (call.RemoveAttr path kind) op → IsPlain op
 plain_clear path kind = does_clear IsPlain path kind (λ given e. (refl, refl))
 
 -- ---- what one of them leaves
 
 module _ (a c : KeptThread) where
-  stands : (tree : Tree) (op : Operation) → AppliesOperationOnThread a op c → KeepsPairCountBeforeRoot a c → tree_on_disk c.disk c.pairs ≡ tree → HasSoundImageOfTree a tree c
+  stands : (tree : Tree) (op : Operation) → AppliesOperation a op c → KeepsRootBeginning a c → tree_on_disk c.disk c.pairs ≡ tree → HasSoundImage a tree c
   stands tree op k root shows = record { sound = k.sound; fits = k.fits; root = root; shows = shows; no_fault = k.no_fault }
 
-  pub mkdir_stands : (path : Path) (given : List ℕ) → path_of_bytes_or_root given ≡ path → AppliesOperationOnThread a (ops.Mkdir given) c → KeepsPairCountBeforeRoot a c → HasSoundImageOfTree a (tree_after_call (call.Mkdir path) (tree_on_disk a.disk a.pairs)) c
-  mkdir_stands path given e k root = stands _ (ops.Mkdir given) k root (k.shows (disk_summary_of_tree (tree_state_of_kept_thread a true false)) [] ∙ ap (λ p. tree_after_creation p (DirectoryNode [] []) (tree_on_disk a.disk a.pairs)) e)
+  pub mkdir_stands : (path : Path) (given : List ℕ) → path_or_root given ≡ path → AppliesOperation a (ops.Mkdir given) c → KeepsRootBeginning a c → HasSoundImage a (tree_after_call (call.Mkdir path) (tree_on_disk a.disk a.pairs)) c
+  mkdir_stands path given e k root = stands _ (ops.Mkdir given) k root (k.shows (tree_summary (kept_state a true false)) [] ∙ ap (λ p. tree_creating p (DirectoryNode [] []) (tree_on_disk a.disk a.pairs)) e)
 
-  pub create_stands : (path : Path) (given : List ℕ) (flags : FlagsOfOpen) → is_some (tree_on_disk a.disk a.pairs path) ≡ false → path_of_bytes_or_root given ≡ path → AppliesOperationOnThread a (ops.Open given flags) c → KeepsPairCountBeforeRoot a c → HasSoundImageOfTree a (tree_after_call (call.Create path) (tree_on_disk a.disk a.pairs)) c
-  create_stands path given flags nothing e k root = stands _ (ops.Open given flags) k root (k.shows (disk_summary_of_tree (tree_state_of_kept_thread a true false)) [] ∙ created_shows (tree_on_disk a.disk a.pairs) path (path_of_bytes_or_root given) e nothing)
+  pub create_stands : (path : Path) (given : List ℕ) (flags : FlagsOfOpen) → is_some (tree_on_disk a.disk a.pairs path) ≡ false → path_or_root given ≡ path → AppliesOperation a (ops.Open given flags) c → KeepsRootBeginning a c → HasSoundImage a (tree_after_call (call.Create path) (tree_on_disk a.disk a.pairs)) c
+  create_stands path given flags nothing e k root = stands _ (ops.Open given flags) k root (k.shows (tree_summary (kept_state a true false)) [] ∙ created_shows (tree_on_disk a.disk a.pairs) path (path_or_root given) e nothing)
 
-  pub remove_stands : (path : Path) (given : List ℕ) → path_of_bytes_or_root given ≡ path → AppliesOperationOnThread a (ops.Remove given) c → KeepsPairCountBeforeRoot a c → HasSoundImageOfTree a (tree_after_call (call.Remove path) (tree_on_disk a.disk a.pairs)) c
-  remove_stands path given e k root = stands _ (ops.Remove given) k root (k.shows (disk_summary_of_tree (tree_state_of_kept_thread a true false)) [] ∙ ap (λ p. tree_after_removal p (tree_on_disk a.disk a.pairs)) e)
+  pub remove_stands : (path : Path) (given : List ℕ) → path_or_root given ≡ path → AppliesOperation a (ops.Remove given) c → KeepsRootBeginning a c → HasSoundImage a (tree_after_call (call.Remove path) (tree_on_disk a.disk a.pairs)) c
+  remove_stands path given e k root = stands _ (ops.Remove given) k root (k.shows (tree_summary (kept_state a true false)) [] ∙ ap (λ p. tree_removing p (tree_on_disk a.disk a.pairs)) e)
 
-  pub rename_stands : (from to : Path) (given to_given : List ℕ) → path_of_bytes_or_root given ≡ from → path_of_bytes_or_root to_given ≡ to → AppliesOperationOnThread a (ops.Rename given to_given) c → KeepsPairCountBeforeRoot a c → HasSoundImageOfTree a (tree_after_call (call.Rename from to) (tree_on_disk a.disk a.pairs)) c
-  rename_stands from to given to_given e f k root = stands _ (ops.Rename given to_given) k root (k.shows (disk_summary_of_tree (tree_state_of_kept_thread a true false)) [] ∙ ap₂ (λ p q. tree_after_rename p q (tree_on_disk a.disk a.pairs)) e f)
+  pub rename_stands : (from to : Path) (given to_given : List ℕ) → path_or_root given ≡ from → path_or_root to_given ≡ to → AppliesOperation a (ops.Rename given to_given) c → KeepsRootBeginning a c → HasSoundImage a (tree_after_call (call.Rename from to) (tree_on_disk a.disk a.pairs)) c
+  rename_stands from to given to_given e f k root = stands _ (ops.Rename given to_given) k root (k.shows (tree_summary (kept_state a true false)) [] ∙ ap₂ (λ p q. tree_renaming p q (tree_on_disk a.disk a.pairs)) e f)
 
-  pub set_stands : (path : Path) (kind : ℕ) (bytes given : List ℕ) → path_of_bytes_or_root given ≡ path → AppliesOperationOnThread a (ops.SetAttr given kind bytes) c → KeepsPairCountBeforeRoot a c → HasSoundImageOfTree a (tree_after_call (call.SetAttr path kind bytes) (tree_on_disk a.disk a.pairs)) c
-  set_stands path kind bytes given e k root = stands _ (ops.SetAttr given kind bytes) k root (k.shows (disk_summary_of_tree (tree_state_of_kept_thread a true false)) [] ∙ ap (λ p. tree_with_attributes_changed p (attributes_with_attribute kind bytes) (tree_on_disk a.disk a.pairs)) e)
+  pub set_stands : (path : Path) (kind : ℕ) (bytes given : List ℕ) → path_or_root given ≡ path → AppliesOperation a (ops.SetAttr given kind bytes) c → KeepsRootBeginning a c → HasSoundImage a (tree_after_call (call.SetAttr path kind bytes) (tree_on_disk a.disk a.pairs)) c
+  set_stands path kind bytes given e k root = stands _ (ops.SetAttr given kind bytes) k root (k.shows (tree_summary (kept_state a true false)) [] ∙ ap (λ p. tree_with_attributes p (attributes_with kind bytes) (tree_on_disk a.disk a.pairs)) e)
 
-  pub clear_stands : (path : Path) (kind : ℕ) (given : List ℕ) → path_of_bytes_or_root given ≡ path → AppliesOperationOnThread a (ops.RemoveAttr given kind) c → KeepsPairCountBeforeRoot a c → HasSoundImageOfTree a (tree_after_call (call.RemoveAttr path kind) (tree_on_disk a.disk a.pairs)) c
-  clear_stands path kind given e k root = stands _ (ops.RemoveAttr given kind) k root (k.shows (disk_summary_of_tree (tree_state_of_kept_thread a true false)) [] ∙ ap (λ p. tree_with_attributes_changed p (attributes_without_attribute kind) (tree_on_disk a.disk a.pairs)) e)
+  pub clear_stands : (path : Path) (kind : ℕ) (given : List ℕ) → path_or_root given ≡ path → AppliesOperation a (ops.RemoveAttr given kind) c → KeepsRootBeginning a c → HasSoundImage a (tree_after_call (call.RemoveAttr path kind) (tree_on_disk a.disk a.pairs)) c
+  clear_stands path kind given e k root = stands _ (ops.RemoveAttr given kind) k root (k.shows (tree_summary (kept_state a true false)) [] ∙ ap (λ p. tree_with_attributes p (attributes_without kind) (tree_on_disk a.disk a.pairs)) e)
 
 -- ---- what the steps told
 
@@ -100,21 +100,21 @@ pub works_reported : {X : Type 0} (new : ThreadView) (r : Result X Error) → ne
 works_reported new (Ok x) e = e
 works_reported new (Err e) f = tt
 
-pub works_put : {X : Type 0} (new : ThreadView) (r : Result X Error) → new.failed ≡ has_thread_failed_after_result r → OnOk r (new.failed ≡ false)
+pub works_put : {X : Type 0} (new : ThreadView) (r : Result X Error) → new.failed ≡ has_failed_after r → OnOk r (new.failed ≡ false)
 works_put new (Ok x) e = e
 works_put new (Err e) f = tt
 
-pub quiet_reported : {X : Type 0} (a c : KeptThread) (h : List DeviceCallEvent) (r : Result X Error) → fault_count_of_history h ≡ fault_count_of_history a.history → ReportsFaultsSince h c.history r → OnOk r (fault_count_of_history c.history ≡ fault_count_of_history a.history)
+pub quiet_reported : {X : Type 0} (a c : KeptThread) (h : List CallEvent) (r : Result X Error) → fault_count h ≡ fault_count a.history → ReportsFaultsSince h c.history r → OnOk r (fault_count c.history ≡ fault_count a.history)
 quiet_reported a c h (Ok x) same t = t.no_fault (λ io. absurd (cc)) ∙ same
 quiet_reported a c h (Err e) same t = tt
 
-errors_reported : {X : Type 0} (a c : KeptThread) (h : List DeviceCallEvent) (r : Result X Error) → fault_count_of_history h ≡ fault_count_of_history a.history → ReportsFaultsSince h c.history r → IfErr r (ReportsIoWithFaultOrNoMemory a c)
+errors_reported : {X : Type 0} (a c : KeptThread) (h : List CallEvent) (r : Result X Error) → fault_count h ≡ fault_count a.history → ReportsFaultsSince h c.history r → IfErr r (ReportsFaults a c)
 errors_reported a c h (Ok x) same t = tt
 errors_reported {X} a c h (Err e) same t = (let r : Result X Error = Err e in reports_error a c h r e same t refl)
 
 -- a change, behind calls that only read
-pub changed : {X : Type 0} (t new : ThreadView) (Done : KeptThread → Type 0) (after : Tree) (h : List DeviceCallEvent) (bs : List ℕ) (r : Result X Error) → fault_count_of_history h ≡ fault_count_of_history t.kept.history → AreCallsSinceOnlyReads t.kept.disk.blocks t.kept.history h → ThreadChangesOnlyTheseBlocks bs (with_history t.kept h) new.kept
-    → ReportsFaultsSince h new.kept.history r → OnOk r (new.failed ≡ false) → OnOk r (Done new.kept × HasSoundImageOfTree t.kept after new.kept) → SurvivesWithOldOrNewTree t.kept new.kept after → ChangesTreeOrFails t Done after r new
+pub changed : {X : Type 0} (t new : ThreadView) (Done : KeptThread → Type 0) (after : Tree) (h : List CallEvent) (bs : List ℕ) (r : Result X Error) → fault_count h ≡ fault_count t.kept.history → OnlyReadsSince t.kept.disk.blocks t.kept.history h → ChangesThreadBlocks bs (with_history t.kept h) new.kept
+    → ReportsFaultsSince h new.kept.history r → OnOk r (new.failed ≡ false) → OnOk r (Done new.kept × HasSoundImage t.kept after new.kept) → SurvivesEither t.kept new.kept after → ChangesTreeOrFails t Done after r new
 changed t new Done after h bs r same reads w reported works both survives = record {
   done = first r both;
   works = works;
@@ -124,16 +124,16 @@ changed t new Done after h bs r same reads w reported works both survives = reco
   survives = survives;
 }
   where
-    first : {X : Type 0} (r : Result X Error) → OnOk r (Done new.kept × HasSoundImageOfTree t.kept after new.kept) → OnOk r (Done new.kept)
+    first : {X : Type 0} (r : Result X Error) → OnOk r (Done new.kept × HasSoundImage t.kept after new.kept) → OnOk r (Done new.kept)
     first (Ok x) k = k.0
     first (Err e) k = tt
 
-    second : {X : Type 0} (r : Result X Error) → OnOk r (Done new.kept × HasSoundImageOfTree t.kept after new.kept) → OnOk r (HasSoundImageOfTree t.kept after new.kept)
+    second : {X : Type 0} (r : Result X Error) → OnOk r (Done new.kept × HasSoundImage t.kept after new.kept) → OnOk r (HasSoundImage t.kept after new.kept)
     second (Ok x) k = k.1
     second (Err e) k = tt
 
 -- a call that only read, and failed
-pub only_read_change : {X : Type 0} (t : ThreadView) (root : ℕ) → CanChangeRecoveredImage t root → (mid : ThreadView) (Done : KeptThread → Type 0) (after : Tree) (r : Result X Error) (e : Error) → r ≡ Err e → OnlyReadsThreadAndReportsErrors t mid r → ChangesTreeOrFails t Done after r mid
+pub only_read_change : {X : Type 0} (t : ThreadView) (root : ℕ) → CanChangeRecovered t root → (mid : ThreadView) (Done : KeptThread → Type 0) (after : Tree) (r : Result X Error) (e : Error) → r ≡ Err e → OnlyReadsThreadAndReportsErrors t mid r → ChangesTreeOrFails t Done after r mid
 only_read_change {X} t root rests mid Done after r e is k =
     subst (λ (z : Result X Error). ChangesTreeOrFails t Done after z mid) (sym is) (go (subst (λ (z : Result X Error). OnlyReadsThreadAndReportsErrors t mid z) is k))
   where
@@ -148,5 +148,5 @@ only_read_change {X} t root rests mid Done after r e is k =
     }
 
 -- one that failed
-pub failed_change : {X : Type 0} (t new : ThreadView) (Done : KeptThread → Type 0) (after : Tree) (r : Result X Error) (e : Error) → r ≡ Err e → HasFurtherDeviceCalls t.kept new.kept → ReportsIoWithFaultOrNoMemory t.kept new.kept e → SurvivesWithOldOrNewTree t.kept new.kept after → ChangesTreeOrFails t Done after r new
+pub failed_change : {X : Type 0} (t new : ThreadView) (Done : KeptThread → Type 0) (after : Tree) (r : Result X Error) (e : Error) → r ≡ Err e → HasFurtherCalls t.kept new.kept → ReportsFaults t.kept new.kept e → SurvivesEither t.kept new.kept after → ChangesTreeOrFails t Done after r new
 failed_change {X} t new Done after r e is called reported survives = subst (λ (z : Result X Error). ChangesTreeOrFails t Done after z new) (sym is) (record { done = tt; works = tt; stands = tt; called = called; errors = reported; survives = survives })

@@ -3,30 +3,30 @@ use Rattle.std.proofs.Common.{ℕ, ◌≡◌, ◌≤◌, List, Option, Some, Non
 use Rattle.std.specs.Option.{option_map}
 use Rattle.std.proofs.lemmas.List.Elements.{recursion_from_All}
 use Rattle.std.proofs.lemmas.Option.{same_Some}
-use Rattle.lfs_model.specs.Disk.{Disk}
-use Rattle.lfs_model.proofs.ListSizes.{length-bytes_of_skip_list}
-use Rattle.lfs_model.specs.Blocks.{HasBlocksOfCountAndSize}
-use Rattle.lfs_model.specs.SlotEdits.{slot_of_path}
-use Rattle.lfs_model.specs.Slots.{Attributes, Slot}
-use Rattle.lfs_model.specs.Shown.{all_slots_not_moved, entries_by_directory_in_thread, skip_list_bytes_on_disk, tree_on_disk}
-use Rattle.lfs_model.specs.Thread.{Pair}
-use Rattle.lfs_model.specs.Tree.{Path, node_of_struct_and_attributes}
-use Rattle.lfs_model.specs.TreeEdits.{file_bytes_of_node}
-use Rattle.lfs_model.specs.View.{IsAcceptedImage, IsSkipListIfCtzStruct}
-use Rattle.lfs_lookup.specs.FileContents.{IsInlineBytesOrSkipListOfFileAtPath, struct_of_file_contents}
+use Rattle.lfs_model.specs.format.Disk.{Disk}
+use Rattle.lfs_model.proofs.ListSizes.{length-list_bytes}
+use Rattle.lfs_model.specs.format.Blocks.{HasBlockSizes}
+use Rattle.lfs_model.specs.session.SlotEdits.{slot_of}
+use Rattle.lfs_model.specs.format.Slots.{Attributes, Slot}
+use Rattle.lfs_model.specs.tree.Shown.{all_slots_not_moved, all_entries, struct_list_bytes, tree_on_disk}
+use Rattle.lfs_model.specs.format.Thread.{Pair}
+use Rattle.lfs_model.specs.tree.Tree.{Path, struct_node}
+use Rattle.lfs_model.specs.session.TreeEdits.{file_bytes}
+use Rattle.lfs_model.specs.tree.View.{IsAccepted, IsWellFormedCtz}
+use Rattle.lfs_lookup.specs.FileContents.{IsStorageAt, contents_struct}
 use Rattle.lfs_lookup.specs.declared.file_contents.FileContents.{FileContents}
 use Rattle.lfs_lookup.specs.declared.file_contents.FileContents.TheVariants as contents
 use Rattle.lfs_tree.proofs.SlotsHave.{slot_has}
 
 -- its list is well formed
-pub list_read : (disk : Disk) (ps : List Pair) (path : Path) (contents : FileContents) → IsAcceptedImage disk ps → IsInlineBytesOrSkipListOfFileAtPath ps path contents → IsSkipListIfCtzStruct disk (struct_of_file_contents contents)
-list_read disk ps path contents ok h = go (slot_of_path ps path) refl h.struct
+pub list_read : (disk : Disk) (ps : List Pair) (path : Path) (contents : FileContents) → IsAccepted disk ps → IsStorageAt ps path contents → IsWellFormedCtz disk (contents_struct contents)
+list_read disk ps path contents ok h = go (slot_of ps path) refl h.struct
   where
-    go : (o : Option Slot) → slot_of_path ps path ≡ o → option_map (λ (u : Slot). u.struct) o ≡ Some (struct_of_file_contents contents) → IsSkipListIfCtzStruct disk (struct_of_file_contents contents)
+    go : (o : Option Slot) → slot_of ps path ≡ o → option_map (λ (u : Slot). u.struct) o ≡ Some (contents_struct contents) → IsWellFormedCtz disk (contents_struct contents)
     go None at e = absurd (cc)
     go (Some u) at e =
-        subst (IsSkipListIfCtzStruct disk) (same_Some u.struct (struct_of_file_contents contents) e)
-        (slot_has (λ (s : Slot). IsSkipListIfCtzStruct disk s.struct) disk ps ok (recursion_from_All (λ (s : Slot). IsSkipListIfCtzStruct disk s.struct) (all_slots_not_moved ps) ok.lists) tt path u at)
+        subst (IsWellFormedCtz disk) (same_Some u.struct (contents_struct contents) e)
+        (slot_has (λ (s : Slot). IsWellFormedCtz disk s.struct) disk ps ok (recursion_from_All (λ (s : Slot). IsWellFormedCtz disk s.struct) (all_slots_not_moved ps) ok.lists) tt path u at)
 
 -- how many bytes these contents have
 abbrev pub size_of_file_contents : FileContents → ℕ
@@ -34,16 +34,16 @@ size_of_file_contents (contents.Inline bytes) = length bytes.items
 size_of_file_contents (contents.List head size) = size
 
 -- the file there has as many
-pub contents_sized : (disk : Disk) (ps : List Pair) (path : Path) (c : FileContents) (count : ℕ) → IsAcceptedImage disk ps → (1024 ≤ disk.block_size) × HasBlocksOfCountAndSize disk.block_size count disk.blocks → IsInlineBytesOrSkipListOfFileAtPath ps path c
-    → size_of_file_contents c ≡ length (file_bytes_of_node (tree_on_disk disk ps path))
-contents_sized disk ps path c count ok shape h = go (slot_of_path ps path) h.struct
+pub contents_sized : (disk : Disk) (ps : List Pair) (path : Path) (c : FileContents) (count : ℕ) → IsAccepted disk ps → (1024 ≤ disk.block_size) × HasBlockSizes disk.block_size count disk.blocks → IsStorageAt ps path c
+    → size_of_file_contents c ≡ length (file_bytes (tree_on_disk disk ps path))
+contents_sized disk ps path c count ok shape h = go (slot_of ps path) h.struct
   where
-    kind : (attributes : Attributes) (d : FileContents) → IsSkipListIfCtzStruct disk (struct_of_file_contents d) → size_of_file_contents d ≡ length (file_bytes_of_node (Some (node_of_struct_and_attributes (skip_list_bytes_on_disk disk) (entries_by_directory_in_thread ps) attributes (struct_of_file_contents d))))
+    kind : (attributes : Attributes) (d : FileContents) → IsWellFormedCtz disk (contents_struct d) → size_of_file_contents d ≡ length (file_bytes (Some (struct_node (struct_list_bytes disk) (all_entries ps) attributes (contents_struct d))))
     kind attributes (contents.Inline bytes) list = refl
-    kind attributes (contents.List head size) list = sym (length-bytes_of_skip_list disk.blocks disk.block_size count head size shape.0 shape.1 list)
+    kind attributes (contents.List head size) list = sym (length-list_bytes disk.blocks disk.block_size count head size shape.0 shape.1 list)
 
-    go : (o : Option Slot) → option_map (λ (u : Slot). u.struct) o ≡ Some (struct_of_file_contents c)
-        → size_of_file_contents c ≡ length (file_bytes_of_node (option_map (λ (u : Slot). node_of_struct_and_attributes (skip_list_bytes_on_disk disk) (entries_by_directory_in_thread ps) u.attributes u.struct) o))
+    go : (o : Option Slot) → option_map (λ (u : Slot). u.struct) o ≡ Some (contents_struct c)
+        → size_of_file_contents c ≡ length (file_bytes (option_map (λ (u : Slot). struct_node (struct_list_bytes disk) (all_entries ps) u.attributes u.struct) o))
     go None e = absurd (cc)
     go (Some u) e =
-        subst (λ s. size_of_file_contents c ≡ length (file_bytes_of_node (Some (node_of_struct_and_attributes (skip_list_bytes_on_disk disk) (entries_by_directory_in_thread ps) u.attributes s)))) (sym (same_Some u.struct (struct_of_file_contents c) e)) (kind u.attributes c (list_read disk ps path c ok h))
+        subst (λ s. size_of_file_contents c ≡ length (file_bytes (Some (struct_node (struct_list_bytes disk) (all_entries ps) u.attributes s)))) (sym (same_Some u.struct (contents_struct c) e)) (kind u.attributes c (list_read disk ps path c ok h))

@@ -5,46 +5,46 @@ use Rattle.std.proofs.lemmas.List.Elements.{All-from_recursion}
 use Rattle.std.proofs.lemmas.Option.{same_Some}
 use Rattle.lfs_device.specs.declared.error.Error.{Error}
 use Rattle.lfs_device.specs.declared.error.Error.TheVariants.{Io, NoMemory}
-use Rattle.lfs_tree.specs.SettledFiles.{ChangesOnlyBlockMap}
+use Rattle.lfs_tree.specs.SettledFiles.{ChangesOnlyMap}
 use Rattle.lfs_tree.specs.ThreadContents.{ReportsFaultOrNoMemory}
-use Rattle.lfs_model.specs.BlockSets.{AreExactlyTheUsedBlocks, IsBlockInFlight, IsBlockMarkedUsedInMap}
-use Rattle.lfs_model.specs.BlockSets.BlockState.{InFlight, Used}
-use Rattle.lfs_model.specs.Disk.{Disk}
-use Rattle.lfs_model.specs.History.{IsTrueOfEachCall, IsTrueOfEachCallSince, DeviceCallEvent, AreCallsSinceOnlyReads, fault_count_of_history}
-use Rattle.lfs_model.specs.Keeping.{struct_of_path}
-use Rattle.lfs_model.specs.Layout.{directory_address_continued_by_hard_tail}
-use Rattle.lfs_model.specs.Operations as ops
-use Rattle.lfs_model.specs.PowerLoss.{HasTreeBeforeOrAfterOperation, SurvivesPowerLossInCallsSince, disk_with_blocks}
-use Rattle.lfs_model.specs.Session.{OpenFilesByNumber, Session}
-use Rattle.lfs_model.specs.Slots.{Gstate, zero_gstate}
-use Rattle.lfs_model.specs.WrittenContent.{is_zero_gstate}
+use Rattle.lfs_model.specs.layers.BlockSets.{AreUsed, IsInFlight, IsUsedBlock}
+use Rattle.lfs_model.specs.layers.BlockSets.BlockState.{InFlight, Used}
+use Rattle.lfs_model.specs.format.Disk.{Disk}
+use Rattle.lfs_model.specs.session.History.{AllCalls, AllCallsSince, CallEvent, OnlyReadsSince, fault_count}
+use Rattle.lfs_model.specs.layers.Keeping.{struct_at}
+use Rattle.lfs_model.specs.session.Layout.{continued_address}
+use Rattle.lfs_model.specs.session.Operations as ops
+use Rattle.lfs_model.specs.crash.PowerLoss.{HasEither, SurvivesLossSince, with_blocks}
+use Rattle.lfs_model.specs.session.Session.{OpenFilesByNumber, Session}
+use Rattle.lfs_model.specs.format.Slots.{Gstate, zero_gstate}
+use Rattle.lfs_model.specs.layers.WrittenContent.{is_zero}
 use Rattle.std.proofs.lemmas.Bool.{and_parts}
-use Rattle.lfs_model.specs.Thread.{Pair, blocks_of_pairs, pairs_from_root_directory_on, gstate_of_pairs, pair_count_before_root}
-use Rattle.lfs_model.specs.Tree.{Tree}
-use Rattle.lfs_model.specs.View.{IsAcceptedImage}
-use Rattle.lfs_model.specs.Shown.{IsDirectoryAddressReachedBySomePath, all_slots_not_moved, skip_list_blocks_of_struct, tree_on_disk, used_blocks}
-use Rattle.lfs_model.specs.Profile.{IsWritableImage}
+use Rattle.lfs_model.specs.format.Thread.{Pair, blocks_of_pairs, pairs_from_root, pairs_gstate, pair_count_before_root}
+use Rattle.lfs_model.specs.tree.Tree.{Tree}
+use Rattle.lfs_model.specs.tree.View.{IsAccepted}
+use Rattle.lfs_model.specs.tree.Shown.{IsReachedBySome, all_slots_not_moved, struct_blocks, tree_on_disk, used_blocks}
+use Rattle.lfs_model.specs.tree.Profile.{IsWritable}
 use Rattle.lfs_model.proofs.AfterStops.{survives_then}
 use Rattle.lfs_model.proofs.Arranged.{arranged_after, arranged_settled, recovered_stays}
-use Rattle.lfs_model.proofs.BlockSets.{Contains-occurrence_count_of_number}
-use Rattle.lfs_model.proofs.Committed.{IsImageAfterCompletedOperation, no_move_from, recovered_from}
-use Rattle.lfs_model.proofs.Counts.{occurrence_count_of_number, count_append}
+use Rattle.lfs_model.proofs.BlockSets.{Contains-number_count}
+use Rattle.lfs_model.proofs.Committed.{IsCompletion, no_move_from, recovered_from}
+use Rattle.lfs_model.proofs.Counts.{number_count, count_append}
 use Rattle.lfs_model.proofs.Found.{chain_of_thread}
 use Rattle.lfs_model.proofs.KeptStructs.{struct_stays}
 use Rattle.lfs_model.proofs.LeftFiles.{same_leaves}
 use Rattle.lfs_model.proofs.Global.{HasNoMove}
-use Rattle.lfs_model.proofs.Histories.{IsTrueAfterAnyPowerLossSince-read_count_of_history, IsTrueAfterAnyPowerLossSince-weaker, AreBlocksLeftByPowerLossInCall-read, is_byte_unprogrammed-read_count_of_history}
-use Rattle.lfs_operations.specs.Dropping.{HasSameBlocksInFlight}
-use Rattle.lfs_operations.specs.Ready.{IsImageReadyForChange}
-use Rattle.lfs_operations.specs.Recovering.{AreUnreachedPairNumbers, AreUnreachedPairNumbersFrom, CanDropUnreachedPairs, HasDroppedUnreachedPairsAndRecovered, ReportsErrorsOfRecovery}
+use Rattle.lfs_model.proofs.Histories.{HoldsAtLosses-read_count, HoldsAtLosses-weaker, LeftByLoss-read, is_unprogrammed_byte-read_count}
+use Rattle.lfs_operations.specs.Dropping.{SameInFlight}
+use Rattle.lfs_operations.specs.Ready.{IsReadyImage}
+use Rattle.lfs_operations.specs.Recovering.{AreUnreachedNumbers, AreUnreachedFrom, CanDropPairs, HasDroppedRecovered, ReportsErrorsOfRecovery}
 use Rattle.lfs_operations.specs.EndingMove.{CanEndMove, HasEndedMove}
 use Rattle.lfs_operations.proofs.RecoverMap.{count_used}
 use Rattle.lfs_thread.specs.Kept.{KeptThread, ThreadView}
-use Rattle.lfs_thread.specs.Steps.{IoMeantFaultNoMemoryWroteNothing, IsThreadOnlyRead, ThreadChangesOnlyTheseBlocks}
-use Rattle.lfs_tree.specs.TreeChanges.{AppliesOperationOnThread, HasFurtherDeviceCalls, SurvivesWithOldOrNewTree, ReportsIoWithFaultOrNoMemory}
-use Rattle.lfs_tree.specs.RootedThreads.{IsSoundThreadUnlessFailed, IsSoundThreadWithRootAtPairNumber, tree_state_of_kept_thread, tree_state_of_thread}
-use Rattle.lfs_tree.specs.Recoveries.{CanDropUnreachedDirectories, HasDroppedUnreachedDirectories}
-use Rattle.lfs_tree.specs.TreeState.{IsOperationAppliedToTree, IsSoundTreeState, KeepsBlocksInFlightUnchanged, TreeState, kept_thread_of_tree_state, tree_view}
+use Rattle.lfs_thread.specs.ThreadSteps.{IoMeantFaultNoMemoryWroteNothing, OnlyReadsThread, ChangesThreadBlocks}
+use Rattle.lfs_tree.specs.TreeChanges.{AppliesOperation, HasFurtherCalls, SurvivesEither, ReportsFaults}
+use Rattle.lfs_tree.specs.RootedThreads.{SoundUnlessFailed, IsSoundWithRoot, kept_state, thread_state}
+use Rattle.lfs_tree.specs.Recoveries.{CanDropUnreached, HasDroppedUnreached}
+use Rattle.lfs_tree.specs.TreeState.{IsApplied, IsSoundState, KeepsInFlight, TreeState, kept_thread, tree_view}
 use Rattle.lfs_tree.proofs.Carried.{all_pairs, keeps_writing, lists_from, read_is, with_history}
 use Rattle.lfs_tree.proofs.CarryFreed.{none_there, writes_then}
 use Rattle.lfs_tree.proofs.SameErrors.{same_error}
@@ -52,38 +52,38 @@ use Rattle.lfs_tree.proofs.KeptFiles.{keeps_same, keeps_then}
 
 -- ---- numbers of pairs
 
-numbers_from : (R : ℕ × ℕ → Type 0) (n : ℕ) (from : Option (ℕ × ℕ)) (xs : List Pair) (numbers : List ℕ) → AreUnreachedPairNumbersFrom R n from xs numbers → (j : ℕ) → j < length numbers → get_or numbers j 0 < n + length xs
+numbers_from : (R : ℕ × ℕ → Type 0) (n : ℕ) (from : Option (ℕ × ℕ)) (xs : List Pair) (numbers : List ℕ) → AreUnreachedFrom R n from xs numbers → (j : ℕ) → j < length numbers → get_or numbers j 0 < n + length xs
 numbers_from R n from [] numbers h j low = absurd (let l = ap length h in omega arith)
-numbers_from R n from (x ∷ xs) numbers (inl h) j low = let k = numbers_from R (suc n) (directory_address_continued_by_hard_tail from x) xs numbers h.1 j low in omega arith
+numbers_from R n from (x ∷ xs) numbers (inl h) j low = let k = numbers_from R (suc n) (continued_address from x) xs numbers h.1 j low in omega arith
 numbers_from R n from (x ∷ xs) numbers (inr h) j low =
-    subst (λ z. get_or z j 0 < n + length (x ∷ xs)) (sym h.1.0) (go j (subst (λ z. j < length z) h.1.0 low) (λ i l. numbers_from R (suc n) (directory_address_continued_by_hard_tail from x) xs h.0 h.1.1.1 i l))
+    subst (λ z. get_or z j 0 < n + length (x ∷ xs)) (sym h.1.0) (go j (subst (λ z. j < length z) h.1.0 low) (λ i l. numbers_from R (suc n) (continued_address from x) xs h.0 h.1.1.1 i l))
   where
     go : (j : ℕ) → j < length (n ∷ h.0) → ((i : ℕ) → i < length h.0 → get_or h.0 i 0 < suc n + length xs) → get_or (n ∷ h.0) j 0 < n + length (x ∷ xs)
     go zero l next = omega arith
     go (suc j) l next = let k = next j (omega arith) in omega arith
 
-pub numbers_below : (ps : List Pair) (numbers : List ℕ) → AreUnreachedPairNumbers ps numbers → (j : ℕ) → j < length numbers → get_or numbers j 0 < length ps
+pub numbers_below : (ps : List Pair) (numbers : List ℕ) → AreUnreachedNumbers ps numbers → (j : ℕ) → j < length numbers → get_or numbers j 0 < length ps
 numbers_below ps numbers h j low =
-    let k = numbers_from (IsDirectoryAddressReachedBySomePath ps) (pair_count_before_root ps) None (pairs_from_root_directory_on ps) numbers h j low in
+    let k = numbers_from (IsReachedBySome ps) (pair_count_before_root ps) None (pairs_from_root ps) numbers h j low in
     let c = chain_of_thread ps in
     let a = ap pair_count_before_root c.0 ∙ c.1 in
-    let b = ap length c.0 ∙ length-append (take (pair_count_before_root ps) ps) (pairs_from_root_directory_on ps) in
+    let b = ap length c.0 ∙ length-append (take (pair_count_before_root ps) ps) (pairs_from_root ps) in
     omega arith
 
 -- ---- blocks in flight
 
-apart_pairs : (t : KeptThread) → AreExactlyTheUsedBlocks t.map (used_blocks t.disk t.pairs) → (b : ℕ) → IsBlockInFlight t.map b → All (λ c. c ≢ b) (blocks_of_pairs t.pairs)
-apart_pairs t used b flies = All-from_recursion (λ c. c ≢ b) (blocks_of_pairs t.pairs) (none_there b (blocks_of_pairs t.pairs) (let none = go (occurrence_count_of_number b (blocks_of_pairs t.pairs)) refl in omega arith))
+apart_pairs : (t : KeptThread) → AreUsed t.map (used_blocks t.disk t.pairs) → (b : ℕ) → IsInFlight t.map b → All (λ c. c ≢ b) (blocks_of_pairs t.pairs)
+apart_pairs t used b flies = All-from_recursion (λ c. c ≢ b) (blocks_of_pairs t.pairs) (none_there b (blocks_of_pairs t.pairs) (let none = go (number_count b (blocks_of_pairs t.pairs)) refl in omega arith))
   where
-    go : (n : ℕ) → occurrence_count_of_number b (blocks_of_pairs t.pairs) ≡ n → n ≡ 0
+    go : (n : ℕ) → number_count b (blocks_of_pairs t.pairs) ≡ n → n ≡ 0
     go zero e = refl
     go (suc n) e =
-        let k = count_append b (blocks_of_pairs t.pairs) (flat_map (λ s. skip_list_blocks_of_struct t.disk s.struct) (all_slots_not_moved t.pairs)) in
-        let here : IsBlockMarkedUsedInMap t.map b = (used b).1 (Contains-occurrence_count_of_number (used_blocks t.disk t.pairs) b (omega arith)) in
+        let k = count_append b (blocks_of_pairs t.pairs) (flat_map (λ s. struct_blocks t.disk s.struct) (all_slots_not_moved t.pairs)) in
+        let here : IsUsedBlock t.map b = (used b).1 (Contains-number_count (used_blocks t.disk t.pairs) b (omega arith)) in
         let wrong : InFlight ≡ Used = same_Some InFlight Used (sym flies ∙ here) in
         absurd (cc)
 
-leaves_same : (a c : KeptThread) → AreExactlyTheUsedBlocks a.map (used_blocks a.disk a.pairs) → HasSameBlocksInFlight a.map c.map → ThreadChangesOnlyTheseBlocks (blocks_of_pairs a.pairs) a c → KeepsBlocksInFlightUnchanged (tree_state_of_kept_thread a true false) (tree_state_of_kept_thread c true false)
+leaves_same : (a c : KeptThread) → AreUsed a.map (used_blocks a.disk a.pairs) → SameInFlight a.map c.map → ChangesThreadBlocks (blocks_of_pairs a.pairs) a c → KeepsInFlight (kept_state a true false) (kept_state c true false)
 leaves_same a c used same w = record {
   stay = λ b flies. (same b).1 flies;
   none_comes = λ b flies. (same b).0 flies;
@@ -91,7 +91,7 @@ leaves_same a c used same w = record {
   unprogrammed_still = λ b k flies was. w.elsewhere.stays b k (apart_pairs a used b flies) was;
 }
 
-pub leaves_then : (a b c : TreeState) → KeepsBlocksInFlightUnchanged a b → KeepsBlocksInFlightUnchanged b c → KeepsBlocksInFlightUnchanged a c
+pub leaves_then : (a b c : TreeState) → KeepsInFlight a b → KeepsInFlight b c → KeepsInFlight a c
 leaves_then a b c f g = record {
   stay = λ x flies. g.stay x (f.stay x flies);
   none_comes = λ x flies. f.none_comes x (g.none_comes x flies);
@@ -99,18 +99,18 @@ leaves_then a b c f g = record {
   unprogrammed_still = λ x k flies was. g.unprogrammed_still x k (f.stay x flies) (f.unprogrammed_still x k flies was);
 }
 
-leaves_reading : (t : KeptThread) (h : List DeviceCallEvent) → AreCallsSinceOnlyReads t.disk.blocks t.history h → KeepsBlocksInFlightUnchanged (tree_state_of_kept_thread t true false) (tree_state_of_kept_thread (with_history t h) true false)
+leaves_reading : (t : KeptThread) (h : List CallEvent) → OnlyReadsSince t.disk.blocks t.history h → KeepsInFlight (kept_state t true false) (kept_state (with_history t h) true false)
 leaves_reading t h reads = record {
   stay = λ b flies. flies;
   none_comes = λ b flies. flies;
   bytes = λ b flies. refl;
-  unprogrammed_still = λ b k flies was. is_byte_unprogrammed-read_count_of_history b k reads ∙ was;
+  unprogrammed_still = λ b k flies was. is_unprogrammed_byte-read_count b k reads ∙ was;
 }
 
 -- ---- directories are dropped
 
-pub can_drop : (t m : KeptThread) (numbers : List ℕ) → CanDropUnreachedDirectories t → 1024 ≤ t.disk.block_size → IsThreadOnlyRead t m → AreUnreachedPairNumbers t.pairs numbers → CanDropUnreachedPairs m numbers
-can_drop t m numbers can large r reported = subst (λ z. CanDropUnreachedPairs z numbers) (sym (read_is t m r)) (record {
+pub can_drop : (t m : KeptThread) (numbers : List ℕ) → CanDropUnreached t → 1024 ≤ t.disk.block_size → OnlyReadsThread t m → AreUnreachedNumbers t.pairs numbers → CanDropPairs m numbers
+can_drop t m numbers can large r reported = subst (λ z. CanDropPairs z numbers) (sym (read_is t m r)) (record {
   accepted = can.accepted;
   writable = can.writable;
   used = can.used;
@@ -121,25 +121,25 @@ can_drop t m numbers can large r reported = subst (λ z. CanDropUnreachedPairs z
 })
 
 -- the lists are freed behind the drop
-pub freed : (old mid new : KeptThread) (numbers : List ℕ) → IsAcceptedImage old.disk old.pairs → AreExactlyTheUsedBlocks old.map (used_blocks old.disk old.pairs) → HasNoMove (gstate_of_pairs old.pairs) → HasDroppedUnreachedPairsAndRecovered old numbers mid → ThreadChangesOnlyTheseBlocks (blocks_of_pairs old.pairs) old mid → ChangesOnlyBlockMap mid new → IsImageReadyForChange new → HasSameBlocksInFlight mid.map new.map
-    → HasDroppedUnreachedDirectories old new
+pub freed : (old mid new : KeptThread) (numbers : List ℕ) → IsAccepted old.disk old.pairs → AreUsed old.map (used_blocks old.disk old.pairs) → HasNoMove (pairs_gstate old.pairs) → HasDroppedRecovered old numbers mid → ChangesThreadBlocks (blocks_of_pairs old.pairs) old mid → ChangesOnlyMap mid new → IsReadyImage new → SameInFlight mid.map new.map
+    → HasDroppedUnreached old new
 freed old mid new numbers accepted used none r w only ready flying = record {
   ready = ready;
   root = ap pair_count_before_root only.pairs ∙ r.root;
   shows = ap₂ (λ (disk : Disk) (ps : List Pair). tree_on_disk disk ps) only.disk only.pairs ∙ r.shows;
-  completed = λ s tree. subst₂ (λ (disk : Disk) (ps : List Pair). IsImageAfterCompletedOperation old.disk old.pairs s ops.Recover disk ps) (sym only.disk) (sym only.pairs) (r.completed s tree);
+  completed = λ s tree. subst₂ (λ (disk : Disk) (ps : List Pair). IsCompletion old.disk old.pairs s ops.Recover disk ps) (sym only.disk) (sym only.pairs) (r.completed s tree);
   fewer = λ b.
-      let e = ap₂ (λ (disk : Disk) (ps : List Pair). occurrence_count_of_number b (used_blocks disk ps)) only.disk only.pairs in
+      let e = ap₂ (λ (disk : Disk) (ps : List Pair). number_count b (used_blocks disk ps)) only.disk only.pairs in
       let u = count_used b mid.disk mid.pairs (no_move_from mid.pairs r.ready.settled) in
       let v = count_used b old.disk old.pairs none in
       let k = r.fewer b in let l = r.lost b in
       omega arith;
   keeps = λ path file. keeps_writing old new (blocks_of_pairs old.pairs) accepted used (all_pairs old) (writes_then old mid new (blocks_of_pairs old.pairs) w only) path file
-      (ap (λ (ps : List Pair). struct_of_path ps path) only.pairs ∙ (r.completed (record { tree = tree_on_disk old.disk old.pairs; files = [] }) refl).structs path file refl refl);
+      (ap (λ (ps : List Pair). struct_at ps path) only.pairs ∙ (r.completed (record { tree = tree_on_disk old.disk old.pairs; files = [] }) refl).structs path file refl refl);
   flight = leaves_same old new used (λ b. ((λ flies. (r.flying b).0 ((flying b).0 flies)), (λ flies. (flying b).1 ((r.flying b).1 flies)))) (writes_then old mid new (blocks_of_pairs old.pairs) w only);
 }
 
-dropped_behind : (t : KeptThread) (h : List DeviceCallEvent) (d : KeptThread) → AreCallsSinceOnlyReads t.disk.blocks t.history h → HasDroppedUnreachedDirectories (with_history t h) d → HasDroppedUnreachedDirectories t d
+dropped_behind : (t : KeptThread) (h : List CallEvent) (d : KeptThread) → OnlyReadsSince t.disk.blocks t.history h → HasDroppedUnreached (with_history t h) d → HasDroppedUnreached t d
 dropped_behind t h d reads k = record {
   ready = k.ready;
   root = k.root;
@@ -147,52 +147,52 @@ dropped_behind t h d reads k = record {
   completed = k.completed;
   fewer = k.fewer;
   keeps = λ path file. let keeps = k.keeps path file in record { file = keeps.file; struct = keeps.struct; list = keeps.list; bytes = keeps.bytes };
-  flight = leaves_then (tree_state_of_kept_thread t true false) (tree_state_of_kept_thread (with_history t h) true false) (tree_state_of_kept_thread d true false) (leaves_reading t h reads) k.flight;
+  flight = leaves_then (kept_state t true false) (kept_state (with_history t h) true false) (kept_state d true false) (leaves_reading t h reads) k.flight;
 }
 
-pub dropped : (t m d : KeptThread) → IsThreadOnlyRead t m → HasDroppedUnreachedDirectories m d → HasDroppedUnreachedDirectories t d
-dropped t m d r k = dropped_behind t m.history d r.reads (subst (λ z. HasDroppedUnreachedDirectories z d) (read_is t m r) k)
+pub dropped : (t m d : KeptThread) → OnlyReadsThread t m → HasDroppedUnreached m d → HasDroppedUnreached t d
+dropped t m d r k = dropped_behind t m.history d r.reads (subst (λ z. HasDroppedUnreached z d) (read_is t m r) k)
 
 -- ---- a stop
 
-all_some : (events : List DeviceCallEvent) → IsTrueOfEachCall (λ e. Unit {0}) events
+all_some : (events : List CallEvent) → AllCalls (λ e. Unit {0}) events
 all_some [] = tt
 all_some (e ∷ older) = (tt, all_some older)
 
-pub some_since : (events old new : List DeviceCallEvent) → new ≡ events ++ old → IsTrueOfEachCallSince (λ e. Unit {0}) old new
+pub some_since : (events old new : List CallEvent) → new ≡ events ++ old → AllCallsSince (λ e. Unit {0}) old new
 some_since events old new e = record { events = events; extends = e; each = all_some events }
 
-pub reading_survives : (t : KeptThread) (h : List DeviceCallEvent) → IsAcceptedImage t.disk t.pairs → IsWritableImage t.disk t.pairs → AreCallsSinceOnlyReads t.disk.blocks t.history h → SurvivesPowerLossInCallsSince t.disk t.history h (tree_on_disk t.disk t.pairs) (tree_on_disk t.disk t.pairs)
-reading_survives t h ok fits reads clean = IsTrueAfterAnyPowerLossSince-read_count_of_history AreBlocksLeftByPowerLossInCall-read reads (record { pairs = t.pairs; accepted = ok; writable = fits; tree = inl refl })
+pub reading_survives : (t : KeptThread) (h : List CallEvent) → IsAccepted t.disk t.pairs → IsWritable t.disk t.pairs → OnlyReadsSince t.disk.blocks t.history h → SurvivesLossSince t.disk t.history h (tree_on_disk t.disk t.pairs) (tree_on_disk t.disk t.pairs)
+reading_survives t h ok fits reads clean = HoldsAtLosses-read_count LeftByLoss-read reads (record { pairs = t.pairs; accepted = ok; writable = fits; tree = inl refl })
 
-pub read_survives : (t m : KeptThread) → CanDropUnreachedDirectories t → IsThreadOnlyRead t m → SurvivesWithOldOrNewTree t m (tree_on_disk t.disk t.pairs)
+pub read_survives : (t m : KeptThread) → CanDropUnreached t → OnlyReadsThread t m → SurvivesEither t m (tree_on_disk t.disk t.pairs)
 read_survives t m can r = reading_survives t m.history can.accepted can.writable r.reads
 
-pub drop_survives : (t m d : KeptThread) → CanDropUnreachedDirectories t → IsThreadOnlyRead t m → ThreadChangesOnlyTheseBlocks (blocks_of_pairs m.pairs) m d → SurvivesPowerLossInCallsSince m.disk m.history d.history (tree_on_disk m.disk m.pairs) (tree_on_disk m.disk m.pairs) → SurvivesWithOldOrNewTree t d (tree_on_disk t.disk t.pairs)
+pub drop_survives : (t m d : KeptThread) → CanDropUnreached t → OnlyReadsThread t m → ChangesThreadBlocks (blocks_of_pairs m.pairs) m d → SurvivesLossSince m.disk m.history d.history (tree_on_disk m.disk m.pairs) (tree_on_disk m.disk m.pairs) → SurvivesEither t d (tree_on_disk t.disk t.pairs)
 drop_survives t m d can r w k =
     survives_then t.disk t.history m.history d.history (tree_on_disk t.disk t.pairs) (tree_on_disk t.disk t.pairs) r.reads w.at_worst (read_survives t m can r)
-    (subst₂ (λ (disk : Disk) (ps : List Pair). SurvivesPowerLossInCallsSince disk m.history d.history (tree_on_disk disk ps) (tree_on_disk disk ps)) r.disk r.pairs k)
+    (subst₂ (λ (disk : Disk) (ps : List Pair). SurvivesLossSince disk m.history d.history (tree_on_disk disk ps) (tree_on_disk disk ps)) r.disk r.pairs k)
 
 -- behind the end of a set move
-pub end_survives : (a b : KeptThread) (h : List DeviceCallEvent) → ThreadChangesOnlyTheseBlocks (blocks_of_pairs a.pairs) a b → tree_on_disk b.disk b.pairs ≡ tree_on_disk a.disk a.pairs → (calls : List DeviceCallEvent) → h ≡ calls ++ b.history
-    → SurvivesPowerLossInCallsSince a.disk a.history b.history (tree_on_disk a.disk a.pairs) (tree_on_disk a.disk a.pairs) → SurvivesPowerLossInCallsSince b.disk b.history h (tree_on_disk b.disk b.pairs) (tree_on_disk b.disk b.pairs)
-    → SurvivesPowerLossInCallsSince a.disk a.history h (tree_on_disk a.disk a.pairs) (tree_on_disk a.disk a.pairs)
+pub end_survives : (a b : KeptThread) (h : List CallEvent) → ChangesThreadBlocks (blocks_of_pairs a.pairs) a b → tree_on_disk b.disk b.pairs ≡ tree_on_disk a.disk a.pairs → (calls : List CallEvent) → h ≡ calls ++ b.history
+    → SurvivesLossSince a.disk a.history b.history (tree_on_disk a.disk a.pairs) (tree_on_disk a.disk a.pairs) → SurvivesLossSince b.disk b.history h (tree_on_disk b.disk b.pairs) (tree_on_disk b.disk b.pairs)
+    → SurvivesLossSince a.disk a.history h (tree_on_disk a.disk a.pairs) (tree_on_disk a.disk a.pairs)
 end_survives a b h w shows calls called first second =
     survives_then a.disk a.history b.history h (tree_on_disk a.disk a.pairs) (tree_on_disk a.disk a.pairs) w.at_worst (some_since calls b.history h called) first
-    (λ clean. IsTrueAfterAnyPowerLossSince-weaker (λ left x. subst (λ z. HasTreeBeforeOrAfterOperation z (tree_on_disk a.disk a.pairs) (tree_on_disk a.disk a.pairs))
+    (λ clean. HoldsAtLosses-weaker (λ left x. subst (λ z. HasEither z (tree_on_disk a.disk a.pairs) (tree_on_disk a.disk a.pairs))
     (λ j. record { block_size = w.shape.block_size j; page = w.shape.page j; order = w.shape.order j; profile = w.shape.profile j; blocks = left })
-    (subst (λ z. HasTreeBeforeOrAfterOperation (disk_with_blocks left b.disk) z z) shows x)) (second clean))
+    (subst (λ z. HasEither (with_blocks left b.disk) z z) shows x)) (second clean))
 
 -- ---- calls
 
-pub called_writing : (a b : KeptThread) (bs : List ℕ) → ThreadChangesOnlyTheseBlocks bs a b → HasFurtherDeviceCalls a b
+pub called_writing : (a b : KeptThread) (bs : List ℕ) → ChangesThreadBlocks bs a b → HasFurtherCalls a b
 called_writing a b bs w = record {
   geometry = record { block_size = w.shape.block_size; page = w.shape.page; order = w.shape.order; profile = w.shape.profile; count = w.shape.count };
   calls = w.at_worst.events;
   called = w.at_worst.extends;
 }
 
-pub called_then : (a b c : KeptThread) → HasFurtherDeviceCalls a b → HasFurtherDeviceCalls b c → HasFurtherDeviceCalls a c
+pub called_then : (a b c : KeptThread) → HasFurtherCalls a b → HasFurtherCalls b c → HasFurtherCalls a c
 called_then a b c f g = record {
   geometry = record {
     block_size = g.geometry.block_size ∙ f.geometry.block_size;
@@ -207,18 +207,18 @@ called_then a b c f g = record {
 
 -- ---- the whole
 
-pub can_end : (t : ThreadView) (root : ℕ) → IsSoundThreadWithRootAtPairNumber t root true → CanEndMove t.kept
+pub can_end : (t : ThreadView) (root : ℕ) → IsSoundWithRoot t root true → CanEndMove t.kept
 can_end t root r = record { accepted = r.sound.accepted; writable = r.sound.fits refl; used = r.sound.used; size = r.sound.size }
 
-pub can_drop_then : (a b : KeptThread) → HasEndedMove a b → CanDropUnreachedDirectories b
+pub can_drop_then : (a b : KeptThread) → HasEndedMove a b → CanDropUnreached b
 can_drop_then a b e = record { accepted = e.taken.follows.accepted; writable = e.taken.writable; used = e.used; size = e.size; none = e.none }
 
-pub recovered_whole : (t : ThreadView) (root : ℕ) (b c : KeptThread) → IsSoundThreadWithRootAtPairNumber t root true → (gstate_of_pairs t.kept.pairs ≡ zero_gstate → ⊥) → HasEndedMove t.kept b → ThreadChangesOnlyTheseBlocks (blocks_of_pairs t.kept.pairs) t.kept b → HasDroppedUnreachedDirectories b c → HasFurtherDeviceCalls b c
-    → fault_count_of_history c.history ≡ fault_count_of_history t.kept.history → AppliesOperationOnThread t.kept ops.Recover c
+pub recovered_whole : (t : ThreadView) (root : ℕ) (b c : KeptThread) → IsSoundWithRoot t root true → (pairs_gstate t.kept.pairs ≡ zero_gstate → ⊥) → HasEndedMove t.kept b → ChangesThreadBlocks (blocks_of_pairs t.kept.pairs) t.kept b → HasDroppedUnreached b c → HasFurtherCalls b c
+    → fault_count c.history ≡ fault_count t.kept.history → AppliesOperation t.kept ops.Recover c
 recovered_whole t root b c rooted left e w d called quiet =
     let a = t.kept in
     let all = called_then a b c (called_writing a b (blocks_of_pairs a.pairs) w) called in
-    let completed : (files : OpenFilesByNumber) → IsImageAfterCompletedOperation b.disk b.pairs (record { tree = tree_on_disk a.disk a.pairs; files = files }) ops.Recover c.disk c.pairs
+    let completed : (files : OpenFilesByNumber) → IsCompletion b.disk b.pairs (record { tree = tree_on_disk a.disk a.pairs; files = files }) ops.Recover c.disk c.pairs
     = λ files. d.completed (record { tree = tree_on_disk a.disk a.pairs; files = files }) (sym e.taken.follows.shows) in
     record {
       works = refl;
@@ -237,7 +237,7 @@ recovered_whole t root b c rooted left e w d called quiet =
           arranged_after a.disk c.disk c.disk a.pairs c.pairs c.pairs s ops.Recover all.geometry k.accepted k.recovered (e.leads_on s c.disk c.pairs k.laid_out) (recovered_stays c.disk c.pairs s k.accepted d.ready.writable d.ready.settled);
       itself = λ z. absurd (cc);
       nothing_left = λ z done. absurd (left done.gstate);
-      flight = leaves_then (tree_state_of_kept_thread a true false) (tree_state_of_kept_thread b true false) (tree_state_of_kept_thread c true false) (leaves_same a b rooted.sound.used e.flying w) d.flight;
+      flight = leaves_then (kept_state a true false) (kept_state b true false) (kept_state c true false) (leaves_same a b rooted.sound.used e.flying w) d.flight;
       keeps = λ path file away.
           let first = keeps_writing a b (blocks_of_pairs a.pairs) rooted.sound.accepted rooted.sound.used (all_pairs a) w path file (struct_stays a.disk a.pairs b.pairs path file (e.taken.follows.stays path (same_leaves path))) in
           let k = keeps_then a b c path first (d.keeps path first.file) in
@@ -247,37 +247,37 @@ recovered_whole t root b c rooted left e w d called quiet =
 
 -- ---- what it tells
 
-pub reports_reading : {X : Type 0} (t m : KeptThread) (r : Result X Error) (e : Error) → r ≡ Err e → IoMeantFaultNoMemoryWroteNothing t m r → ReportsIoWithFaultOrNoMemory t m e
+pub reports_reading : {X : Type 0} (t m : KeptThread) (r : Result X Error) (e : Error) → r ≡ Err e → IoMeantFaultNoMemoryWroteNothing t m r → ReportsFaults t m e
 reports_reading {X} t m r e is reported = record {
   errors = subst (λ (z : Result X Error). IfErr z (λ f. (f ≡ Io) ⊎ (f ≡ NoMemory))) is reported.errors;
   fault = λ io. reported.fault (is ∙ ap Err io);
   no_fault = λ other. reported.no_fault (λ io. other (same_error e Io (sym is ∙ io)));
 }
 
-pub reports_steps : {X : Type 0} (m d : ThreadView) (r : Result X Error) (e : Error) → r ≡ Err e → ReportsErrorsOfRecovery m d r → ReportsIoWithFaultOrNoMemory m.kept d.kept e
+pub reports_steps : {X : Type 0} (m d : ThreadView) (r : Result X Error) (e : Error) → r ≡ Err e → ReportsErrorsOfRecovery m d r → ReportsFaults m.kept d.kept e
 reports_steps {X} m d r e is reported = record {
   errors = subst (λ (z : Result X Error). IfErr z (λ f. (f ≡ Io) ⊎ (f ≡ NoMemory))) is reported.errors;
   fault = λ io. reported.fault (is ∙ ap Err io);
   no_fault = λ other. reported.no_fault (λ io. other (same_error e Io (sym is ∙ io)));
 }
 
-pub reports_work : {X : Type 0} (m d : KeptThread) (r : Result X Error) (e : Error) → r ≡ Err e → ReportsFaultOrNoMemory m d r → ReportsIoWithFaultOrNoMemory m d e
+pub reports_work : {X : Type 0} (m d : KeptThread) (r : Result X Error) (e : Error) → r ≡ Err e → ReportsFaultOrNoMemory m d r → ReportsFaults m d e
 reports_work {X} m d r e is reported = record {
   errors = subst (λ (z : Result X Error). IfErr z (λ f. (f ≡ Io) ⊎ (f ≡ NoMemory))) is reported.errors;
   fault = λ io. reported.fault (is ∙ ap Err io);
   no_fault = λ other. reported.no_fault (λ io. other (same_error e Io (sym is ∙ io)));
 }
 
-pub reports_then : (a b c : KeptThread) (e : Error) → fault_count_of_history b.history ≡ fault_count_of_history a.history → ReportsIoWithFaultOrNoMemory b c e → ReportsIoWithFaultOrNoMemory a c e
+pub reports_then : (a b c : KeptThread) (e : Error) → fault_count b.history ≡ fault_count a.history → ReportsFaults b c e → ReportsFaults a c e
 reports_then a b c e quiet t = record { errors = t.errors; fault = λ io. let k = t.fault io in omega (arith, k, quiet); no_fault = λ other. t.no_fault other ∙ quiet }
 
 -- an error is passed on
-pub reports_given : {Y : Type 0} (a c : KeptThread) (given : Result Y Error) (e f : Error) → given ≡ Err f → f ≡ e → ReportsIoWithFaultOrNoMemory a c e → IfErr given (ReportsIoWithFaultOrNoMemory a c)
-reports_given {Y = Y} a c given e f is same t = subst (λ (r : Result Y Error). IfErr r (ReportsIoWithFaultOrNoMemory a c)) (sym is) (subst (ReportsIoWithFaultOrNoMemory a c) (sym same) t)
+pub reports_given : {Y : Type 0} (a c : KeptThread) (given : Result Y Error) (e f : Error) → given ≡ Err f → f ≡ e → ReportsFaults a c e → IfErr given (ReportsFaults a c)
+reports_given {Y = Y} a c given e f is same t = subst (λ (r : Result Y Error). IfErr r (ReportsFaults a c)) (sym is) (subst (ReportsFaults a c) (sym same) t)
 
 -- ---- where nothing is left to recover
 
-pub recovered_already : (t : TreeState) → t.failed ≡ false → t.writable ≡ true → IsSoundTreeState t → gstate_of_pairs t.pairs ≡ zero_gstate → IsOperationAppliedToTree t ops.Recover t
+pub recovered_already : (t : TreeState) → t.failed ≡ false → t.writable ≡ true → IsSoundState t → pairs_gstate t.pairs ≡ zero_gstate → IsApplied t ops.Recover t
 recovered_already t works writable sound settled = record {
   works = works;
   sound = sound;
@@ -295,15 +295,15 @@ recovered_already t works writable sound settled = record {
   itself = λ e. absurd (cc);
   nothing_left = λ e done. (refl, (refl, refl));
   flight = record { stay = λ b f. f; none_comes = λ b f. f; bytes = λ b f. refl; unprogrammed_still = λ b k f u. u };
-  keeps = λ path file away. keeps_same (kept_thread_of_tree_state t) path file;
+  keeps = λ path file away. keeps_same (kept_thread t) path file;
   lists = λ none. lists_from t.disk t.disk t.pairs (λ b some. refl);
 }
 
-pub none_survives : (t : TreeState) (after : Tree) → SurvivesPowerLossInCallsSince t.disk t.history t.history (tree_view t) after
+pub none_survives : (t : TreeState) (after : Tree) → SurvivesLossSince t.disk t.history t.history (tree_view t) after
 none_survives t after clean = record { events = []; extends = refl; each = tt }
 
 -- a state in which nothing is set
-pub nothing_set : (g : Gstate) → is_zero_gstate g ≡ true → g ≡ zero_gstate
+pub nothing_set : (g : Gstate) → is_zero g ≡ true → g ≡ zero_gstate
 nothing_set g z = go g.sync refl
   where
     go : (sync : Bool) → g.sync ≡ sync → g ≡ zero_gstate
@@ -319,11 +319,11 @@ nothing_set g z = go g.sync refl
         ap (λ s. record g { sync = s }) e ∙ ap (λ k. record g { sync = false; kind = k }) kind
         ∙ ap₂ (λ i p. record { sync = false; kind = 0; id = i; pair = p }) id pair
 
-pub something_set : (g : Gstate) → is_zero_gstate g ≡ false → g ≡ zero_gstate → ⊥
-something_set g e is = let k = sym e ∙ ap is_zero_gstate is in absurd (cc)
+pub something_set : (g : Gstate) → is_zero g ≡ false → g ≡ zero_gstate → ⊥
+something_set g e is = let k = sym e ∙ ap is_zero is in absurd (cc)
 
 -- what works is sound
-pub held_sound : (thread : ThreadView) (root : ℕ) (writable : Bool) (now : TreeState) → IsSoundThreadUnlessFailed thread root writable → tree_state_of_thread thread writable ≡ now → now.failed ≡ false → IsSoundTreeState now
+pub held_sound : (thread : ThreadView) (root : ℕ) (writable : Bool) (now : TreeState) → SoundUnlessFailed thread root writable → thread_state thread writable ≡ now → now.failed ≡ false → IsSoundState now
 held_sound thread root writable now kept view works =
     let s = (kept (ap (λ (s : TreeState). s.failed) view ∙ works)).sound in
-    subst IsSoundTreeState view (record { accepted = s.accepted; fits = s.fits; is_kept = s.is_kept; used = s.used; size = s.size })
+    subst IsSoundState view (record { accepted = s.accepted; fits = s.fits; is_kept = s.is_kept; used = s.used; size = s.size })

@@ -4,54 +4,54 @@ use Rattle.std.proofs.lemmas.List.Sums.{sum_by-cons}
 use Rattle.std.proofs.lemmas.Option.{same_Some}
 use Rattle.std.specs.Prelude.{is_none, is_some, nat_lt}
 use Rattle.lfs_device.specs.declared.error.Error.{Error}
-use Rattle.lfs_model.specs.TreeEdits.{attributes_of_node, is_directory, is_file, last_name_of_path, names_of_directory_node, same_path}
-use Rattle.lfs_model.specs.Blocks.{Blocks}
-use Rattle.lfs_model.specs.Content.{attribute_bytes_of_type, attributes_with_attribute}
-use Rattle.lfs_model.specs.Names.{Name}
-use Rattle.lfs_model.specs.Effects.{effect_of_operation}
+use Rattle.lfs_model.specs.session.TreeEdits.{node_attributes_of, is_directory, is_file, last_name, directory_names, same_path}
+use Rattle.lfs_model.specs.format.Blocks.{Blocks}
+use Rattle.lfs_model.specs.format.Content.{attribute_bytes, attributes_with}
+use Rattle.lfs_model.specs.format.Names.{Name}
+use Rattle.lfs_model.specs.session.Effects.{operation_effect}
 use Rattle.lfs_tree.proofs.RecoveredTwice.{recovers_through}
-use Rattle.lfs_model.specs.BlockSets.{BlockStateList, BlockState, IsBlockInFlight, in_flight_block_count, is_block_state_in_flight}
-use Rattle.lfs_model.specs.BlockSets.BlockState.{Free, InFlight, Used}
+use Rattle.lfs_model.specs.layers.BlockSets.{BlockStates, BlockState, IsInFlight, in_flight_count, state_in_flight}
+use Rattle.lfs_model.specs.layers.BlockSets.BlockState.{Free, InFlight, Used}
 use Rattle.lfs_model.specs.declared.limits.Profile.{Profile}
-use Rattle.lfs_model.specs.Disk.{SameGeometry, charged_entry_size_limit_in_pair, name_max_of}
-use Rattle.lfs_model.specs.Layout.{IsDirectoryUnreachedOrRemoved, IsSlotLayoutAfterRecoveryAndOperation}
-use Rattle.lfs_model.specs.Operations as ops
-use Rattle.lfs_model.specs.Operations.{Operation}
-use Rattle.lfs_model.specs.PowerLoss.{HasTreeBeforeOrAfterOperation, disk_with_blocks}
-use Rattle.lfs_model.specs.Run.{is_recover_operation, renames_to_itself}
-use Rattle.lfs_model.specs.Session.{Session, has_too_long_last_name, is_entry_over_charge_limit, refusal_unless_parents_are_directories}
-use Rattle.lfs_model.specs.Slots.{Attributes, entry_charge_with_longest_inline_contents, zero_gstate}
-use Rattle.lfs_model.specs.Thread.{Pair, gstate_of_pairs, pair_count_before_root}
-use Rattle.lfs_model.specs.Tree.{Path, Tree}
-use Rattle.lfs_model.specs.Shown.{tree_on_disk, used_blocks}
+use Rattle.lfs_model.specs.format.Disk.{SameGeometry, charge_limit, name_max_of}
+use Rattle.lfs_model.specs.session.Layout.{IsDirectoryGone, IsLayoutRecovered}
+use Rattle.lfs_model.specs.session.Operations as ops
+use Rattle.lfs_model.specs.session.Operations.{Operation}
+use Rattle.lfs_model.specs.crash.PowerLoss.{HasEither, with_blocks}
+use Rattle.lfs_model.specs.session.Run.{is_recover, renames_itself}
+use Rattle.lfs_model.specs.session.Session.{Session, has_long_name, is_over_charge, parents_refusal}
+use Rattle.lfs_model.specs.format.Slots.{Attributes, entry_charge, zero_gstate}
+use Rattle.lfs_model.specs.format.Thread.{Pair, pairs_gstate, pair_count_before_root}
+use Rattle.lfs_model.specs.tree.Tree.{Path, Tree}
+use Rattle.lfs_model.specs.tree.Shown.{tree_on_disk, used_blocks}
 use Rattle.lfs_model.proofs.AfterStops.{survives_then}
 use Rattle.lfs_model.proofs.BlockCounts.{few_used}
-use Rattle.lfs_model.proofs.BlockSets.{Contains-occurrence_count_of_number, occurrence_count_of_number-Contains, used_count-AreExactlyTheUsedBlocks}
-use Rattle.lfs_model.proofs.Counts.{occurrence_count_of_number}
-use Rattle.lfs_model.proofs.Histories.{IsTrueAfterAnyPowerLossSince-weaker}
-use Rattle.lfs_operations.specs.EndingMove.{HasEndedMove, IsEachRecoveryOfNewAllowedForOld}
+use Rattle.lfs_model.proofs.BlockSets.{Contains-number_count, number_count-Contains, used_count-AreUsed}
+use Rattle.lfs_model.proofs.Counts.{number_count}
+use Rattle.lfs_model.proofs.Histories.{HoldsAtLosses-weaker}
+use Rattle.lfs_operations.specs.EndingMove.{HasEndedMove, RecoveriesAreAllowed}
 use Rattle.lfs_operations.proofs.RecoverBefore.{AreKin, stand_kin}
-use Rattle.lfs_operations.specs.Ready.{KeepsPairCountBeforeRoot}
+use Rattle.lfs_operations.specs.Ready.{KeepsRootBeginning}
 use Rattle.lfs_thread.specs.Kept.{KeptThread, ThreadView}
-use Rattle.lfs_tree.specs.Permissions.{CanAddEntryAtPath, CanRemoveEntryAtPath, CanRemoveAttrAtPath, CanRenamePath, CanSetAttrAtPath, HasFreeBlocksForNeed}
-use Rattle.lfs_tree.specs.TreeChanges.{AppliesOperationOnThread, HasFurtherDeviceCalls, SparesBlocksOutsideOperation, HasSoundImageOfTree, SurvivesWithOldOrNewTree, ReportsIoWithFaultOrNoMemory}
-use Rattle.lfs_tree.specs.RootedThreads.{IsSoundThreadWithRootAtPairNumber, tree_state_of_kept_thread}
-use Rattle.lfs_tree.specs.KeptFiles.{KeepsBytesOfSkipListsOfFiles}
-use Rattle.lfs_tree.specs.Recoveries.{HasDroppedUnreachedDirectories, HasRecoveredFromPowerLoss}
-use Rattle.lfs_tree.specs.TreeState.{IsSoundTreeState, disk_summary_of_tree, kept_thread_of_tree_state}
+use Rattle.lfs_tree.specs.Permissions.{CanAddEntry, CanRemoveEntry, CanRemoveAttr, CanRenamePath, CanSetAttr, HasNeededBlocks}
+use Rattle.lfs_tree.specs.TreeChanges.{AppliesOperation, HasFurtherCalls, SparesOutsideOperation, HasSoundImage, SurvivesEither, ReportsFaults}
+use Rattle.lfs_tree.specs.RootedThreads.{IsSoundWithRoot, kept_state}
+use Rattle.lfs_tree.specs.KeptFiles.{KeepsListBytes}
+use Rattle.lfs_tree.specs.Recoveries.{HasDroppedUnreached, HasRecovered}
+use Rattle.lfs_tree.specs.TreeState.{IsSoundState, tree_summary, kept_thread}
 use Rattle.lfs_tree.proofs.KeptFiles.{keeps_then}
 use Rattle.lfs_tree.proofs.Recovered.{called_then, leaves_then, recovered_already, some_since}
 
 -- ---- the recovery
 
 -- no more blocks are used
-fewer_used : (c : KeptThread) (used : List ℕ) → IsSoundTreeState (tree_state_of_kept_thread c true false) → ((b : ℕ) → occurrence_count_of_number b (used_blocks c.disk c.pairs) ≤ occurrence_count_of_number b used) → length (used_blocks c.disk c.pairs) ≤ length used
+fewer_used : (c : KeptThread) (used : List ℕ) → IsSoundState (kept_state c true false) → ((b : ℕ) → number_count b (used_blocks c.disk c.pairs) ≤ number_count b used) → length (used_blocks c.disk c.pairs) ≤ length used
 fewer_used c used sound fewer =
-    let e = used_count-AreExactlyTheUsedBlocks c.map (used_blocks c.disk c.pairs) sound.accepted.owned_once sound.used in
-    let f = few_used used c.map (λ b is. Contains-occurrence_count_of_number used b (let k = occurrence_count_of_number-Contains (used_blocks c.disk c.pairs) b ((sound.used b).0 is) in let l = fewer b in omega arith)) in
+    let e = used_count-AreUsed c.map (used_blocks c.disk c.pairs) sound.accepted.owned_once sound.used in
+    let f = few_used used c.map (λ b is. Contains-number_count used b (let k = number_count-Contains (used_blocks c.disk c.pairs) b ((sound.used b).0 is) in let l = fewer b in omega arith)) in
     omega arith
 
-pub settled_whole : (a b c : KeptThread) → (gstate_of_pairs a.pairs ≡ zero_gstate → ⊥) → HasEndedMove a b → HasDroppedUnreachedDirectories b c → AppliesOperationOnThread a ops.Recover c → HasRecoveredFromPowerLoss a c
+pub settled_whole : (a b c : KeptThread) → (pairs_gstate a.pairs ≡ zero_gstate → ⊥) → HasEndedMove a b → HasDroppedUnreached b c → AppliesOperation a ops.Recover c → HasRecovered a c
 settled_whole a b c left e d carries =
     let now : Session = record { tree = tree_on_disk b.disk b.pairs; files = [] } in
     let done = d.completed now refl in
@@ -62,13 +62,13 @@ settled_whole a b c left e d carries =
       same = λ none. absurd (left none);
     }
 
-pub settled_stands : (a c : KeptThread) → HasRecoveredFromPowerLoss a c → KeepsPairCountBeforeRoot a c → HasSoundImageOfTree a (tree_on_disk a.disk a.pairs) c
-settled_stands a c f root = record { sound = f.carries.sound; fits = f.carries.fits; root = root; shows = f.carries.shows (disk_summary_of_tree (tree_state_of_kept_thread a true false)) []; no_fault = f.carries.no_fault }
+pub settled_stands : (a c : KeptThread) → HasRecovered a c → KeepsRootBeginning a c → HasSoundImage a (tree_on_disk a.disk a.pairs) c
+settled_stands a c f root = record { sound = f.carries.sound; fits = f.carries.fits; root = root; shows = f.carries.shows (tree_summary (kept_state a true false)) []; no_fault = f.carries.no_fault }
 
 -- nothing was left
-pub settled_already : (t : ThreadView) (root : ℕ) → IsSoundThreadWithRootAtPairNumber t root true → gstate_of_pairs t.kept.pairs ≡ zero_gstate → HasRecoveredFromPowerLoss t.kept t.kept
+pub settled_already : (t : ThreadView) (root : ℕ) → IsSoundWithRoot t root true → pairs_gstate t.kept.pairs ≡ zero_gstate → HasRecovered t.kept t.kept
 settled_already t root r e = record {
-  carries = recovered_already (tree_state_of_kept_thread t.kept true false) refl refl r.sound e;
+  carries = recovered_already (kept_state t.kept true false) refl refl r.sound e;
   leads_on = λ s disk qs h. h;
   room = omega arith;
   same = λ none. refl;
@@ -80,7 +80,7 @@ kin_itself : (ps : List Pair) → AreKin ps ps
 kin_itself [] = tt
 kin_itself (p ∷ ps) = (record { at = refl; slots = refl; hard = refl }, kin_itself ps)
 
-arranged_through : (a b c : KeptThread) (s : Session) (op : Operation) → SameGeometry a.disk b.disk → IsEachRecoveryOfNewAllowedForOld a b → IsSlotLayoutAfterRecoveryAndOperation b.disk b.pairs s op c.disk c.pairs → IsSlotLayoutAfterRecoveryAndOperation a.disk a.pairs s op c.disk c.pairs
+arranged_through : (a b c : KeptThread) (s : Session) (op : Operation) → SameGeometry a.disk b.disk → RecoveriesAreAllowed a b → IsLayoutRecovered b.disk b.pairs s op c.disk c.pairs → IsLayoutRecovered a.disk a.pairs s op c.disk c.pairs
 arranged_through a b c s op g leads k = record {
   middle = k.middle;
   between = k.between;
@@ -94,28 +94,28 @@ arranged_through a b c s op g leads k = record {
     fresh = k.operation.fresh;
     back = k.operation.back;
     edits = k.operation.edits;
-    stand = stand_kin a.disk b.disk (IsDirectoryUnreachedOrRemoved k.between op) (IsDirectoryUnreachedOrRemoved k.between op) (record { block_size = g.block_size; page = g.page; there = λ x y. y; back = λ x y. y })
+    stand = stand_kin a.disk b.disk (IsDirectoryGone k.between op) (IsDirectoryGone k.between op) (record { block_size = g.block_size; page = g.page; there = λ x y. y; back = λ x y. y })
         (pair_count_before_root k.between) None k.operation.drafts k.operation.drafts k.operation.parts (kin_itself k.operation.drafts) k.operation.stand;
     joined = k.operation.joined;
     is = k.operation.is;
   };
 }
 
-flying_cons : (state : BlockState) (sets : BlockStateList) → in_flight_block_count (state ∷ sets) ≡ cond (is_block_state_in_flight state) 1 0 + in_flight_block_count sets
-flying_cons state sets = sum_by-cons (λ x. cond (is_block_state_in_flight x) 1 0) state sets
+flying_cons : (state : BlockState) (sets : BlockStates) → in_flight_count (state ∷ sets) ≡ cond (state_in_flight state) 1 0 + in_flight_count sets
+flying_cons state sets = sum_by-cons (λ x. cond (state_in_flight x) 1 0) state sets
 
-flying_here : (x : BlockState) (o : Option BlockState) → (Some x ≡ Some InFlight → o ≡ Some InFlight) → cond (is_block_state_in_flight x) 1 0 ≤ cond (is_some o) 1 0
+flying_here : (x : BlockState) (o : Option BlockState) → (Some x ≡ Some InFlight → o ≡ Some InFlight) → cond (state_in_flight x) 1 0 ≤ cond (is_some o) 1 0
 flying_here Free o h = omega arith
 flying_here Used o h = omega arith
 flying_here InFlight o h = let e = ap is_some (h refl) in subst (λ z. 1 ≤ cond z 1 0) (sym e) (omega arith)
 
-both_fly : (x y : BlockState) → (Some x ≡ Some InFlight → Some y ≡ Some InFlight) → cond (is_block_state_in_flight x) 1 0 ≤ cond (is_block_state_in_flight y) 1 0
+both_fly : (x y : BlockState) → (Some x ≡ Some InFlight → Some y ≡ Some InFlight) → cond (state_in_flight x) 1 0 ≤ cond (state_in_flight y) 1 0
 both_fly Free y h = omega arith
 both_fly Used y h = omega arith
-both_fly InFlight y h = let e = same_Some y InFlight (h refl) in subst (λ z. 1 ≤ cond (is_block_state_in_flight z) 1 0) (sym e) (omega arith)
+both_fly InFlight y h = let e = same_Some y InFlight (h refl) in subst (λ z. 1 ≤ cond (state_in_flight z) 1 0) (sym e) (omega arith)
 
 -- none more is in flight
-fewer_flying : (xs ys : BlockStateList) → ((b : ℕ) → IsBlockInFlight xs b → IsBlockInFlight ys b) → in_flight_block_count xs ≤ in_flight_block_count ys
+fewer_flying : (xs ys : BlockStates) → ((b : ℕ) → IsInFlight xs b → IsInFlight ys b) → in_flight_count xs ≤ in_flight_count ys
 fewer_flying [] ys h = omega arith
 fewer_flying (x ∷ xs) [] h =
     let k = fewer_flying xs [] (λ b f. h (suc b) f) in
@@ -130,25 +130,25 @@ fewer_flying (x ∷ xs) (y ∷ ys) h =
     omega arith
 
 -- the tree from before is one of both
-pub survives_before : (a c : KeptThread) (after : Tree) → SurvivesWithOldOrNewTree a c (tree_on_disk a.disk a.pairs) → SurvivesWithOldOrNewTree a c after
-survives_before a c after k clean = IsTrueAfterAnyPowerLossSince-weaker (λ left x. record { pairs = x.pairs; accepted = x.accepted; writable = x.writable; tree = go left x.pairs x.tree }) (k clean)
+pub survives_before : (a c : KeptThread) (after : Tree) → SurvivesEither a c (tree_on_disk a.disk a.pairs) → SurvivesEither a c after
+survives_before a c after k clean = HoldsAtLosses-weaker (λ left x. record { pairs = x.pairs; accepted = x.accepted; writable = x.writable; tree = go left x.pairs x.tree }) (k clean)
   where
-    go : (left : Blocks) (ps : List Pair) → (tree_on_disk (disk_with_blocks left a.disk) ps ≡ tree_on_disk a.disk a.pairs) ⊎ (tree_on_disk (disk_with_blocks left a.disk) ps ≡ tree_on_disk a.disk a.pairs)
-        → (tree_on_disk (disk_with_blocks left a.disk) ps ≡ tree_on_disk a.disk a.pairs) ⊎ (tree_on_disk (disk_with_blocks left a.disk) ps ≡ after)
+    go : (left : Blocks) (ps : List Pair) → (tree_on_disk (with_blocks left a.disk) ps ≡ tree_on_disk a.disk a.pairs) ⊎ (tree_on_disk (with_blocks left a.disk) ps ≡ tree_on_disk a.disk a.pairs)
+        → (tree_on_disk (with_blocks left a.disk) ps ≡ tree_on_disk a.disk a.pairs) ⊎ (tree_on_disk (with_blocks left a.disk) ps ≡ after)
     go left ps (inl e) = inl e
     go left ps (inr e) = inl e
 
-called_by : (a b : KeptThread) (op : Operation) → AppliesOperationOnThread a op b → HasFurtherDeviceCalls a b
+called_by : (a b : KeptThread) (op : Operation) → AppliesOperation a op b → HasFurtherCalls a b
 called_by a b op k = record { geometry = k.geometry; calls = k.calls; called = k.called }
 
-module _ (a b : KeptThread) (f : HasRecoveredFromPowerLoss a b) where
+module _ (a b : KeptThread) (f : HasRecovered a b) where
   pub tree_is : tree_on_disk b.disk b.pairs ≡ tree_on_disk a.disk a.pairs
-  tree_is = f.carries.shows (disk_summary_of_tree (tree_state_of_kept_thread a true false)) []
+  tree_is = f.carries.shows (tree_summary (kept_state a true false)) []
 
-  pub called_after : (c : KeptThread) → HasFurtherDeviceCalls b c → HasFurtherDeviceCalls a c
+  pub called_after : (c : KeptThread) → HasFurtherCalls b c → HasFurtherCalls a c
   called_after c k = called_then a b c (called_by a b ops.Recover f.carries) k
 
-  pub carried_after : (c : KeptThread) (op : Operation) → renames_to_itself op ≡ false → is_recover_operation op ≡ false → AppliesOperationOnThread b op c → AppliesOperationOnThread a op c
+  pub carried_after : (c : KeptThread) (op : Operation) → renames_itself op ≡ false → is_recover op ≡ false → AppliesOperation b op c → AppliesOperation a op c
   carried_after c op apart other k =
       let all = called_after c (called_by b c op k) in
       record {
@@ -161,113 +161,113 @@ module _ (a b : KeptThread) (f : HasRecoveredFromPowerLoss a b) where
         no_fault = k.no_fault ∙ f.carries.no_fault;
         fits = k.fits;
         recovered = k.recovered;
-        shows = λ around files. subst (λ t. tree_on_disk c.disk c.pairs ≡ (effect_of_operation around (record { tree = t; files = files }) op).1.tree) tree_is (k.shows around files);
+        shows = λ around files. subst (λ t. tree_on_disk c.disk c.pairs ≡ (operation_effect around (record { tree = t; files = files }) op).1.tree) tree_is (k.shows around files);
         arranged = λ files. arranged_through a b c (record { tree = tree_on_disk a.disk a.pairs; files = files }) op f.carries.geometry f.leads_on
-            (subst (λ t. IsSlotLayoutAfterRecoveryAndOperation b.disk b.pairs (record { tree = t; files = files }) op c.disk c.pairs) tree_is (k.arranged files));
+            (subst (λ t. IsLayoutRecovered b.disk b.pairs (record { tree = t; files = files }) op c.disk c.pairs) tree_is (k.arranged files));
         itself = λ e. absurd (cc (apart, e));
         nothing_left = λ e. absurd (cc (other, e));
-        flight = leaves_then (tree_state_of_kept_thread a true false) (tree_state_of_kept_thread b true false) (tree_state_of_kept_thread c true false) f.carries.flight k.flight;
-        keeps = λ path file away. let first = f.carries.keeps path file refl in keeps_then (kept_thread_of_tree_state (tree_state_of_kept_thread a true false)) (kept_thread_of_tree_state (tree_state_of_kept_thread b true false)) (kept_thread_of_tree_state (tree_state_of_kept_thread c true false)) path first (k.keeps path first.file away);
-        lists = λ none. subst (λ (z : KeptThread). gstate_of_pairs z.pairs ≡ zero_gstate → KeepsBytesOfSkipListsOfFiles z.disk z.pairs c.disk) (f.same none) k.lists none;
+        flight = leaves_then (kept_state a true false) (kept_state b true false) (kept_state c true false) f.carries.flight k.flight;
+        keeps = λ path file away. let first = f.carries.keeps path file refl in keeps_then (kept_thread (kept_state a true false)) (kept_thread (kept_state b true false)) (kept_thread (kept_state c true false)) path first (k.keeps path first.file away);
+        lists = λ none. subst (λ (z : KeptThread). pairs_gstate z.pairs ≡ zero_gstate → KeepsListBytes z.disk z.pairs c.disk) (f.same none) k.lists none;
       }
 
-  pub spares_after : (c : KeptThread) (op : Operation) → SparesBlocksOutsideOperation b op c → SparesBlocksOutsideOperation a op c
-  spares_after c op k none = subst (λ (z : KeptThread). SparesBlocksOutsideOperation z op c) (f.same none) k none
+  pub spares_after : (c : KeptThread) (op : Operation) → SparesOutsideOperation b op c → SparesOutsideOperation a op c
+  spares_after c op k none = subst (λ (z : KeptThread). SparesOutsideOperation z op c) (f.same none) k none
 
   -- ---- a stop
 
-  left_on : (blocks : Blocks) → disk_with_blocks blocks b.disk ≡ disk_with_blocks blocks a.disk
+  left_on : (blocks : Blocks) → with_blocks blocks b.disk ≡ with_blocks blocks a.disk
   left_on blocks = λ j. record { block_size = f.carries.geometry.block_size j; page = f.carries.geometry.page j; order = f.carries.geometry.order j; profile = f.carries.geometry.profile j; blocks = blocks }
 
-  pub survives_after : (c : KeptThread) (change : Tree → Tree) → HasFurtherDeviceCalls b c → SurvivesWithOldOrNewTree a b (tree_on_disk a.disk a.pairs) → SurvivesWithOldOrNewTree b c (change (tree_on_disk b.disk b.pairs)) → SurvivesWithOldOrNewTree a c (change (tree_on_disk a.disk a.pairs))
+  pub survives_after : (c : KeptThread) (change : Tree → Tree) → HasFurtherCalls b c → SurvivesEither a b (tree_on_disk a.disk a.pairs) → SurvivesEither b c (change (tree_on_disk b.disk b.pairs)) → SurvivesEither a c (change (tree_on_disk a.disk a.pairs))
   survives_after c change called first second =
       survives_then a.disk a.history b.history c.history (tree_on_disk a.disk a.pairs) (change (tree_on_disk a.disk a.pairs)) (some_since f.carries.calls a.history b.history f.carries.called) (some_since called.calls b.history c.history called.called)
       (survives_before a b (change (tree_on_disk a.disk a.pairs)) first)
-      (λ clean. IsTrueAfterAnyPowerLossSince-weaker (λ left x. subst (λ d. HasTreeBeforeOrAfterOperation d (tree_on_disk a.disk a.pairs) (change (tree_on_disk a.disk a.pairs))) (left_on left) (subst (λ t. HasTreeBeforeOrAfterOperation (disk_with_blocks left b.disk) t (change t)) tree_is x)) (second clean))
+      (λ clean. HoldsAtLosses-weaker (λ left x. subst (λ d. HasEither d (tree_on_disk a.disk a.pairs) (change (tree_on_disk a.disk a.pairs))) (left_on left) (subst (λ t. HasEither (with_blocks left b.disk) t (change t)) tree_is x)) (second clean))
 
   -- ---- what its checks have shown
 
-  charge_is : (name : Name) (attributes : Attributes) → is_entry_over_charge_limit (disk_summary_of_tree (tree_state_of_kept_thread b true false)) name attributes ≡ is_entry_over_charge_limit (disk_summary_of_tree (tree_state_of_kept_thread a true false)) name attributes
+  charge_is : (name : Name) (attributes : Attributes) → is_over_charge (tree_summary (kept_state b true false)) name attributes ≡ is_over_charge (tree_summary (kept_state a true false)) name attributes
   charge_is name attributes =
-      ap₂ (λ (size page : ℕ). nat_lt (charged_entry_size_limit_in_pair size page) (entry_charge_with_longest_inline_contents b.disk.profile size name attributes)) f.carries.geometry.block_size f.carries.geometry.page
-      ∙ ap (λ (profile : Profile). nat_lt (charged_entry_size_limit_in_pair a.disk.block_size a.disk.page) (entry_charge_with_longest_inline_contents profile a.disk.block_size name attributes)) f.carries.geometry.profile
+      ap₂ (λ (size page : ℕ). nat_lt (charge_limit size page) (entry_charge b.disk.profile size name attributes)) f.carries.geometry.block_size f.carries.geometry.page
+      ∙ ap (λ (profile : Profile). nat_lt (charge_limit a.disk.block_size a.disk.page) (entry_charge profile a.disk.block_size name attributes)) f.carries.geometry.profile
 
-  long_is : (path : Path) → has_too_long_last_name (disk_summary_of_tree (tree_state_of_kept_thread b true false)) path ≡ has_too_long_last_name (disk_summary_of_tree (tree_state_of_kept_thread a true false)) path
-  long_is path = ap (λ (profile : Profile). nat_lt (name_max_of profile) (length (last_name_of_path path))) f.carries.geometry.profile
+  long_is : (path : Path) → has_long_name (tree_summary (kept_state b true false)) path ≡ has_long_name (tree_summary (kept_state a true false)) path
+  long_is path = ap (λ (profile : Profile). nat_lt (name_max_of profile) (length (last_name path))) f.carries.geometry.profile
 
-  room_is : (need : ℕ) → HasFreeBlocksForNeed (tree_state_of_kept_thread a true false) need → HasFreeBlocksForNeed (tree_state_of_kept_thread b true false) need
+  room_is : (need : ℕ) → HasNeededBlocks (kept_state a true false) need → HasNeededBlocks (kept_state b true false) need
   room_is need room =
       let few = fewer_flying b.map a.map f.carries.flight.none_comes in
       let used = f.room in
-      let occurrence_count_of_number = f.carries.geometry.count in
+      let number_count = f.carries.geometry.count in
       omega (arith, room)
 
-  pub add_after : (path : Path) (need : ℕ) → CanAddEntryAtPath (tree_state_of_kept_thread a true false) path need → CanAddEntryAtPath (tree_state_of_kept_thread b true false) path need
+  pub add_after : (path : Path) (need : ℕ) → CanAddEntry (kept_state a true false) path need → CanAddEntry (kept_state b true false) path need
   add_after path need can = record {
     works = refl;
     writable = refl;
-    parents = subst (λ t. refusal_unless_parents_are_directories t [] path ≡ None) (sym tree_is) can.parents;
+    parents = subst (λ t. parents_refusal t [] path ≡ None) (sym tree_is) can.parents;
     name = long_is path ∙ can.name;
     nothing = subst (λ (t : Tree). is_some (t path) ≡ false) (sym tree_is) can.nothing;
-    fits = charge_is (last_name_of_path path) [] ∙ can.fits;
+    fits = charge_is (last_name path) [] ∙ can.fits;
     room = room_is need can.room;
   }
 
-  pub remove_after : (path : Path) → CanRemoveEntryAtPath (tree_state_of_kept_thread a true false) path → CanRemoveEntryAtPath (tree_state_of_kept_thread b true false) path
+  pub remove_after : (path : Path) → CanRemoveEntry (kept_state a true false) path → CanRemoveEntry (kept_state b true false) path
   remove_after path can = record {
     works = refl;
     writable = refl;
     entry = can.entry;
-    parents = subst (λ t. refusal_unless_parents_are_directories t [] path ≡ None) (sym tree_is) can.parents;
+    parents = subst (λ t. parents_refusal t [] path ≡ None) (sym tree_is) can.parents;
     something = subst (λ (t : Tree). is_none (t path) ≡ false) (sym tree_is) can.something;
-    empty = subst (λ (t : Tree). nat_lt 0 (length (names_of_directory_node (t path))) ≡ false) (sym tree_is) can.empty;
+    empty = subst (λ (t : Tree). nat_lt 0 (length (directory_names (t path))) ≡ false) (sym tree_is) can.empty;
   }
 
-  pub set_attr_after : (path : Path) (kind : ℕ) (bytes : List ℕ) → CanSetAttrAtPath (tree_state_of_kept_thread a true false) path kind bytes → CanSetAttrAtPath (tree_state_of_kept_thread b true false) path kind bytes
+  pub set_attr_after : (path : Path) (kind : ℕ) (bytes : List ℕ) → CanSetAttr (kept_state a true false) path kind bytes → CanSetAttr (kept_state b true false) path kind bytes
   set_attr_after path kind bytes can = record {
     works = refl;
     writable = refl;
     entry = can.entry;
-    parents = subst (λ t. refusal_unless_parents_are_directories t [] path ≡ None) (sym tree_is) can.parents;
+    parents = subst (λ t. parents_refusal t [] path ≡ None) (sym tree_is) can.parents;
     something = subst (λ (t : Tree). is_none (t path) ≡ false) (sym tree_is) can.something;
     len = can.len;
-    fits = subst (λ (t : Tree). is_entry_over_charge_limit (disk_summary_of_tree (tree_state_of_kept_thread b true false)) (last_name_of_path path) (attributes_with_attribute kind bytes (attributes_of_node (t path))) ≡ false) (sym tree_is)
-        (charge_is (last_name_of_path path) (attributes_with_attribute kind bytes (attributes_of_node (tree_on_disk a.disk a.pairs path))) ∙ can.fits);
+    fits = subst (λ (t : Tree). is_over_charge (tree_summary (kept_state b true false)) (last_name path) (attributes_with kind bytes (node_attributes_of (t path))) ≡ false) (sym tree_is)
+        (charge_is (last_name path) (attributes_with kind bytes (node_attributes_of (tree_on_disk a.disk a.pairs path))) ∙ can.fits);
     room = room_is 2 can.room;
   }
 
-  pub remove_attr_after : (path : Path) (kind : ℕ) → CanRemoveAttrAtPath (tree_state_of_kept_thread a true false) path kind → CanRemoveAttrAtPath (tree_state_of_kept_thread b true false) path kind
+  pub remove_attr_after : (path : Path) (kind : ℕ) → CanRemoveAttr (kept_state a true false) path kind → CanRemoveAttr (kept_state b true false) path kind
   remove_attr_after path kind can = record {
     works = refl;
     writable = refl;
     entry = can.entry;
-    parents = subst (λ t. refusal_unless_parents_are_directories t [] path ≡ None) (sym tree_is) can.parents;
+    parents = subst (λ t. parents_refusal t [] path ≡ None) (sym tree_is) can.parents;
     something = subst (λ (t : Tree). is_none (t path) ≡ false) (sym tree_is) can.something;
-    there = subst (λ (t : Tree). is_none (attribute_bytes_of_type kind (attributes_of_node (t path))) ≡ false) (sym tree_is) can.there;
+    there = subst (λ (t : Tree). is_none (attribute_bytes kind (node_attributes_of (t path))) ≡ false) (sym tree_is) can.there;
   }
 
-  pub rename_after : (from to : Path) → CanRenamePath (tree_state_of_kept_thread a true false) from to → CanRenamePath (tree_state_of_kept_thread b true false) from to
+  pub rename_after : (from to : Path) → CanRenamePath (kept_state a true false) from to → CanRenamePath (kept_state b true false) from to
   rename_after from to can = record {
     works = refl;
     writable = refl;
     entry = can.entry;
     target = can.target;
     apart = can.apart;
-    parents = subst (λ t. refusal_unless_parents_are_directories t [] from ≡ None) (sym tree_is) can.parents;
-    target_parents = subst (λ t. refusal_unless_parents_are_directories t [] to ≡ None) (sym tree_is) can.target_parents;
+    parents = subst (λ t. parents_refusal t [] from ≡ None) (sym tree_is) can.parents;
+    target_parents = subst (λ t. parents_refusal t [] to ≡ None) (sym tree_is) can.target_parents;
     name = long_is to ∙ can.name;
     something = subst (λ (t : Tree). is_none (t from) ≡ false) (sym tree_is) can.something;
     directory = subst (λ (t : Tree). (not (same_path from to) && is_directory (t from) && is_file (t to)) ≡ false) (sym tree_is) can.directory;
     file = subst (λ (t : Tree). (not (same_path from to) && is_file (t from) && is_directory (t to)) ≡ false) (sym tree_is) can.file;
-    empty = subst (λ (t : Tree). (not (same_path from to) && nat_lt 0 (length (names_of_directory_node (t to)))) ≡ false) (sym tree_is) can.empty;
-    fits = subst (λ (t : Tree). (not (same_path from to) && is_entry_over_charge_limit (disk_summary_of_tree (tree_state_of_kept_thread b true false)) (last_name_of_path to) (attributes_of_node (t from))) ≡ false) (sym tree_is)
-        (ap (λ x. not (same_path from to) && x) (charge_is (last_name_of_path to) (attributes_of_node (tree_on_disk a.disk a.pairs from))) ∙ can.fits);
+    empty = subst (λ (t : Tree). (not (same_path from to) && nat_lt 0 (length (directory_names (t to)))) ≡ false) (sym tree_is) can.empty;
+    fits = subst (λ (t : Tree). (not (same_path from to) && is_over_charge (tree_summary (kept_state b true false)) (last_name to) (node_attributes_of (t from))) ≡ false) (sym tree_is)
+        (ap (λ x. not (same_path from to) && x) (charge_is (last_name to) (node_attributes_of (tree_on_disk a.disk a.pairs from))) ∙ can.fits);
     room = room_is 2 can.room;
   }
 
   -- ---- what it tells
 
-  pub reported_after : (c : KeptThread) (e : Error) → ReportsIoWithFaultOrNoMemory b c e → ReportsIoWithFaultOrNoMemory a c e
+  pub reported_after : (c : KeptThread) (e : Error) → ReportsFaults b c e → ReportsFaults a c e
   reported_after c e reported = record {
     errors = reported.errors;
     fault = λ io. let k = reported.fault io in let same = f.carries.no_fault in omega (arith, k, same);

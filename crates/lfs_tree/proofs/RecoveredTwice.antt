@@ -2,38 +2,38 @@
 use Rattle.std.proofs.Common.{ℕ, ◌≡◌, ◌⊎◌, ◌∙◌, inl, inr, true, false, List, [], ◌∷◌, ◌++◌, length, take, Option, None, refl, sym, ap, subst, append-nil}
 use Rattle.std.specs.Prelude.{is_none, is_some}
 use Rattle.std.proofs.lemmas.List.Elements.{recursion_from_All}
-use Rattle.lfs_model.specs.Disk.{Disk}
-use Rattle.lfs_model.specs.Layout.{ArePairsKeptSplitOrDropped, IsContentFittingPairOnDisk, IsDirectoryUnreachedOrRemoved, IsSlotLayoutAfterOperation, directory_address_of_pair, directory_address_continued_by_hard_tail}
-use Rattle.lfs_model.specs.Operations as ops
-use Rattle.lfs_model.specs.Session.{Session}
-use Rattle.lfs_model.specs.Slots.{zero_gstate}
-use Rattle.lfs_model.specs.Thread.{Pair, pairs_from_root_directory_on, gstate_of_pairs, pair_count_before_root}
-use Rattle.lfs_model.specs.Profile.{AreNoEmptyPairsAfterHardTails, IsWritableImage}
-use Rattle.lfs_model.specs.View.{IsAcceptedImage}
-use Rattle.lfs_model.proofs.Alike.{ArePairsWithSameAddressesAndSlots, stood_alike}
+use Rattle.lfs_model.specs.format.Disk.{Disk}
+use Rattle.lfs_model.specs.session.Layout.{ArePairsAfter, FitsPair, IsDirectoryGone, IsLayout, directory_address, continued_address}
+use Rattle.lfs_model.specs.session.Operations as ops
+use Rattle.lfs_model.specs.session.Session.{Session}
+use Rattle.lfs_model.specs.format.Slots.{zero_gstate}
+use Rattle.lfs_model.specs.format.Thread.{Pair, pairs_from_root, pairs_gstate, pair_count_before_root}
+use Rattle.lfs_model.specs.tree.Profile.{HasNoEmpties, IsWritable}
+use Rattle.lfs_model.specs.tree.View.{IsAccepted}
+use Rattle.lfs_model.proofs.Alike.{SameSlots, stood_alike}
 use Rattle.lfs_model.proofs.Committed.{none_goes, nothing_moved, recovered_from}
 use Rattle.lfs_model.proofs.Counts.{Each, each_left, each_right}
 use Rattle.lfs_model.proofs.Found.{chain_of_thread}
 use Rattle.lfs_model.proofs.Layouts.{NoneGoes, first_or_some, joined_parts, onward_some}
 
 module _ (disk : Disk) (goes : ℕ × ℕ → Type 0) where
-  alike_dirs : (from : Option (ℕ × ℕ)) (ds : List Pair) (parts : List (List Pair)) → Each (IsContentFittingPairOnDisk disk) ds → AreNoEmptyPairsAfterHardTails (is_some from) ds → NoneGoes goes from ds → ArePairsKeptSplitOrDropped disk goes 0 from ds parts → ArePairsWithSameAddressesAndSlots ds (joined_parts parts)
+  alike_dirs : (from : Option (ℕ × ℕ)) (ds : List Pair) (parts : List (List Pair)) → Each (FitsPair disk) ds → HasNoEmpties (is_some from) ds → NoneGoes goes from ds → ArePairsAfter disk goes 0 from ds parts → SameSlots ds (joined_parts parts)
   alike_dirs from [] [] fits have none s = tt
   alike_dirs from [] (now ∷ parts) fits have none s = absurd s
   alike_dirs from (d ∷ ds) [] fits have none s = absurd s
   alike_dirs from (d ∷ ds) ([] ∷ parts) fits have none s = absurd (stays s.0)
     where
-      stays : goes (directory_address_of_pair from d) ⊎ ((is_none from ≡ false) × (d.content.slots ≡ [])) → ⊥
+      stays : goes (directory_address from d) ⊎ ((is_none from ≡ false) × (d.content.slots ≡ [])) → ⊥
       stays (inl g) = none.0 g
       stays (inr k) = first_or_some from d.content.slots have.0 k.0 k.1
   alike_dirs from (d ∷ ds) ((q ∷ []) ∷ parts) fits have none s =
-      (s.0.0, s.0.1, alike_dirs (directory_address_continued_by_hard_tail from d) ds parts fits.1 (subst (λ b. AreNoEmptyPairsAfterHardTails b ds) (sym (onward_some from d)) have.1) none.1 s.1)
+      (s.0.0, s.0.1, alike_dirs (continued_address from d) ds parts fits.1 (subst (λ b. HasNoEmpties b ds) (sym (onward_some from d)) have.1) none.1 s.1)
   alike_dirs from (d ∷ ds) ((q ∷ f ∷ []) ∷ parts) fits have none s = absurd (s.0.2 fits.0)
   alike_dirs from (d ∷ ds) ((q ∷ f ∷ g ∷ now) ∷ parts) fits have none s = absurd s.0
 
   -- behind the superblock's pairs
-  alike_chain : (chain ds : List Pair) (parts : List (List Pair)) → Each (IsContentFittingPairOnDisk disk) chain → ((rest : List (List Pair)) → ArePairsKeptSplitOrDropped disk goes 0 None ds rest → ArePairsWithSameAddressesAndSlots ds (joined_parts rest))
-      → ArePairsKeptSplitOrDropped disk goes (length chain) None (chain ++ ds) parts → ArePairsWithSameAddressesAndSlots (chain ++ ds) (joined_parts parts)
+  alike_chain : (chain ds : List Pair) (parts : List (List Pair)) → Each (FitsPair disk) chain → ((rest : List (List Pair)) → ArePairsAfter disk goes 0 None ds rest → SameSlots ds (joined_parts rest))
+      → ArePairsAfter disk goes (length chain) None (chain ++ ds) parts → SameSlots (chain ++ ds) (joined_parts parts)
   alike_chain [] ds parts fits behind s = behind parts s
   alike_chain (c ∷ chain) ds [] fits behind s = absurd s
   alike_chain (c ∷ chain) ds ([] ∷ parts) fits behind s = absurd (stays s.0)
@@ -45,36 +45,36 @@ module _ (disk : Disk) (goes : ℕ × ℕ → Type 0) where
   alike_chain (c ∷ chain) ds ((q ∷ f ∷ []) ∷ parts) fits behind s = absurd (s.0.2 fits.0)
   alike_chain (c ∷ chain) ds ((q ∷ f ∷ g ∷ now) ∷ parts) fits behind s = absurd s.0
 
-joined_is : (disk : Disk) (ps : List Pair) (s : Session) (new : Disk) (qs : List Pair) (h : IsSlotLayoutAfterOperation disk ps s ops.Recover new qs) → joined_parts h.parts ≡ qs
+joined_is : (disk : Disk) (ps : List Pair) (s : Session) (new : Disk) (qs : List Pair) (h : IsLayout disk ps s ops.Recover new qs) → joined_parts h.parts ≡ qs
 joined_is disk ps s new qs h = h.joined ∙ sym (h.is ∙ ap (λ z. h.front ++ (z ++ h.back)) h.edits.0)
 
-stays_alike : (disk : Disk) (ps : List Pair) (s : Session) (new : Disk) (qs : List Pair) → IsAcceptedImage disk ps → IsWritableImage disk ps → gstate_of_pairs ps ≡ zero_gstate → IsSlotLayoutAfterOperation disk ps s ops.Recover new qs → ArePairsWithSameAddressesAndSlots ps qs
+stays_alike : (disk : Disk) (ps : List Pair) (s : Session) (new : Disk) (qs : List Pair) → IsAccepted disk ps → IsWritable disk ps → pairs_gstate ps ≡ zero_gstate → IsLayout disk ps s ops.Recover new qs → SameSlots ps qs
 stays_alike disk ps s new qs ok fits e h =
     let are = (chain_of_thread ps).0 in
     let count : pair_count_before_root ps ≡ length chain = ap pair_count_before_root are ∙ (chain_of_thread ps).1 in
     let drafts : h.drafts ≡ chain ++ dirs = h.edits.1 ∙ nothing_moved ps e ∙ are in
-    let all = subst (Each (IsContentFittingPairOnDisk disk)) are (recursion_from_All (IsContentFittingPairOnDisk disk) ps fits.pairs) in
+    let all = subst (Each (FitsPair disk)) are (recursion_from_All (FitsPair disk) ps fits.pairs) in
     let none = none_goes ps ops.Recover refl (recovered_from disk ps ok e).reached in
-    let stand = subst (λ n. ArePairsKeptSplitOrDropped disk goes n None (chain ++ dirs) h.parts) count (subst (λ xs. ArePairsKeptSplitOrDropped disk goes (pair_count_before_root ps) None xs h.parts) drafts h.stand) in
-    subst (λ xs. ArePairsWithSameAddressesAndSlots xs qs) (sym are) (subst (ArePairsWithSameAddressesAndSlots (chain ++ dirs)) (joined_is disk ps s new qs h)
-    (alike_chain disk goes chain dirs h.parts (each_left (IsContentFittingPairOnDisk disk) chain dirs all)
-    (λ rest k. alike_dirs disk goes None dirs rest (each_right (IsContentFittingPairOnDisk disk) chain dirs all) fits.no_empty_pair none k) stand))
+    let stand = subst (λ n. ArePairsAfter disk goes n None (chain ++ dirs) h.parts) count (subst (λ xs. ArePairsAfter disk goes (pair_count_before_root ps) None xs h.parts) drafts h.stand) in
+    subst (λ xs. SameSlots xs qs) (sym are) (subst (SameSlots (chain ++ dirs)) (joined_is disk ps s new qs h)
+    (alike_chain disk goes chain dirs h.parts (each_left (FitsPair disk) chain dirs all)
+    (λ rest k. alike_dirs disk goes None dirs rest (each_right (FitsPair disk) chain dirs all) fits.no_empty_pair none k) stand))
   where
     chain : List Pair
     chain = take (pair_count_before_root ps) ps
 
     dirs : List Pair
-    dirs = pairs_from_root_directory_on ps
+    dirs = pairs_from_root ps
 
     goes : ℕ × ℕ → Type 0
-    goes = IsDirectoryUnreachedOrRemoved ps ops.Recover
+    goes = IsDirectoryGone ps ops.Recover
 
 -- so where slots stand behind a further recovery they stand behind the first one
-pub recovers_through : (disk : Disk) (ps : List Pair) (s : Session) (mid : Disk) (qs : List Pair) (r : Session) (new : Disk) (rs : List Pair) → IsSlotLayoutAfterOperation disk ps s ops.Recover mid qs → IsAcceptedImage mid qs → IsWritableImage mid qs
-    → gstate_of_pairs qs ≡ zero_gstate → IsSlotLayoutAfterOperation mid qs r ops.Recover new rs → IsSlotLayoutAfterOperation disk ps r ops.Recover new rs
+pub recovers_through : (disk : Disk) (ps : List Pair) (s : Session) (mid : Disk) (qs : List Pair) (r : Session) (new : Disk) (rs : List Pair) → IsLayout disk ps s ops.Recover mid qs → IsAccepted mid qs → IsWritable mid qs
+    → pairs_gstate qs ≡ zero_gstate → IsLayout mid qs r ops.Recover new rs → IsLayout disk ps r ops.Recover new rs
 recovers_through disk ps s mid qs r new rs h ok fits e k =
-    let alike = subst (λ z. ArePairsWithSameAddressesAndSlots z rs) (sym (joined_is disk ps s mid qs h)) (stays_alike mid qs r new rs ok fits e k) in
-    let stood = stood_alike disk (IsDirectoryUnreachedOrRemoved ps ops.Recover) (pair_count_before_root ps) None h.drafts h.parts rs h.stand alike in
+    let alike = subst (λ z. SameSlots z rs) (sym (joined_is disk ps s mid qs h)) (stays_alike mid qs r new rs ok fits e k) in
+    let stood = stood_alike disk (IsDirectoryGone ps ops.Recover) (pair_count_before_root ps) None h.drafts h.parts rs h.stand alike in
     record {
       drafts = h.drafts;
       parts = stood.parts;

@@ -3,34 +3,34 @@ use Rattle.std.proofs.Common.{ℕ, ◌≡◌, ◌≤◌, ◌+◌, ◌∙◌, ◌
 use Rattle.std.specs.Prelude.{IfOk, IfSome, sum_by}
 use Rattle.std.proofs.lemmas.List.Sums.{sum_by-append, sum_by-cons}
 use Rattle.lfs_device.specs.declared.error.Error.{Error}
-use Rattle.lfs_model.specs.Disk.{Disk}
-use Rattle.lfs_model.specs.Frame.{pair_count_of_directory_at, ancestor_paths_of_path}
-use Rattle.lfs_model.specs.History.{DeviceCallEvent, read_count_of_history}
-use Rattle.lfs_model.specs.Names.{Name}
-use Rattle.lfs_model.specs.SlotEdits.{slot_of_path}
-use Rattle.lfs_model.specs.Slots.{zero_gstate}
-use Rattle.lfs_model.specs.Thread.{Pair, gstate_of_pairs}
-use Rattle.lfs_model.specs.Tree.{Path}
-use Rattle.lfs_model.specs.View.{IsAcceptedImage}
-use Rattle.lfs_model.specs.Shown.{tree_on_disk}
+use Rattle.lfs_model.specs.format.Disk.{Disk}
+use Rattle.lfs_model.specs.crash.Frame.{pair_count_at, ancestor_paths}
+use Rattle.lfs_model.specs.session.History.{CallEvent, read_count}
+use Rattle.lfs_model.specs.format.Names.{Name}
+use Rattle.lfs_model.specs.session.SlotEdits.{slot_of}
+use Rattle.lfs_model.specs.format.Slots.{zero_gstate}
+use Rattle.lfs_model.specs.format.Thread.{Pair, pairs_gstate}
+use Rattle.lfs_model.specs.tree.Tree.{Path}
+use Rattle.lfs_model.specs.tree.View.{IsAccepted}
+use Rattle.lfs_model.specs.tree.Shown.{tree_on_disk}
 use Rattle.lfs_thread.specs.Kept.{KeptThread, ThreadView}
-use Rattle.lfs_thread.specs.Steps.{IsThreadOnlyRead}
-use Rattle.lfs_lookup.specs.AtPath.{IsLookupResultAtPathHidingMovedSlot}
-use Rattle.lfs_lookup.specs.Paths.{PathLeadsToFirstPair, IsUnmovedSlotOfPath, IsSlotOfNameBelowPath, PathLeadsToLookupResult, IsLookupResultWithSlotHidden}
+use Rattle.lfs_thread.specs.ThreadSteps.{OnlyReadsThread}
+use Rattle.lfs_lookup.specs.AtPath.{IsResult}
+use Rattle.lfs_lookup.specs.LookupPaths.{LeadsToPair, IsUnmoved, IsSlotBelow, LeadsToResult, IsHiddenResult}
 use Rattle.lfs_lookup.specs.declared.paths.PathLookup.{PathLookup}
 use Rattle.lfs_lookup.specs.declared.paths.PathLookup.TheVariants as found
 use Rattle.lfs_lookup.specs.declared.paths.VisiblePathLookup.{VisiblePathLookup}
 use Rattle.lfs_lookup.specs.declared.search.SlotPosition.{SlotPosition}
 use Rattle.lfs_lookup.proofs.Entered.{hiding_none}
-use Rattle.lfs_tree.specs.RenamePaths.{AreLookupResultsAtBothRenamePaths, directories_searched_for_rename, visible_lookup_without_insertion_spot_and_parent}
-use Rattle.lfs_tree.specs.TreeState.{TreeState, kept_thread_of_tree_state}
+use Rattle.lfs_tree.specs.RenameFindings.{AreRenameResults, rename_directories, visible_lookup}
+use Rattle.lfs_tree.specs.TreeState.{TreeState, kept_thread}
 use Rattle.lfs_tree.specs.declared.rename_paths.RenameFindings.{RenameFindings}
 use Rattle.lfs_tree.specs.declared.rename_paths.RenameTargets.{RenameTargets}
 use Rattle.lfs_tree.proofs.Carried.{read_is, with_history}
 
 -- ---- where the paths lead to, after reads
 
-leads_on : (t : KeptThread) (h : List DeviceCallEvent) (path : Path) (f : PathLookup) → PathLeadsToLookupResult t path f → PathLeadsToLookupResult (with_history t h) path f
+leads_on : (t : KeptThread) (h : List CallEvent) (path : Path) (f : PathLookup) → LeadsToResult t path f → LeadsToResult (with_history t h) path f
 leads_on t h path found.Root l = record { parents = l.parents; there = l.there }
 leads_on t h path found.ParentIsFile l = record { parents = l.parents; there = l.there }
 leads_on t h path found.ParentIsMissing l = record { parents = l.parents; there = l.there }
@@ -38,33 +38,33 @@ leads_on t h path (found.Nothing parent place) l = record { parents = l.parents;
 leads_on t h path (found.Directory parent slot first) l = record { parents = l.parents; there = l.there }
 leads_on t h path (found.File parent slot contents) l = record { parents = l.parents; there = l.there }
 
-pub leads_since : (a b : KeptThread) (path : Path) (f : PathLookup) → IsThreadOnlyRead a b → PathLeadsToLookupResult a path f → PathLeadsToLookupResult b path f
-leads_since a b path f only l = subst (λ z. PathLeadsToLookupResult z path f) (sym (read_is a b only)) (leads_on a b.history path f l)
+pub leads_since : (a b : KeptThread) (path : Path) (f : PathLookup) → OnlyReadsThread a b → LeadsToResult a path f → LeadsToResult b path f
+leads_since a b path f only l = subst (λ z. LeadsToResult z path f) (sym (read_is a b only)) (leads_on a b.history path f l)
 
-targets_since : (a b : KeptThread) (from to : Path) (r : RenameTargets) → IsThreadOnlyRead a b → AreLookupResultsAtBothRenamePaths a from to r → AreLookupResultsAtBothRenamePaths b from to r
+targets_since : (a b : KeptThread) (from to : Path) (r : RenameTargets) → OnlyReadsThread a b → AreRenameResults a from to r → AreRenameResults b from to r
 targets_since a b from to r only k = record {
-  settled = ap gstate_of_pairs only.pairs ∙ k.settled;
+  settled = ap pairs_gstate only.pairs ∙ k.settled;
   entry = leads_since a b from r.entry only k.entry;
   target = leads_since a b to r.target only k.target;
 }
 
 -- the tree stays
-pub same_tree : (a b : KeptThread) → IsThreadOnlyRead a b → tree_on_disk b.disk b.pairs ≡ tree_on_disk a.disk a.pairs
+pub same_tree : (a b : KeptThread) → OnlyReadsThread a b → tree_on_disk b.disk b.pairs ≡ tree_on_disk a.disk a.pairs
 same_tree a b only = ap (λ (d : Disk). tree_on_disk d b.pairs) only.disk ∙ ap (λ (ps : List Pair). tree_on_disk a.disk ps) only.pairs
 
 -- so do those of what was found, if they are known
-pub found_since : (a b : KeptThread) (from to : Path) (r : Result RenameFindings Error) → IsThreadOnlyRead a b → IfOk r (λ found. IfSome found.targets (AreLookupResultsAtBothRenamePaths a from to)) → IfOk r (λ found. IfSome found.targets (AreLookupResultsAtBothRenamePaths b from to))
+pub found_since : (a b : KeptThread) (from to : Path) (r : Result RenameFindings Error) → OnlyReadsThread a b → IfOk r (λ found. IfSome found.targets (AreRenameResults a from to)) → IfOk r (λ found. IfSome found.targets (AreRenameResults b from to))
 found_since a b from to (Err e) only k = tt
 found_since a b from to (Ok x) only k = go x.targets k
   where
-    go : (o : Option RenameTargets) → IfSome o (AreLookupResultsAtBothRenamePaths a from to) → IfSome o (AreLookupResultsAtBothRenamePaths b from to)
+    go : (o : Option RenameTargets) → IfSome o (AreRenameResults a from to) → IfSome o (AreRenameResults b from to)
     go None k = tt
     go (Some x) k = targets_since a b from to x only k
 
 -- a recovery before it did nothing
-pub known_behind : (old mid : TreeState) (t : ThreadView) (from to : Path) (o : Option RenameTargets) → (gstate_of_pairs old.pairs ≡ zero_gstate → mid ≡ old) → t.kept ≡ kept_thread_of_tree_state mid → IfSome o (AreLookupResultsAtBothRenamePaths (kept_thread_of_tree_state old) from to) → IfSome o (AreLookupResultsAtBothRenamePaths t.kept from to)
+pub known_behind : (old mid : TreeState) (t : ThreadView) (from to : Path) (o : Option RenameTargets) → (pairs_gstate old.pairs ≡ zero_gstate → mid ≡ old) → t.kept ≡ kept_thread mid → IfSome o (AreRenameResults (kept_thread old) from to) → IfSome o (AreRenameResults t.kept from to)
 known_behind old mid t from to None idle is k = tt
-known_behind old mid t from to (Some x) idle is k = subst (λ z. AreLookupResultsAtBothRenamePaths z from to x) (sym (is ∙ ap kept_thread_of_tree_state (idle k.settled))) k
+known_behind old mid t from to (Some x) idle is k = subst (λ z. AreRenameResults z from to x) (sym (is ∙ ap kept_thread (idle k.settled))) k
 
 -- ---- what is there
 
@@ -72,7 +72,7 @@ known_behind old mid t from to (Some x) idle is k = subst (λ z. AreLookupResult
 not_deleted : (id : ℕ) → ◌≡◌ {A = Option ℕ} None (Some id) → ⊥
 not_deleted id k = absurd (cc)
 
-abbrev spot_of_shown_entry : (ps : List Pair) (path above : Path) (name : Name) (parent : ℕ) (slot : SlotPosition) → path ≡ above ++ name ∷ [] → IsSlotOfNameBelowPath ps above name parent slot → IsUnmovedSlotOfPath ps None path slot
+abbrev spot_of_shown_entry : (ps : List Pair) (path above : Path) (name : Name) (parent : ℕ) (slot : SlotPosition) → path ≡ above ++ name ∷ [] → IsSlotBelow ps above name parent slot → IsUnmoved ps None path slot
 spot_of_shown_entry ps path above name parent slot e s = record {
   above = above;
   name = name;
@@ -81,34 +81,34 @@ spot_of_shown_entry ps path above name parent slot e s = record {
   on = s.on;
   stands = s.stands;
   kept = λ k. not_deleted slot.id k;
-  slot = ap (slot_of_path ps) e ∙ s.slot;
+  slot = ap (slot_of ps) e ∙ s.slot;
 }
 
-shows_to : (t : KeptThread) (path : Path) (f : PathLookup) → PathLeadsToLookupResult t path f → IsLookupResultWithSlotHidden t None path (visible_lookup_without_insertion_spot_and_parent f)
+shows_to : (t : KeptThread) (path : Path) (f : PathLookup) → LeadsToResult t path f → IsHiddenResult t None path (visible_lookup f)
 shows_to t path found.Root l = l.there
 shows_to t path found.ParentIsFile l = l.parents
 shows_to t path found.ParentIsMissing l = l.parents
-shows_to t path (found.Nothing parent place) l = (l.parents, ap (slot_of_path t.pairs) l.there.is ∙ l.there.there.nothing)
+shows_to t path (found.Nothing parent place) l = (l.parents, ap (slot_of t.pairs) l.there.is ∙ l.there.there.nothing)
 shows_to t path (found.Directory parent slot first) l =
-    (l.parents, (spot_of_shown_entry t.pairs path l.there.above l.there.name parent slot l.there.is l.there.there.0, subst (λ (p : Path). PathLeadsToFirstPair t.pairs p first) (sym l.there.is) l.there.there.1))
+    (l.parents, (spot_of_shown_entry t.pairs path l.there.above l.there.name parent slot l.there.is l.there.there.0, subst (λ (p : Path). LeadsToPair t.pairs p first) (sym l.there.is) l.there.there.1))
 shows_to t path (found.File parent slot contents) l = (l.parents, (spot_of_shown_entry t.pairs path l.there.above l.there.name parent slot l.there.is l.there.there.0, l.there.there.1))
 
-pub shows_found : (t : KeptThread) (path : Path) (f : PathLookup) (s : VisiblePathLookup) → IsAcceptedImage t.disk t.pairs → gstate_of_pairs t.pairs ≡ zero_gstate → PathLeadsToLookupResult t path f → s ≡ visible_lookup_without_insertion_spot_and_parent f → IsLookupResultAtPathHidingMovedSlot t path s
+pub shows_found : (t : KeptThread) (path : Path) (f : PathLookup) (s : VisiblePathLookup) → IsAccepted t.disk t.pairs → pairs_gstate t.pairs ≡ zero_gstate → LeadsToResult t path f → s ≡ visible_lookup f → IsResult t path s
 shows_found t path f s ok settled l is =
-    subst (λ z. IsLookupResultAtPathHidingMovedSlot t path z) (sym is) (record { moved = None; hides = (hiding_none t (record { accepted = ok; settled = settled })).hides; shows = shows_to t path f l })
+    subst (λ z. IsResult t path z) (sym is) (record { moved = None; hides = (hiding_none t (record { accepted = ok; settled = settled })).hides; shows = shows_to t path f l })
 
 -- ---- how many reads that takes
 
-pub sum_of_rename : (f : Path → ℕ) (from to : Path) → sum_by f (directories_searched_for_rename from to) ≡ sum_by f (ancestor_paths_of_path from) + (sum_by f (ancestor_paths_of_path from) + (sum_by f (ancestor_paths_of_path to) + f to))
+pub sum_of_rename : (f : Path → ℕ) (from to : Path) → sum_by f (rename_directories from to) ≡ sum_by f (ancestor_paths from) + (sum_by f (ancestor_paths from) + (sum_by f (ancestor_paths to) + f to))
 sum_of_rename f from to =
-    let a = sum_by-append f (ancestor_paths_of_path from) (ancestor_paths_of_path from ++ (ancestor_paths_of_path to ++ to ∷ [])) in
-    let b = sum_by-append f (ancestor_paths_of_path from) (ancestor_paths_of_path to ++ to ∷ []) in
-    let c = sum_by-append f (ancestor_paths_of_path to) (to ∷ []) in
+    let a = sum_by-append f (ancestor_paths from) (ancestor_paths from ++ (ancestor_paths to ++ to ∷ [])) in
+    let b = sum_by-append f (ancestor_paths from) (ancestor_paths to ++ to ∷ []) in
+    let c = sum_by-append f (ancestor_paths to) (to ∷ []) in
     let d = sum_by-cons f to [] in
     omega (arith, a, b, c, d)
 
-pub few_since : (a b : KeptThread) (paths : List Path) (n : ℕ) → IsThreadOnlyRead a b → n ≤ read_count_of_history b.history + sum_by (pair_count_of_directory_at b.pairs) paths → n ≤ read_count_of_history b.history + sum_by (pair_count_of_directory_at a.pairs) paths
-few_since a b paths n only h = subst (λ (ps : List Pair). n ≤ read_count_of_history b.history + sum_by (pair_count_of_directory_at ps) paths) only.pairs h
+pub few_since : (a b : KeptThread) (paths : List Path) (n : ℕ) → OnlyReadsThread a b → n ≤ read_count b.history + sum_by (pair_count_at b.pairs) paths → n ≤ read_count b.history + sum_by (pair_count_at a.pairs) paths
+few_since a b paths n only h = subst (λ (ps : List Pair). n ≤ read_count b.history + sum_by (pair_count_at ps) paths) only.pairs h
 
-pub own_since : (a b : KeptThread) (path : Path) (n : ℕ) → IsThreadOnlyRead a b → n ≤ read_count_of_history b.history + pair_count_of_directory_at b.pairs path → n ≤ read_count_of_history b.history + pair_count_of_directory_at a.pairs path
-own_since a b path n only h = subst (λ (ps : List Pair). n ≤ read_count_of_history b.history + pair_count_of_directory_at ps path) only.pairs h
+pub own_since : (a b : KeptThread) (path : Path) (n : ℕ) → OnlyReadsThread a b → n ≤ read_count b.history + pair_count_at b.pairs path → n ≤ read_count b.history + pair_count_at a.pairs path
+own_since a b path n only h = subst (λ (ps : List Pair). n ≤ read_count b.history + pair_count_at ps path) only.pairs h

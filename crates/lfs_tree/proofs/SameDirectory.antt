@@ -2,13 +2,13 @@
 use Rattle.std.proofs.Common.{ℕ, zero, suc, ◌≡◌, ◌+◌, ◌-◌, ◌<◌, ◌≤◌, ◌∙◌, true, false, List, [], ◌∷◌, ◌++◌, length, take, get_or, refl, sym, ap, subst, arith}
 use Rattle.std.proofs.lemmas.List.{get_or-append-add, get_or_append_left}
 use Rattle.std.proofs.lemmas.Option.{same_Some}
-use Rattle.lfs_model.specs.Disk.{Disk}
-use Rattle.lfs_model.specs.InDirectory.{IsPairAtAddress, IsPairOfDirectory, HasHardTail}
-use Rattle.lfs_model.specs.Slots.{same_pair}
-use Rattle.lfs_model.specs.Thread.{Pair, is_hard_tail, pair_count_before_root}
-use Rattle.lfs_model.specs.Tree.{Path}
-use Rattle.lfs_model.specs.View.{IsAcceptedImage}
-use Rattle.lfs_model.specs.Shown.{IsPathToDirectory}
+use Rattle.lfs_model.specs.format.Disk.{Disk}
+use Rattle.lfs_model.specs.session.InDirectory.{IsPairAt, IsPairOfDirectory, HasHardTail}
+use Rattle.lfs_model.specs.format.Slots.{same_pair}
+use Rattle.lfs_model.specs.format.Thread.{Pair, is_hard_tail, pair_count_before_root}
+use Rattle.lfs_model.specs.tree.Tree.{Path}
+use Rattle.lfs_model.specs.tree.View.{IsAccepted}
+use Rattle.lfs_model.specs.tree.Shown.{LeadsTo}
 use Rattle.lfs_model.proofs.Counts.{Each}
 use Rattle.lfs_model.proofs.Found.{chain_of_thread}
 use Rattle.lfs_model.proofs.Listings.{Ends}
@@ -66,7 +66,7 @@ behind_up : (ps : List Pair) (first index : ℕ) (pair : Pair) (rest : List Pair
 behind_up ps first index pair rest b = let k = b.begins in let n = b.number in omega (arith, k, n)
 
 -- two directories of which the pair is
-pub same_first : (disk : Disk) (ps : List Pair) (P Q : Path) (a b : ℕ × ℕ) (first other index : ℕ) (pair pair' : Pair) (rest rest' : List Pair) → IsAcceptedImage disk ps → IsPathToDirectory ps P a → IsPairAtAddress ps a first → IsPathToDirectory ps Q b → IsPairAtAddress ps b other
+pub same_first : (disk : Disk) (ps : List Pair) (P Q : Path) (a b : ℕ × ℕ) (first other index : ℕ) (pair pair' : Pair) (rest rest' : List Pair) → IsAccepted disk ps → LeadsTo ps P a → IsPairAt ps a first → LeadsTo ps Q b → IsPairAt ps b other
     → IsPairOfDirectory ps first index pair rest → IsPairOfDirectory ps other index pair' rest' → first ≡ other
 same_first disk ps P Q a b first other index pair pair' rest rest' ok leads begins leads' begins' h k =
     let d = begins_directory disk ps P a first ok leads begins in
@@ -83,8 +83,8 @@ same_first disk ps P Q a b first other index pair pair' rest rest' ok leads begi
     equal (suc m) (suc n) f g = ap suc (equal m n (λ l. f (omega (arith, l))) (λ l. g (omega (arith, l))))
 
 -- and so one path leads to it
-pub same_above : (disk : Disk) (ps : List Pair) (P Q : Path) (a b : ℕ × ℕ) (first other : ℕ) → IsAcceptedImage disk ps → IsPathToDirectory ps P a → IsPairAtAddress ps a first → IsPathToDirectory ps Q b → IsPairAtAddress ps b other → first ≡ other → P ≡ Q
+pub same_above : (disk : Disk) (ps : List Pair) (P Q : Path) (a b : ℕ × ℕ) (first other : ℕ) → IsAccepted disk ps → LeadsTo ps P a → IsPairAt ps a first → LeadsTo ps Q b → IsPairAt ps b other → first ≡ other → P ≡ Q
 same_above disk ps P Q a b first other ok leads begins leads' begins' e =
-    let k = subst (IsPairAtAddress ps b) (sym e) begins' in
+    let k = subst (IsPairAt ps b) (sym e) begins' in
     let same = same_Some begins.pair k.pair (sym begins.there ∙ k.there) in
     ok.once P Q a b leads leads' (pair_on a begins.pair.at b (pair_back begins.pair.at a begins.same) (ap (λ (p : Pair). same_pair p.at b) same ∙ k.same))

@@ -4,47 +4,47 @@ use Rattle.std.specs.Prelude.{All, Contains}
 use Rattle.std.proofs.lemmas.Bool.{cases_lt}
 use Rattle.std.proofs.lemmas.List.Elements.{All-contains, All-from_recursion}
 use Rattle.std.proofs.lemmas.Option.{same_Some}
-use Rattle.lfs_device.specs.Bytes.{AreAllBlockElementsBelow256}
-use Rattle.lfs_model.proofs.Sites.{IsTrueOfSomeElement, among_right}
-use Rattle.lfs_model.specs.Frame.{IsPairWithSlotOfPath}
-use Rattle.lfs_model.specs.TreeEdits.{tree_after_change_of_node, same_path}
-use Rattle.lfs_model.specs.BlockSets.{AreExactlyTheUsedBlocks, IsBlockFree, IsBlockInFlight, IsBlockMarkedUsedInMap}
-use Rattle.lfs_model.specs.BlockSets.BlockState.{Free, InFlight, Used}
-use Rattle.lfs_model.specs.Disk.{Disk, SameGeometry, block_bytes_on_disk, block_count}
-use Rattle.lfs_model.specs.History.{DeviceCallEvent, IsTrueAfterAnyPowerLossSince, AreCallsSinceOnlyReads}
-use Rattle.lfs_model.specs.Layout.{IsSlotLayoutAfterOperation}
-use Rattle.lfs_model.specs.Names.{Name}
-use Rattle.lfs_model.specs.Operations as ops
-use Rattle.lfs_model.specs.Keeping.{struct_of_path}
-use Rattle.lfs_model.specs.Session.{Session, FileWriter, Writing}
-use Rattle.lfs_model.specs.PowerLoss.{HasTreeBeforeOrAfterOperation, disk_with_blocks}
-use Rattle.lfs_model.specs.SlotEdits.{slot_of_path}
-use Rattle.lfs_model.specs.Slots.{Slot}
-use Rattle.lfs_model.specs.Effects.{node_with_bytes}
-use Rattle.lfs_model.specs.Stops.{AreBlocksLeftByPowerLossInCall}
-use Rattle.lfs_model.specs.Thread.{Pair, blocks_of_pairs, gstate_of_pairs, pair_count_before_root}
-use Rattle.lfs_model.specs.Tree.{Path}
-use Rattle.lfs_model.specs.View.{IsAcceptedImage}
-use Rattle.lfs_model.specs.Profile.{IsWritableImage}
-use Rattle.lfs_model.specs.Shown.{skip_list_blocks_of_struct, tree_on_disk, used_blocks}
+use Rattle.lfs_device.specs.Bytes.{HoldBytes}
+use Rattle.lfs_model.proofs.Sites.{HoldsOfSome, among_right}
+use Rattle.lfs_model.specs.crash.Frame.{HasPathSlot}
+use Rattle.lfs_model.specs.session.TreeEdits.{tree_with_change, same_path}
+use Rattle.lfs_model.specs.layers.BlockSets.{AreUsed, IsFree, IsInFlight, IsUsedBlock}
+use Rattle.lfs_model.specs.layers.BlockSets.BlockState.{Free, InFlight, Used}
+use Rattle.lfs_model.specs.format.Disk.{Disk, SameGeometry, disk_block, block_count}
+use Rattle.lfs_model.specs.session.History.{CallEvent, HoldsAtLosses, OnlyReadsSince}
+use Rattle.lfs_model.specs.session.Layout.{IsLayout}
+use Rattle.lfs_model.specs.format.Names.{Name}
+use Rattle.lfs_model.specs.session.Operations as ops
+use Rattle.lfs_model.specs.layers.Keeping.{struct_at}
+use Rattle.lfs_model.specs.session.Session.{Session, FileWriter, Writing}
+use Rattle.lfs_model.specs.crash.PowerLoss.{HasEither, with_blocks}
+use Rattle.lfs_model.specs.session.SlotEdits.{slot_of}
+use Rattle.lfs_model.specs.format.Slots.{Slot}
+use Rattle.lfs_model.specs.session.Effects.{file_with_bytes}
+use Rattle.lfs_model.specs.crash.Stops.{LeftByLoss}
+use Rattle.lfs_model.specs.format.Thread.{Pair, blocks_of_pairs, pairs_gstate, pair_count_before_root}
+use Rattle.lfs_model.specs.tree.Tree.{Path}
+use Rattle.lfs_model.specs.tree.View.{IsAccepted}
+use Rattle.lfs_model.specs.tree.Profile.{IsWritable}
+use Rattle.lfs_model.specs.tree.Shown.{struct_blocks, tree_on_disk, used_blocks}
 use Rattle.lfs_model.proofs.AfterStops.{survives_then}
-use Rattle.lfs_model.proofs.BlockSets.{Contains-occurrence_count_of_number, occurrence_count_of_number-Contains}
-use Rattle.lfs_model.proofs.Counts.{occurrence_count_of_number, count_append, each_from_counted, each_weaker, once_from_distinct}
-use Rattle.lfs_model.proofs.Files.{HasSameFileBlocksOfStructOnDisks, file_blocks_same, is_list_same}
-use Rattle.lfs_model.proofs.Histories.{IsTrueAfterAnyPowerLossSince-read_count_of_history, IsTrueAfterAnyPowerLossSince-trans, IsTrueAfterAnyPowerLossSince-weaker, IsTrueAfterAnyPowerLossSince-worst, AreBlocksLeftByPowerLossInCall-read}
-use Rattle.lfs_tree.specs.StructChanges.{IsStructOfContentsWithNewBlocksInFlight}
-use Rattle.lfs_tree.specs.SettledFiles.{CanMarkStoredListUsedAndOldFree, ChangesOnlyBlockMap, IsStoredListUsedAndOldListFree, blocks_of_list_on_thread}
+use Rattle.lfs_model.proofs.BlockSets.{Contains-number_count, number_count-Contains}
+use Rattle.lfs_model.proofs.Counts.{number_count, count_append, each_from_counted, each_weaker, once_from_distinct}
+use Rattle.lfs_model.proofs.Files.{SameFileBlocks, file_blocks_same, is_list_same}
+use Rattle.lfs_model.proofs.Histories.{HoldsAtLosses-read_count, HoldsAtLosses-trans, HoldsAtLosses-weaker, HoldsAtLosses-worst, LeftByLoss-read}
+use Rattle.lfs_tree.specs.StructChanges.{IsContentsStruct}
+use Rattle.lfs_tree.specs.SettledFiles.{CanSettleFile, ChangesOnlyMap, IsListSettled, thread_list_blocks}
 use Rattle.lfs_file.proofs.Settlement.{settled_exactly}
 use Rattle.lfs_operations.proofs.Held.{here}
-use Rattle.lfs_operations.specs.Changing.{WritesPairAndTwoFreeBlocks}
-use Rattle.lfs_operations.specs.Storing.{HasStoredContentsOfFile, tree_with_contents_at}
+use Rattle.lfs_operations.specs.Changing.{WritesPairTwo}
+use Rattle.lfs_operations.specs.Storing.{HasStoredContents, tree_with_contents}
 use Rattle.lfs_thread.specs.Kept.{KeptThread, ThreadView}
-use Rattle.lfs_thread.specs.Steps.{thread_pair_at_index, ThreadChangesOnlyTheseBlocks}
+use Rattle.lfs_thread.specs.ThreadSteps.{thread_pair_at, ChangesThreadBlocks}
 use Rattle.lfs_tree.proofs.CarryCreated.{ready_to}
 use Rattle.lfs_tree.proofs.LeftAlone.{contains_among, holds_slot}
-use Rattle.lfs_tree.specs.TreeChanges.{HasFurtherDeviceCalls, CanChangeRecoveredImage, SurvivesWithOldOrNewTree}
-use Rattle.lfs_tree.specs.OpenContents.{bytes_of_writer_contents}
-use Rattle.lfs_tree.specs.Stores.{CanCommitContentsAtPath, CanPutFinishedContentsInSlot, HasCommittedBytesOfFile, IsFileSlotAtPath, stored_skip_list_of_finished_contents, skip_list_in_struct, struct_of_finished_contents, ChangesOnlyPairOfPath}
+use Rattle.lfs_tree.specs.TreeChanges.{HasFurtherCalls, CanChangeRecovered, SurvivesEither}
+use Rattle.lfs_tree.specs.OpenContents.{writer_contents_bytes}
+use Rattle.lfs_tree.specs.Stores.{CanCommitContents, CanPutContents, HasCommittedBytes, IsPathFileSlot, finished_list, list_in_struct, finished_struct, ChangesPathPair}
 use Rattle.lfs_tree.specs.declared.contents_at.FileSlot.{FileSlot}
 use Rattle.lfs_lookup.proofs.AtPaths.{SizedLists}
 use Rattle.lfs_tree.proofs.Carried.{pair_blocks, with_history}
@@ -55,169 +55,169 @@ use Rattle.lfs_tree.proofs.CommitContents.{base_before, base_now, blocks_before_
 use Rattle.lfs_tree.proofs.OpenedFiles.{no_flight, not_free}
 use Rattle.lfs_file.specs.declared.contents.WriterContents.{WriterContents}
 
-not_there : (b : ℕ) (bs : List ℕ) → occurrence_count_of_number b bs ≤ 0 → All (λ x. x ≢ b) bs
+not_there : (b : ℕ) (bs : List ℕ) → number_count b bs ≤ 0 → All (λ x. x ≢ b) bs
 not_there b bs none = All-from_recursion (λ x. x ≢ b) bs (none_there b bs none)
 
 -- ---- the slot gets them
 
-module _ (t : KeptThread) (path : Path) (u : Slot) (ok : IsAcceptedImage t.disk t.pairs) (used : AreExactlyTheUsedBlocks t.map (used_blocks t.disk t.pairs)) (at : slot_of_path t.pairs path ≡ Some u) (sized : SizedLists t.disk)
-    (c : WriterContents) (can : CanCommitContentsAtPath t path c) (pair : ℕ) (below : pair < length t.pairs) (new : KeptThread) (w : WritesPairAndTwoFreeBlocks t pair new) (above : Path) (name : Name) (come : IsStructOfContentsWithNewBlocksInFlight t (bytes_of_writer_contents t c) u.struct (struct_of_finished_contents c))
-    (is : HasStoredContentsOfFile t new above name (bytes_of_writer_contents t c) come.gone come.come) where
+module _ (t : KeptThread) (path : Path) (u : Slot) (ok : IsAccepted t.disk t.pairs) (used : AreUsed t.map (used_blocks t.disk t.pairs)) (at : slot_of t.pairs path ≡ Some u) (sized : SizedLists t.disk)
+    (c : WriterContents) (can : CanCommitContents t path c) (pair : ℕ) (below : pair < length t.pairs) (new : KeptThread) (w : WritesPairTwo t pair new) (above : Path) (name : Name) (come : IsContentsStruct t (writer_contents_bytes t c) u.struct (finished_struct c))
+    (is : HasStoredContents t new above name (writer_contents_bytes t c) come.gone come.come) where
   -- a block that isn't free and no pair's isn't written
-  untouched : (b : ℕ) → (IsBlockFree t.map b → ⊥) → occurrence_count_of_number b (blocks_of_pairs t.pairs) ≡ 0 → block_bytes_on_disk new.disk b ≡ block_bytes_on_disk t.disk b
+  untouched : (b : ℕ) → (IsFree t.map b → ⊥) → number_count b (blocks_of_pairs t.pairs) ≡ 0 → disk_block new.disk b ≡ disk_block t.disk b
   untouched b taken none =
       let k = pair_blocks t.pairs pair below in
-      let off : (x : ℕ) → Contains (blocks_of_pairs t.pairs) x → x ≢ b = λ x has e. (let some = occurrence_count_of_number-Contains (blocks_of_pairs t.pairs) x has in let z = ap (λ y. occurrence_count_of_number y (blocks_of_pairs t.pairs)) e in absurd (omega arith)) in
+      let off : (x : ℕ) → Contains (blocks_of_pairs t.pairs) x → x ≢ b = λ x has e. (let some = number_count-Contains (blocks_of_pairs t.pairs) x has in let z = ap (λ y. number_count y (blocks_of_pairs t.pairs)) e in absurd (omega arith)) in
       w.writes.others.others b
-      (All-from_recursion (λ x. x ≢ b) ((thread_pair_at_index t pair).at.0 ∷ (thread_pair_at_index t pair).at.1 ∷ w.fresh)
-      (off (thread_pair_at_index t pair).at.0 k.0, (off (thread_pair_at_index t pair).at.1 k.1, each_weaker (IsBlockFree t.map) (λ x. x ≢ b) (λ x f e. taken (subst (IsBlockFree t.map) e f)) w.fresh w.free)))
+      (All-from_recursion (λ x. x ≢ b) ((thread_pair_at t pair).at.0 ∷ (thread_pair_at t pair).at.1 ∷ w.fresh)
+      (off (thread_pair_at t pair).at.0 k.0, (off (thread_pair_at t pair).at.1 k.1, each_weaker (IsFree t.map) (λ x. x ≢ b) (λ x f e. taken (subst (IsFree t.map) e f)) w.fresh w.free)))
 
   geometry : SameGeometry t.disk new.disk
   geometry = record { block_size = w.writes.shape.block_size; page = w.writes.shape.page; order = w.writes.shape.order; profile = w.writes.shape.profile; count = w.writes.shape.count }
 
-  was_taken : (b : ℕ) → 1 ≤ occurrence_count_of_number b (skip_list_blocks_of_struct t.disk u.struct) → IsBlockFree t.map b → ⊥
+  was_taken : (b : ℕ) → 1 ≤ number_count b (struct_blocks t.disk u.struct) → IsFree t.map b → ⊥
   was_taken b some = not_free t.map b (list_used t path u ok used at sized b some)
 
-  now_taken : (b : ℕ) → 1 ≤ occurrence_count_of_number b (skip_list_blocks_of_struct t.disk (struct_of_finished_contents c)) → IsBlockFree t.map b → ⊥
+  now_taken : (b : ℕ) → 1 ≤ number_count b (struct_blocks t.disk (finished_struct c)) → IsFree t.map b → ⊥
   now_taken b some = coming_taken t path u ok used at sized c can.over can.finished b some
 
-  was_same : HasSameFileBlocksOfStructOnDisks t.disk new.disk u.struct
-  was_same = each_from_counted (λ b. block_bytes_on_disk new.disk b ≡ block_bytes_on_disk t.disk b) (skip_list_blocks_of_struct t.disk u.struct) (λ b some. untouched b (was_taken b some) (list_apart t path u ok used at sized b some))
+  was_same : SameFileBlocks t.disk new.disk u.struct
+  was_same = each_from_counted (λ b. disk_block new.disk b ≡ disk_block t.disk b) (struct_blocks t.disk u.struct) (λ b some. untouched b (was_taken b some) (list_apart t path u ok used at sized b some))
 
-  now_same : HasSameFileBlocksOfStructOnDisks t.disk new.disk (struct_of_finished_contents c)
-  now_same = each_from_counted (λ b. block_bytes_on_disk new.disk b ≡ block_bytes_on_disk t.disk b) (skip_list_blocks_of_struct t.disk (struct_of_finished_contents c))
+  now_same : SameFileBlocks t.disk new.disk (finished_struct c)
+  now_same = each_from_counted (λ b. disk_block new.disk b ≡ disk_block t.disk b) (struct_blocks t.disk (finished_struct c))
       (λ b some. untouched b (now_taken b some) (coming_apart t path u ok used at sized c can.over can.finished b some))
 
-  before_is : blocks_of_list_on_thread new (skip_list_in_struct u.struct) ≡ skip_list_blocks_of_struct t.disk u.struct
+  before_is : thread_list_blocks new (list_in_struct u.struct) ≡ struct_blocks t.disk u.struct
   before_is = blocks_before_is new u.struct ∙ file_blocks_same t.disk new.disk u.struct geometry was_same
 
-  now_is : blocks_of_list_on_thread new (stored_skip_list_of_finished_contents c) ≡ skip_list_blocks_of_struct t.disk (struct_of_finished_contents c)
-  now_is = blocks_now_is new c ∙ file_blocks_same t.disk new.disk (struct_of_finished_contents c) geometry now_same
+  now_is : thread_list_blocks new (finished_list c) ≡ struct_blocks t.disk (finished_struct c)
+  now_is = blocks_now_is new c ∙ file_blocks_same t.disk new.disk (finished_struct c) geometry now_same
 
   -- no block of the pairs is in either list
-  lists_apart : (b : ℕ) → Contains (blocks_of_pairs new.pairs) b → ¬ (Contains (blocks_of_list_on_thread new (skip_list_in_struct u.struct) ++ blocks_of_list_on_thread new (stored_skip_list_of_finished_contents c)) b)
+  lists_apart : (b : ℕ) → Contains (blocks_of_pairs new.pairs) b → ¬ (Contains (thread_list_blocks new (list_in_struct u.struct) ++ thread_list_blocks new (finished_list c)) b)
   lists_apart b has both =
-      let some = occurrence_count_of_number-Contains (blocks_of_list_on_thread new (skip_list_in_struct u.struct) ++ blocks_of_list_on_thread new (stored_skip_list_of_finished_contents c)) b both in
-      let e = count_append b (blocks_of_list_on_thread new (skip_list_in_struct u.struct)) (blocks_of_list_on_thread new (stored_skip_list_of_finished_contents c)) in
-      let f = ap (occurrence_count_of_number b) before_is in
-      let g = ap (occurrence_count_of_number b) now_is in
+      let some = number_count-Contains (thread_list_blocks new (list_in_struct u.struct) ++ thread_list_blocks new (finished_list c)) b both in
+      let e = count_append b (thread_list_blocks new (list_in_struct u.struct)) (thread_list_blocks new (finished_list c)) in
+      let f = ap (number_count b) before_is in
+      let g = ap (number_count b) now_is in
       ⊎_elim
-      (λ k. ⊎_elim (λ was. absurd (let n = list_apart t path u ok used at sized b k in let m = occurrence_count_of_number-Contains (blocks_of_pairs t.pairs) b was in omega arith))
+      (λ k. ⊎_elim (λ was. absurd (let n = list_apart t path u ok used at sized b k in let m = number_count-Contains (blocks_of_pairs t.pairs) b was in omega arith))
       (λ free. absurd (was_taken b k free)) (is.places b has))
-      (λ none. let k : 1 ≤ occurrence_count_of_number b (skip_list_blocks_of_struct t.disk (struct_of_finished_contents c)) = omega arith in
-      ⊎_elim (λ was. absurd (let n = coming_apart t path u ok used at sized c can.over can.finished b k in let m = occurrence_count_of_number-Contains (blocks_of_pairs t.pairs) b was in omega arith))
+      (λ none. let k : 1 ≤ number_count b (struct_blocks t.disk (finished_struct c)) = omega arith in
+      ⊎_elim (λ was. absurd (let n = coming_apart t path u ok used at sized c can.over can.finished b k in let m = number_count-Contains (blocks_of_pairs t.pairs) b was in omega arith))
       (λ free. absurd (now_taken b k free)) (is.places b has))
-      (cases_lt 0 (occurrence_count_of_number b (skip_list_blocks_of_struct t.disk u.struct)))
+      (cases_lt 0 (number_count b (struct_blocks t.disk u.struct)))
 
-  pub can_settle : CanMarkStoredListUsedAndOldFree new (skip_list_in_struct u.struct) (stored_skip_list_of_finished_contents c)
+  pub can_settle : CanSettleFile new (list_in_struct u.struct) (finished_list c)
   can_settle = record {
     was = base_before new.disk u.struct (is_list_same t.disk new.disk u.struct geometry was_same (list_there t path u ok used at sized));
-    list = base_now new.disk c (is_list_same t.disk new.disk (struct_of_finished_contents c) geometry now_same come.list);
+    list = base_now new.disk c (is_list_same t.disk new.disk (finished_struct c) geometry now_same come.list);
     size = is.now.ready.size;
     apart = lists_apart;
     shared = record {
       used = λ b has _.
-          let some = occurrence_count_of_number-Contains (blocks_of_list_on_thread new (skip_list_in_struct u.struct)) b has in
-          let f = ap (occurrence_count_of_number b) before_is in
-          let was : 1 ≤ occurrence_count_of_number b (skip_list_blocks_of_struct t.disk u.struct) = omega arith in
+          let some = number_count-Contains (thread_list_blocks new (list_in_struct u.struct)) b has in
+          let f = ap (number_count b) before_is in
+          let was : 1 ≤ number_count b (struct_blocks t.disk u.struct) = omega arith in
           is.now.stays b (was_taken b was) ∙ list_used t path u ok used at sized b was;
     };
   }
 
   -- ---- the lists are settled
 
-  lists_are : (b : ℕ) → occurrence_count_of_number b (blocks_of_list_on_thread new (stored_skip_list_of_finished_contents c)) + occurrence_count_of_number b come.gone ≡ occurrence_count_of_number b come.come + occurrence_count_of_number b (blocks_of_list_on_thread new (skip_list_in_struct u.struct))
-  lists_are b = let e = come.blocks b in let f = ap (occurrence_count_of_number b) before_is in let g = ap (occurrence_count_of_number b) now_is in omega arith
+  lists_are : (b : ℕ) → number_count b (thread_list_blocks new (finished_list c)) + number_count b come.gone ≡ number_count b come.come + number_count b (thread_list_blocks new (list_in_struct u.struct))
+  lists_are b = let e = come.blocks b in let f = ap (number_count b) before_is in let g = ap (number_count b) now_is in omega arith
 
   -- the image names the list that came
-  list_within : (b : ℕ) → Contains (blocks_of_list_on_thread new (stored_skip_list_of_finished_contents c)) b → Contains (used_blocks new.disk new.pairs) b
+  list_within : (b : ℕ) → Contains (thread_list_blocks new (finished_list c)) b → Contains (used_blocks new.disk new.pairs) b
   list_within b has =
-      let some = occurrence_count_of_number-Contains (blocks_of_list_on_thread new (stored_skip_list_of_finished_contents c)) b has in
+      let some = number_count-Contains (thread_list_blocks new (finished_list c)) b has in
       let s = is.now.ready.used.same b in
       let l = lists_are b in
-      let f = ap (occurrence_count_of_number b) before_is in
-      Contains-occurrence_count_of_number (used_blocks new.disk new.pairs) b (⊎_elim
+      let f = ap (number_count b) before_is in
+      Contains-number_count (used_blocks new.disk new.pairs) b (⊎_elim
       (λ was.
-      let own = occurrence_count_of_number-Contains is.now.ready.used.owned b ((is.now.ready.used.are b).0 (is.now.stays b (was_taken b was) ∙ list_used t path u ok used at sized b was)) in
+      let own = number_count-Contains is.now.ready.used.owned b ((is.now.ready.used.are b).0 (is.now.stays b (was_taken b was) ∙ list_used t path u ok used at sized b was)) in
       let o = is.once b in
-      let once = once_from_distinct (skip_list_blocks_of_struct t.disk u.struct) (distinct_list t.disk u.struct (list_there t path u ok used at sized)) b in
+      let once = once_from_distinct (struct_blocks t.disk u.struct) (distinct_list t.disk u.struct (list_there t path u ok used at sized)) b in
       omega arith)
       (λ none. omega arith)
-      (cases_lt 0 (occurrence_count_of_number b (skip_list_blocks_of_struct t.disk u.struct))))
+      (cases_lt 0 (number_count b (struct_blocks t.disk u.struct))))
 
-  module _ (later : KeptThread) (only : ChangesOnlyBlockMap new later) (settled : IsStoredListUsedAndOldListFree new (skip_list_in_struct u.struct) (stored_skip_list_of_finished_contents c) later) where
+  module _ (later : KeptThread) (only : ChangesOnlyMap new later) (settled : IsListSettled new (list_in_struct u.struct) (finished_list c) later) where
     on : (P : Disk → List Pair → Type 0) → P new.disk new.pairs → P later.disk later.pairs
     on P p = subst (λ (d : Disk). P d later.pairs) (sym only.disk) (subst (P new.disk) (sym only.pairs) p)
 
-    used_later : AreExactlyTheUsedBlocks later.map (used_blocks new.disk new.pairs)
-    used_later = settled_exactly new.map later.map is.now.ready.used.owned (used_blocks new.disk new.pairs) (blocks_of_list_on_thread new (skip_list_in_struct u.struct)) (blocks_of_list_on_thread new (stored_skip_list_of_finished_contents c)) come.gone come.come
+    used_later : AreUsed later.map (used_blocks new.disk new.pairs)
+    used_later = settled_exactly new.map later.map is.now.ready.used.owned (used_blocks new.disk new.pairs) (thread_list_blocks new (list_in_struct u.struct)) (thread_list_blocks new (finished_list c)) come.gone come.come
         is.now.ready.used.are (λ b. let s = is.now.ready.used.same b in let o = is.once b in omega arith) is.now.ready.used.same lists_are list_within settled
 
-    none_later : (b : ℕ) → ¬ (IsBlockInFlight later.map b)
+    none_later : (b : ℕ) → ¬ (IsInFlight later.map b)
     none_later b flies = ⊎_elim
-        (λ some. absurd (let k : Used ≡ InFlight = same_Some Used InFlight (sym (All-contains (IsBlockMarkedUsedInMap later.map) (blocks_of_list_on_thread new (stored_skip_list_of_finished_contents c)) b settled.used (Contains-occurrence_count_of_number (blocks_of_list_on_thread new (stored_skip_list_of_finished_contents c)) b some)) ∙ flies) in cc))
+        (λ some. absurd (let k : Used ≡ InFlight = same_Some Used InFlight (sym (All-contains (IsUsedBlock later.map) (thread_list_blocks new (finished_list c)) b settled.used (Contains-number_count (thread_list_blocks new (finished_list c)) b some)) ∙ flies) in cc))
         (λ none. ⊎_elim
-        (λ was. absurd (let k : Free ≡ InFlight = same_Some Free InFlight (sym (settled.freed b (Contains-occurrence_count_of_number (blocks_of_list_on_thread new (skip_list_in_struct u.struct)) b was) (not_there b (blocks_of_list_on_thread new (stored_skip_list_of_finished_contents c)) none)) ∙ flies) in cc))
+        (λ was. absurd (let k : Free ≡ InFlight = same_Some Free InFlight (sym (settled.freed b (Contains-number_count (thread_list_blocks new (list_in_struct u.struct)) b was) (not_there b (thread_list_blocks new (finished_list c)) none)) ∙ flies) in cc))
         (λ never.
-        let there = is.now.none_comes b (sym (settled.others b (not_there b (blocks_of_list_on_thread new (skip_list_in_struct u.struct)) never) (not_there b (blocks_of_list_on_thread new (stored_skip_list_of_finished_contents c)) none)) ∙ flies) in
-        let some = occurrence_count_of_number-Contains (skip_list_blocks_of_struct t.disk (struct_of_finished_contents c)) b (flying_in t path u ok used at sized c can.over can.finished b there) in
-        let g = ap (occurrence_count_of_number b) now_is in
+        let there = is.now.none_comes b (sym (settled.others b (not_there b (thread_list_blocks new (list_in_struct u.struct)) never) (not_there b (thread_list_blocks new (finished_list c)) none)) ∙ flies) in
+        let some = number_count-Contains (struct_blocks t.disk (finished_struct c)) b (flying_in t path u ok used at sized c can.over can.finished b there) in
+        let g = ap (number_count b) now_is in
         absurd (omega arith))
-        (cases_lt 0 (occurrence_count_of_number b (blocks_of_list_on_thread new (skip_list_in_struct u.struct)))))
-        (cases_lt 0 (occurrence_count_of_number b (blocks_of_list_on_thread new (stored_skip_list_of_finished_contents c))))
+        (cases_lt 0 (number_count b (thread_list_blocks new (list_in_struct u.struct)))))
+        (cases_lt 0 (number_count b (thread_list_blocks new (finished_list c))))
 
-    pub committed : path ≡ above ++ name ∷ [] → ChangesOnlyPairOfPath t.disk t.pairs path new.disk → HasCommittedBytesOfFile t path (bytes_of_writer_contents t c) later
+    pub committed : path ≡ above ++ name ∷ [] → ChangesPathPair t.disk t.pairs path new.disk → HasCommittedBytes t path (writer_contents_bytes t c) later
     committed e alone = record {
       sound = record {
-        accepted = on (λ d ps. IsAcceptedImage d ps) is.now.ready.accepted;
-        fits = λ w. on (λ d ps. IsWritableImage d ps) is.now.ready.writable;
+        accepted = on (λ d ps. IsAccepted d ps) is.now.ready.accepted;
+        fits = λ w. on (λ d ps. IsWritable d ps) is.now.ready.writable;
         is_kept = λ w. refl;
-        used = on (λ d ps. AreExactlyTheUsedBlocks later.map (used_blocks d ps)) used_later;
+        used = on (λ d ps. AreUsed later.map (used_blocks d ps)) used_later;
         size = settled.count ∙ is.now.ready.size ∙ sym (ap (λ (d : Disk). block_count d) only.disk);
       };
-      fits = on (λ d ps. IsWritableImage d ps) is.now.ready.writable;
-      settled = ap gstate_of_pairs only.pairs ∙ is.now.ready.settled;
+      fits = on (λ d ps. IsWritable d ps) is.now.ready.writable;
+      settled = ap pairs_gstate only.pairs ∙ is.now.ready.settled;
       root = ap pair_count_before_root only.pairs ∙ is.now.root;
-      shows = on (λ d ps. tree_on_disk d ps ≡ tree_after_change_of_node path (node_with_bytes (bytes_of_writer_contents t c)) (tree_on_disk t.disk t.pairs)) (is.now.shows ∙ ap (λ p. tree_after_change_of_node p (node_with_bytes (bytes_of_writer_contents t c)) (tree_on_disk t.disk t.pairs)) (sym e));
-      synced = λ files fd writer wr. on (λ d ps. IsSlotLayoutAfterOperation t.disk t.pairs (record { tree = tree_on_disk t.disk t.pairs; files = files }) (ops.Sync fd) d ps)
+      shows = on (λ d ps. tree_on_disk d ps ≡ tree_with_change path (file_with_bytes (writer_contents_bytes t c)) (tree_on_disk t.disk t.pairs)) (is.now.shows ∙ ap (λ p. tree_with_change p (file_with_bytes (writer_contents_bytes t c)) (tree_on_disk t.disk t.pairs)) (sym e));
+      synced = λ files fd writer wr. on (λ d ps. IsLayout t.disk t.pairs (record { tree = tree_on_disk t.disk t.pairs; files = files }) (ops.Sync fd) d ps)
           (is.synced (record { tree = tree_on_disk t.disk t.pairs; files = files }) fd writer refl (wr.0, (wr.1.0, (wr.1.1.0 ∙ e, wr.1.1.1)))).laid_out;
-      closed = λ files fd writer wr. on (λ d ps. IsSlotLayoutAfterOperation t.disk t.pairs (record { tree = tree_on_disk t.disk t.pairs; files = files }) (ops.Close fd) d ps)
+      closed = λ files fd writer wr. on (λ d ps. IsLayout t.disk t.pairs (record { tree = tree_on_disk t.disk t.pairs; files = files }) (ops.Close fd) d ps)
           (is.closed (record { tree = tree_on_disk t.disk t.pairs; files = files }) fd writer refl (wr.0, (wr.1.0, (wr.1.1.0 ∙ e, wr.1.1.1)))).laid_out;
       others = λ q file apart.
-          let writer : FileWriter = record { path = above ++ name ∷ []; contents = bytes_of_writer_contents t c; position = 0; append = false; dirty = true; turned = false; last_end = None } in
+          let writer : FileWriter = record { path = above ++ name ∷ []; contents = writer_contents_bytes t c; position = 0; append = false; dirty = true; turned = false; last_end = None } in
           let s : Session = record { tree = tree_on_disk t.disk t.pairs; files = Some (Writing writer) ∷ [] } in
-          ap (λ (ps : List Pair). struct_of_path ps q) only.pairs ∙ (is.synced s 0 writer refl (refl, (refl, (refl, refl)))).structs q file refl (subst (λ p. same_path p q ≡ false) e apart);
-      alone = subst (λ (d : Disk). ChangesOnlyPairOfPath t.disk t.pairs path d) (sym only.disk) alone;
+          ap (λ (ps : List Pair). struct_at ps q) only.pairs ∙ (is.synced s 0 writer refl (refl, (refl, (refl, refl)))).structs q file refl (subst (λ p. same_path p q ≡ false) e apart);
+      alone = subst (λ (d : Disk). ChangesPathPair t.disk t.pairs path d) (sym only.disk) alone;
       none_in_flight = no_flight later.map none_later;
     }
 
-pub committed_read : (t : KeptThread) (h : List DeviceCallEvent) (path : Path) (bytes : List ℕ) (later : KeptThread) → HasCommittedBytesOfFile (with_history t h) path bytes later → HasCommittedBytesOfFile t path bytes later
+pub committed_read : (t : KeptThread) (h : List CallEvent) (path : Path) (bytes : List ℕ) (later : KeptThread) → HasCommittedBytes (with_history t h) path bytes later → HasCommittedBytes t path bytes later
 committed_read t h path bytes later k =
     record { sound = k.sound; fits = k.fits; settled = k.settled; root = k.root; shows = k.shows; others = k.others; synced = k.synced; closed = k.closed; alone = k.alone; none_in_flight = k.none_in_flight }
 
 -- ---- behind calls that only read
 
-module _ (t : ThreadView) (root : ℕ) (rests : CanChangeRecoveredImage t root) (path : Path) (large : 1024 ≤ t.kept.disk.block_size) (bytes : AreAllBlockElementsBelow256 t.kept.disk.blocks) (c : WriterContents) (can : CanCommitContentsAtPath t.kept path c)
-    (file : FileSlot) (slot : IsFileSlotAtPath t.kept.pairs path file) (sized : SizedLists t.kept.disk) (h : List DeviceCallEvent) where
+module _ (t : ThreadView) (root : ℕ) (rests : CanChangeRecovered t root) (path : Path) (large : 1024 ≤ t.kept.disk.block_size) (bytes : HoldBytes t.kept.disk.blocks) (c : WriterContents) (can : CanCommitContents t.kept path c)
+    (file : FileSlot) (slot : IsPathFileSlot t.kept.pairs path file) (sized : SizedLists t.kept.disk) (h : List CallEvent) where
   abbrev u : Slot
   u = slot.slot.stands.stands.stands.slot
 
-  abbrev ok : IsAcceptedImage t.kept.disk t.kept.pairs
+  abbrev ok : IsAccepted t.kept.disk t.kept.pairs
   ok = rests.held.sound.accepted
 
-  abbrev used : AreExactlyTheUsedBlocks t.kept.map (used_blocks t.kept.disk t.kept.pairs)
+  abbrev used : AreUsed t.kept.map (used_blocks t.kept.disk t.kept.pairs)
   used = rests.held.sound.used
 
-  at : slot_of_path t.kept.pairs path ≡ Some slot.slot.stands.stands.stands.slot
-  at = ap (slot_of_path t.kept.pairs) slot.slot.is ∙ slot.slot.stands.slot
+  at : slot_of t.kept.pairs path ≡ Some slot.slot.stands.stands.stands.slot
+  at = ap (slot_of t.kept.pairs) slot.slot.is ∙ slot.slot.stands.slot
 
-  come : IsStructOfContentsWithNewBlocksInFlight (with_history t.kept h) (bytes_of_writer_contents (with_history t.kept h) c) slot.slot.stands.stands.stands.slot.struct (struct_of_finished_contents c)
+  come : IsContentsStruct (with_history t.kept h) (writer_contents_bytes (with_history t.kept h) c) slot.slot.stands.stands.stands.slot.struct (finished_struct c)
   come = may_come (with_history t.kept h) path u ok used at sized c (over_read t.kept h path c can.over) can.finished
 
   below : file.spot.pair < length t.kept.pairs
   below = slot_below t root rests path large bytes file.spot slot.slot h
 
-  pub can_put : CanPutFinishedContentsInSlot (with_history t.kept h) file.spot c
+  pub can_put : CanPutContents (with_history t.kept h) file.spot c
   unfolding can_edit
   can_put = record {
     can = can_edit t root rests path large bytes file.spot slot.slot h;
@@ -228,66 +228,66 @@ module _ (t : ThreadView) (root : ℕ) (rests : CanChangeRecoveredImage t root) 
     room = room_there (with_history t.kept h) path u ok used at sized c (can_read t.kept h path c can);
   }
 
-  module _ (new : KeptThread) (w : WritesPairAndTwoFreeBlocks (with_history t.kept h) file.spot.pair new)
-      (gives : (put : CanPutFinishedContentsInSlot (with_history t.kept h) file.spot c)
-      → HasStoredContentsOfFile (with_history t.kept h) new put.can.path put.can.name (bytes_of_writer_contents (with_history t.kept h) c) put.come.gone put.come.come) where
-    is : HasStoredContentsOfFile (with_history t.kept h) new slot.slot.above slot.slot.name (bytes_of_writer_contents (with_history t.kept h) c) come.gone come.come
+  module _ (new : KeptThread) (w : WritesPairTwo (with_history t.kept h) file.spot.pair new)
+      (gives : (put : CanPutContents (with_history t.kept h) file.spot c)
+      → HasStoredContents (with_history t.kept h) new put.can.path put.can.name (writer_contents_bytes (with_history t.kept h) c) put.come.gone put.come.come) where
+    is : HasStoredContents (with_history t.kept h) new slot.slot.above slot.slot.name (writer_contents_bytes (with_history t.kept h) c) come.gone come.come
     unfolding can_put can_edit
     is = gives can_put
 
-    pub settles : CanMarkStoredListUsedAndOldFree new file.list (stored_skip_list_of_finished_contents c)
-    settles = subst (λ l. CanMarkStoredListUsedAndOldFree new l (stored_skip_list_of_finished_contents c)) (sym slot.list)
+    pub settles : CanSettleFile new file.list (finished_list c)
+    settles = subst (λ l. CanSettleFile new l (finished_list c)) (sym slot.list)
         (can_settle (with_history t.kept h) path u ok used at sized c (can_read t.kept h path c can) file.spot.pair below new w slot.slot.above slot.slot.name come is)
 
     -- the pair of the slot is written, and blocks that were free
-    changes : ChangesOnlyPairOfPath t.kept.disk t.kept.pairs path new.disk
+    changes : ChangesPathPair t.kept.disk t.kept.pairs path new.disk
     changes =
         let s = slot.slot.stands.stands in
         let place = s.place in
-        let is : thread_pair_at_index t.kept file.spot.pair ≡ s.pair = here (with_history t.kept h) (ready_to t root h rests large) slot.slot.first file.spot.pair s.pair s.rest s.place in
-        let writes = subst (λ (z : Pair). ThreadChangesOnlyTheseBlocks (z.at.0 ∷ z.at.1 ∷ w.fresh) (with_history t.kept h) new) is w.writes in
+        let is : thread_pair_at t.kept file.spot.pair ≡ s.pair = here (with_history t.kept h) (ready_to t root h rests large) slot.slot.first file.spot.pair s.pair s.rest s.place in
+        let writes = subst (λ (z : Pair). ChangesThreadBlocks (z.at.0 ∷ z.at.1 ∷ w.fresh) (with_history t.kept h) new) is w.writes in
         record {
           pair = s.pair;
-          there = contains_among s.pair t.kept.pairs (subst (IsTrueOfSomeElement (λ y. y ≡ s.pair)) (sym place.parts)
+          there = contains_among s.pair t.kept.pairs (subst (HoldsOfSome (λ y. y ≡ s.pair)) (sym place.parts)
               (among_right (λ y. y ≡ s.pair) place.front (place.left ++ s.pair ∷ s.rest) (among_right (λ y. y ≡ s.pair) place.left (s.pair ∷ s.rest) (inl refl))));
-          holds = subst (IsPairWithSlotOfPath t.kept.pairs s.pair) (sym slot.slot.is)
+          holds = subst (HasPathSlot t.kept.pairs s.pair) (sym slot.slot.is)
               (holds_slot t.kept.pairs slot.slot.above slot.slot.stands.on.at slot.slot.first slot.slot.name file.spot.pair file.spot.id ok.thread.distinct slot.slot.stands.on.leads slot.slot.stands.on.begins s);
           others = λ b has first second. writes.others.others b (All-from_recursion (λ x. x ≢ b) (s.pair.at.0 ∷ s.pair.at.1 ∷ w.fresh)
-              ((λ e. first (sym e)), ((λ e. second (sym e)), each_weaker (IsBlockFree t.kept.map) (λ x. x ≢ b) (λ x f e. not_free t.kept.map b ((used b).1 has) (subst (IsBlockFree t.kept.map) e f)) w.fresh w.free)));
+              ((λ e. first (sym e)), ((λ e. second (sym e)), each_weaker (IsFree t.kept.map) (λ x. x ≢ b) (λ x f e. not_free t.kept.map b ((used b).1 has) (subst (IsFree t.kept.map) e f)) w.fresh w.free)));
         }
 
-    module _ (later : KeptThread) (only : ChangesOnlyBlockMap new later) where
-      pub commits : IsStoredListUsedAndOldListFree new file.list (stored_skip_list_of_finished_contents c) later → HasCommittedBytesOfFile t.kept path (bytes_of_writer_contents t.kept c) later
-      commits settled = committed_read t.kept h path (bytes_of_writer_contents t.kept c) later
+    module _ (later : KeptThread) (only : ChangesOnlyMap new later) where
+      pub commits : IsListSettled new file.list (finished_list c) later → HasCommittedBytes t.kept path (writer_contents_bytes t.kept c) later
+      commits settled = committed_read t.kept h path (writer_contents_bytes t.kept c) later
           (committed (with_history t.kept h) path u ok used at sized c (can_read t.kept h path c can) file.spot.pair below new w slot.slot.above slot.slot.name come is later only
-          (subst (λ l. IsStoredListUsedAndOldListFree new l (stored_skip_list_of_finished_contents c) later) slot.list settled) slot.slot.is changes)
+          (subst (λ l. IsListSettled new l (finished_list c) later) slot.list settled) slot.slot.is changes)
 
       -- the calls that settle only read
-      pub survives_settled : AreCallsSinceOnlyReads t.kept.disk.blocks t.kept.history h → SurvivesWithOldOrNewTree t.kept new (tree_after_change_of_node path (node_with_bytes (bytes_of_writer_contents t.kept c)) (tree_on_disk t.kept.disk t.kept.pairs))
-          → SurvivesWithOldOrNewTree t.kept later (tree_after_change_of_node path (node_with_bytes (bytes_of_writer_contents t.kept c)) (tree_on_disk t.kept.disk t.kept.pairs))
+      pub survives_settled : OnlyReadsSince t.kept.disk.blocks t.kept.history h → SurvivesEither t.kept new (tree_with_change path (file_with_bytes (writer_contents_bytes t.kept c)) (tree_on_disk t.kept.disk t.kept.pairs))
+          → SurvivesEither t.kept later (tree_with_change path (file_with_bytes (writer_contents_bytes t.kept c)) (tree_on_disk t.kept.disk t.kept.pairs))
       survives_settled reads k =
-          let after = tree_after_change_of_node path (node_with_bytes (bytes_of_writer_contents t.kept c)) (tree_on_disk t.kept.disk t.kept.pairs) in
-          let disk_is : new.disk ≡ disk_with_blocks new.disk.blocks t.kept.disk = λ i. record { block_size = w.writes.shape.block_size i; page = w.writes.shape.page i; order = w.writes.shape.order i; profile = w.writes.shape.profile i; blocks = new.disk.blocks } in
-          let first : IsTrueAfterAnyPowerLossSince AreBlocksLeftByPowerLossInCall t.kept.history new.history (λ d. Unit {0}) = IsTrueAfterAnyPowerLossSince-trans (IsTrueAfterAnyPowerLossSince-read_count_of_history AreBlocksLeftByPowerLossInCall-read reads tt) (IsTrueAfterAnyPowerLossSince-weaker (λ d p. tt) (IsTrueAfterAnyPowerLossSince-worst w.writes.at_worst)) in
+          let after = tree_with_change path (file_with_bytes (writer_contents_bytes t.kept c)) (tree_on_disk t.kept.disk t.kept.pairs) in
+          let disk_is : new.disk ≡ with_blocks new.disk.blocks t.kept.disk = λ i. record { block_size = w.writes.shape.block_size i; page = w.writes.shape.page i; order = w.writes.shape.order i; profile = w.writes.shape.profile i; blocks = new.disk.blocks } in
+          let first : HoldsAtLosses LeftByLoss t.kept.history new.history (λ d. Unit {0}) = HoldsAtLosses-trans (HoldsAtLosses-read_count LeftByLoss-read reads tt) (HoldsAtLosses-weaker (λ d p. tt) (HoldsAtLosses-worst w.writes.at_worst)) in
           survives_then t.kept.disk t.kept.history new.history later.history (tree_on_disk t.kept.disk t.kept.pairs) after first only.reads k
-          (λ clean. IsTrueAfterAnyPowerLossSince-read_count_of_history AreBlocksLeftByPowerLossInCall-read only.reads
-          (subst (λ (d : Disk). HasTreeBeforeOrAfterOperation d (tree_on_disk t.kept.disk t.kept.pairs) (tree_after_change_of_node path (node_with_bytes (bytes_of_writer_contents t.kept c)) (tree_on_disk t.kept.disk t.kept.pairs))) disk_is
+          (λ clean. HoldsAtLosses-read_count LeftByLoss-read only.reads
+          (subst (λ (d : Disk). HasEither d (tree_on_disk t.kept.disk t.kept.pairs) (tree_with_change path (file_with_bytes (writer_contents_bytes t.kept c)) (tree_on_disk t.kept.disk t.kept.pairs))) disk_is
           (record {
             pairs = new.pairs;
             accepted = is.now.ready.accepted;
             writable = is.now.ready.writable;
-            tree = inr (is.now.shows ∙ ap (λ p. tree_after_change_of_node p (node_with_bytes (bytes_of_writer_contents t.kept c)) (tree_on_disk t.kept.disk t.kept.pairs)) (sym slot.slot.is));
+            tree = inr (is.now.shows ∙ ap (λ p. tree_with_change p (file_with_bytes (writer_contents_bytes t.kept c)) (tree_on_disk t.kept.disk t.kept.pairs)) (sym slot.slot.is));
           })))
 
-  pub survives_put : (new : KeptThread) (w : WritesPairAndTwoFreeBlocks (with_history t.kept h) file.spot.pair new) → AreCallsSinceOnlyReads t.kept.disk.blocks t.kept.history h
-      → ((put : CanPutFinishedContentsInSlot (with_history t.kept h) file.spot c) → SurvivesWithOldOrNewTree (with_history t.kept h) new (tree_with_contents_at (with_history t.kept h) put.can.path put.can.name (bytes_of_writer_contents (with_history t.kept h) c)))
-      → SurvivesWithOldOrNewTree t.kept new (tree_after_change_of_node path (node_with_bytes (bytes_of_writer_contents t.kept c)) (tree_on_disk t.kept.disk t.kept.pairs))
+  pub survives_put : (new : KeptThread) (w : WritesPairTwo (with_history t.kept h) file.spot.pair new) → OnlyReadsSince t.kept.disk.blocks t.kept.history h
+      → ((put : CanPutContents (with_history t.kept h) file.spot c) → SurvivesEither (with_history t.kept h) new (tree_with_contents (with_history t.kept h) put.can.path put.can.name (writer_contents_bytes (with_history t.kept h) c)))
+      → SurvivesEither t.kept new (tree_with_change path (file_with_bytes (writer_contents_bytes t.kept c)) (tree_on_disk t.kept.disk t.kept.pairs))
   unfolding can_put can_edit
   survives_put new w reads gives =
-      subst (λ p. SurvivesWithOldOrNewTree t.kept new (tree_after_change_of_node p (node_with_bytes (bytes_of_writer_contents t.kept c)) (tree_on_disk t.kept.disk t.kept.pairs))) (sym slot.slot.is)
-      (survives_behind t root rests h new _ (tree_with_contents_at t.kept slot.slot.above slot.slot.name (bytes_of_writer_contents t.kept c)) reads w.writes (gives can_put))
+      subst (λ p. SurvivesEither t.kept new (tree_with_change p (file_with_bytes (writer_contents_bytes t.kept c)) (tree_on_disk t.kept.disk t.kept.pairs))) (sym slot.slot.is)
+      (survives_behind t root rests h new _ (tree_with_contents t.kept slot.slot.above slot.slot.name (writer_contents_bytes t.kept c)) reads w.writes (gives can_put))
 
-pub called_beside : (a b c : KeptThread) → HasFurtherDeviceCalls a b → ChangesOnlyBlockMap b c → HasFurtherDeviceCalls a c
+pub called_beside : (a b c : KeptThread) → HasFurtherCalls a b → ChangesOnlyMap b c → HasFurtherCalls a c
 called_beside a b c k r = record {
   geometry = subst (λ (d : Disk). SameGeometry a.disk d) (sym r.disk) k.geometry;
   calls = r.reads.events ++ k.calls;

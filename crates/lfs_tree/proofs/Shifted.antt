@@ -5,34 +5,34 @@ use Rattle.std.specs.List.{list_all}
 use Rattle.std.specs.Option.{option_and_then}
 use Rattle.std.proofs.lemmas.Bool.{ltb-false}
 use Rattle.std.proofs.lemmas.Option.{slice_get_within}
-use Rattle.lfs_device.specs.Bytes.{AreAllBlockElementsBelow256}
+use Rattle.lfs_device.specs.Bytes.{HoldBytes}
 use Rattle.lfs_device.specs.declared.error.Error.{Error}
-use Rattle.lfs_model.specs.TreeEdits.{is_path_beneath, last_name_of_path, tree_after_rename, path_without_prefix, same_path}
-use Rattle.lfs_model.specs.Disk.{charged_entry_size_limit_in_pair}
-use Rattle.lfs_model.specs.History.{DeviceCallEvent, AreCallsSinceOnlyReads, fault_count_of_history}
-use Rattle.lfs_model.specs.InDirectory.{IsPlaceWhereNameBelongs}
-use Rattle.lfs_model.specs.Names.{Name, is_path_component, is_valid_name}
-use Rattle.lfs_model.specs.Operations as ops
-use Rattle.lfs_model.specs.Slots.{Slot, entry_charge_with_longest_inline_contents}
-use Rattle.lfs_model.specs.Refusals.{path_of_bytes_or_root, is_root_path}
-use Rattle.lfs_model.specs.Thread.{Pair, gstate_of_pairs, pair_count_before_root}
-use Rattle.lfs_model.specs.Tree.{Path, Tree, branch_address_of_struct}
-use Rattle.lfs_model.specs.Profile.{IsEntryWithinWritableLimits}
-use Rattle.lfs_model.specs.Shown.{IsPathToDirectory, tree_on_disk}
+use Rattle.lfs_model.specs.session.TreeEdits.{is_path_beneath, last_name, tree_renaming, without_prefix, same_path}
+use Rattle.lfs_model.specs.format.Disk.{charge_limit}
+use Rattle.lfs_model.specs.session.History.{CallEvent, OnlyReadsSince, fault_count}
+use Rattle.lfs_model.specs.session.InDirectory.{BelongsAt}
+use Rattle.lfs_model.specs.format.Names.{Name, is_component, is_valid_name}
+use Rattle.lfs_model.specs.session.Operations as ops
+use Rattle.lfs_model.specs.format.Slots.{Slot, entry_charge}
+use Rattle.lfs_model.specs.session.Refusals.{path_or_root, is_root_path}
+use Rattle.lfs_model.specs.format.Thread.{Pair, pairs_gstate, pair_count_before_root}
+use Rattle.lfs_model.specs.tree.Tree.{Path, Tree, branch_address}
+use Rattle.lfs_model.specs.tree.Profile.{IsWritableEntry}
+use Rattle.lfs_model.specs.tree.Shown.{LeadsTo, tree_on_disk}
 use Rattle.lfs_model.proofs.Committed.{no_move_from}
 use Rattle.lfs_model.proofs.Paths.{last_is}
 use Rattle.lfs_thread.specs.Kept.{KeptThread, ThreadView}
-use Rattle.lfs_thread.specs.Steps.{IsThreadOnlyRead}
-use Rattle.lfs_operations.specs.MovingSteps.{WritesOnlyThreadPairsAndFreeBlocks}
+use Rattle.lfs_thread.specs.ThreadSteps.{OnlyReadsThread}
+use Rattle.lfs_operations.specs.MovingSteps.{WritesThreadFree}
 use Rattle.lfs_tree.specs.Permissions.{CanRenamePath}
-use Rattle.lfs_tree.specs.Calls as call
-use Rattle.lfs_tree.specs.Calls.{tree_after_call}
-use Rattle.lfs_tree.specs.TreeChanges.{AppliesOperationOnThread, HasAppliedCall, CanChangeRecoveredImage, AppliesCallOnThreadOrFails, IsLookupResultAndLastNameOfPath, SparesBlocksOutsideOperation, HasSoundImageOfTree, SurvivesWithOldOrNewTree}
-use Rattle.lfs_tree.specs.SlotChanges.{HasEntryAtPath}
-use Rattle.lfs_tree.specs.RootedThreads.{tree_state_of_kept_thread}
-use Rattle.lfs_tree.specs.TreeState.{disk_summary_of_tree}
-use Rattle.lfs_lookup.specs.Paths.{PathLeadsToFirstPair, PathLeadsToLookupResult, IsSlotOfNameBelowPath}
-use Rattle.lfs_tree.specs.Moves.{CanMoveEntry, CanMoveOntoFound, CanMoveOntoFile, CanMoveOntoDirectory, CanMoveToVacantPath, HasMovedEntry, IsRenameSourceAtPath, IsRenameSourceOfFound, ThreadWorksOrReportsError}
+use Rattle.lfs_tree.specs.TreeCalls as call
+use Rattle.lfs_tree.specs.TreeCalls.{tree_after_call}
+use Rattle.lfs_tree.specs.TreeChanges.{AppliesOperation, HasAppliedCall, CanChangeRecovered, AppliesOrFails, IsResultAndName, SparesOutsideOperation, HasSoundImage, SurvivesEither}
+use Rattle.lfs_tree.specs.SlotChanges.{HasPathEntry}
+use Rattle.lfs_tree.specs.RootedThreads.{kept_state}
+use Rattle.lfs_tree.specs.TreeState.{tree_summary}
+use Rattle.lfs_lookup.specs.LookupPaths.{LeadsToPair, LeadsToResult, IsSlotBelow}
+use Rattle.lfs_tree.specs.MovedEntries.{CanMoveEntry, CanMoveOntoFound, CanMoveOntoFile, CanMoveOntoDirectory, CanMoveToVacant, HasMovedEntry, IsSourceAt, IsFoundSource, ThreadWorksOrReportsError}
 use Rattle.lfs_tree.specs.declared.renames_at.RenameSource.{RenameSource}
 use Rattle.lfs_lookup.specs.declared.entry.FileStorage.{FileStorage}
 use Rattle.lfs_lookup.specs.declared.paths.PathLookup.{PathLookup}
@@ -51,11 +51,11 @@ use Rattle.lfs_tree.proofs.Mounting.{sound_read}
 
 -- ---- what is found
 
-source_is : (ps : List Pair) (path above : Path) (name : Name) (parent : ℕ) (slot : SlotPosition) (source : RenameSource) → path ≡ above ++ name ∷ [] → IsSlotOfNameBelowPath ps above name parent slot → source ≡ record { slot = slot; first = parent } → IsRenameSourceAtPath ps path source
+source_is : (ps : List Pair) (path above : Path) (name : Name) (parent : ℕ) (slot : SlotPosition) (source : RenameSource) → path ≡ above ++ name ∷ [] → IsSlotBelow ps above name parent slot → source ≡ record { slot = slot; first = parent } → IsSourceAt ps path source
 source_is ps path above name parent slot source e s h =
-    subst (IsRenameSourceAtPath ps path) (sym h) (record { slot = record { above = above; name = name; first = parent; is = e; stands = s }; first_is = refl })
+    subst (IsSourceAt ps path) (sym h) (record { slot = record { above = above; name = name; first = parent; is = e; stands = s }; first_is = refl })
 
-pub source_for : (t : KeptThread) (path : Path) (f : PathLookup) (source : RenameSource) → PathLeadsToLookupResult t path f → IsRenameSourceOfFound f source → IsRenameSourceAtPath t.pairs path source
+pub source_for : (t : KeptThread) (path : Path) (f : PathLookup) (source : RenameSource) → LeadsToResult t path f → IsFoundSource f source → IsSourceAt t.pairs path source
 source_for t path found.Root source l h = absurd h
 source_for t path found.ParentIsFile source l h = absurd h
 source_for t path found.ParentIsMissing source l h = absurd h
@@ -65,12 +65,12 @@ source_for t path (found.File parent slot contents) source l h = source_is t.pai
 
 -- ---- what may be done
 
-pub entry_to_rename : (t : KeptThread) (from to : Path) → CanRenamePath (tree_state_of_kept_thread t true false) from to → HasEntryAtPath (tree_on_disk t.disk t.pairs) from
+pub entry_to_rename : (t : KeptThread) (from to : Path) → CanRenamePath (kept_state t true false) from to → HasPathEntry (tree_on_disk t.disk t.pairs) from
 entry_to_rename t from to can = record { entry = can.entry; parents = can.parents; something = can.something }
 
 -- what isn't beneath it, and is another path, doesn't begin with it
-pub goes_elsewhere : (from to : Path) → is_path_beneath from to ≡ false → same_path from to ≡ false → path_without_prefix from to ≡ None
-goes_elsewhere from to apart other = none (path_without_prefix from to) (sym (ap (λ b. is_some (path_without_prefix from to) && not b) other) ∙ apart)
+pub goes_elsewhere : (from to : Path) → is_path_beneath from to ≡ false → same_path from to ≡ false → without_prefix from to ≡ None
+goes_elsewhere from to apart other = none (without_prefix from to) (sym (ap (λ b. is_some (without_prefix from to) && not b) other) ∙ apart)
   where
     none : (o : Option Path) → (is_some o && true) ≡ false → o ≡ None
     none None e = refl
@@ -81,22 +81,22 @@ checked_apart : (same b : Bool) → same ≡ false → (not same && b) ≡ false
 checked_apart true b e f = absurd (cc)
 checked_apart false b e f = f
 
-module _ (t : ThreadView) (root : ℕ) (rests : CanChangeRecoveredImage t root) (from to : Path) (components : list_all is_path_component to ≡ true) (large : 1024 ≤ t.kept.disk.block_size) (bytes : AreAllBlockElementsBelow256 t.kept.disk.blocks)
-    (can : CanRenamePath (tree_state_of_kept_thread t.kept true false) from to) (other : same_path from to ≡ false) (source : RenameSource) (is : IsRenameSourceAtPath t.kept.pairs from source) (h : List DeviceCallEvent) where
-  pub elsewhere : path_without_prefix from to ≡ None
+module _ (t : ThreadView) (root : ℕ) (rests : CanChangeRecovered t root) (from to : Path) (components : list_all is_component to ≡ true) (large : 1024 ≤ t.kept.disk.block_size) (bytes : HoldBytes t.kept.disk.blocks)
+    (can : CanRenamePath (kept_state t.kept true false) from to) (other : same_path from to ≡ false) (source : RenameSource) (is : IsSourceAt t.kept.pairs from source) (h : List CallEvent) where
+  pub elsewhere : without_prefix from to ≡ None
   elsewhere = goes_elsewhere from to can.apart other
 
-  named : is_valid_name (last_name_of_path to) ≡ true
-  named = last_is_name (disk_summary_of_tree (tree_state_of_kept_thread t.kept true false)) to (λ e. let k = sym can.target ∙ ap is_root_path e in absurd (cc)) components can.name
+  named : is_valid_name (last_name to) ≡ true
+  named = last_is_name (tree_summary (kept_state t.kept true false)) to (λ e. let k = sym can.target ∙ ap is_root_path e in absurd (cc)) components can.name
 
-  pub fits_there : IsEntryWithinWritableLimits t.kept.disk.profile t.kept.disk.block_size t.kept.disk.page (record is.slot.stands.stands.stands.slot { name = last_name_of_path to })
+  pub fits_there : IsWritableEntry t.kept.disk.profile t.kept.disk.block_size t.kept.disk.page (record is.slot.stands.stands.stands.slot { name = last_name to })
   fits_there = record {
-    charge = subst (λ a. entry_charge_with_longest_inline_contents t.kept.disk.profile t.kept.disk.block_size (last_name_of_path to) a ≤ charged_entry_size_limit_in_pair t.kept.disk.block_size t.kept.disk.page) (attributes_are t root rests from large bytes source.slot is.slot h)
+    charge = subst (λ a. entry_charge t.kept.disk.profile t.kept.disk.block_size (last_name to) a ≤ charge_limit t.kept.disk.block_size t.kept.disk.page) (attributes_are t root rests from large bytes source.slot is.slot h)
         (ltb-false _ _ (checked_apart (same_path from to) _ other can.fits));
     inline = inline_fits t root rests from large bytes source.slot is.slot h;
   }
 
-  can_shift : (above : Path) (first : ℕ) (name : Name) → name ≡ last_name_of_path to → to ≡ above ++ name ∷ [] → PathLeadsToFirstPair t.kept.pairs above first → CanMoveEntry (with_history t.kept h) from to source name
+  can_shift : (above : Path) (first : ℕ) (name : Name) → name ≡ last_name to → to ≡ above ++ name ∷ [] → LeadsToPair t.kept.pairs above first → CanMoveEntry (with_history t.kept h) from to source name
   unfolding can_edit
   can_shift above first name same e on = record {
     old = can_edit t root rests from large bytes source.slot is.slot h;
@@ -108,51 +108,51 @@ module _ (t : ThreadView) (root : ℕ) (rests : CanChangeRecoveredImage t root) 
     on = on;
     not_beneath = elsewhere;
     is_name = subst (λ n. is_valid_name n ≡ true) (sym same) named;
-    fits = subst (λ n. IsEntryWithinWritableLimits t.kept.disk.profile t.kept.disk.block_size t.kept.disk.page (record is.slot.stands.stands.stands.slot { name = n })) (sym same) fits_there;
+    fits = subst (λ n. IsWritableEntry t.kept.disk.profile t.kept.disk.block_size t.kept.disk.page (record is.slot.stands.stands.stands.slot { name = n })) (sym same) fits_there;
     logged = λ at. logged_there t.kept.disk at bytes;
     room = room_for t.kept 2 rests.held.sound can.room;
   }
 
-  pub shift_to : (parent : ℕ) (place : SlotPosition) (name : Name) → IsLookupResultAndLastNameOfPath t.kept to (found.Nothing parent place) name → CanMoveToVacantPath (with_history t.kept h) from to source place name
+  pub shift_to : (parent : ℕ) (place : SlotPosition) (name : Name) → IsResultAndName t.kept to (found.Nothing parent place) name → CanMoveToVacant (with_history t.kept h) from to source place name
   unfolding can_shift
   shift_to parent place name target =
       let there = target.leads.there in
-      let same : name ≡ there.name = target.named ∙ ap last_name_of_path there.is ∙ last_is there.above there.name in
+      let same : name ≡ there.name = target.named ∙ ap last_name there.is ∙ last_is there.above there.name in
       record {
         can = can_shift there.above parent name target.named (there.is ∙ ap (λ n. there.above ++ n ∷ []) (sym same)) there.there.on;
-        belongs = subst (λ n. IsPlaceWhereNameBelongs t.kept.disk.order t.kept.pairs parent n place.pair place.id) (sym same) there.there.belongs;
+        belongs = subst (λ n. BelongsAt t.kept.disk.order t.kept.pairs parent n place.pair place.id) (sym same) there.there.belongs;
       }
 
-  pub shift_onto : (parent : ℕ) (slot : SlotPosition) (contents : FileStorage) (name : Name) → IsLookupResultAndLastNameOfPath t.kept to (found.File parent slot contents) name → CanMoveOntoFile (with_history t.kept h) from to source slot contents name
+  pub shift_onto : (parent : ℕ) (slot : SlotPosition) (contents : FileStorage) (name : Name) → IsResultAndName t.kept to (found.File parent slot contents) name → CanMoveOntoFile (with_history t.kept h) from to source slot contents name
   unfolding can_shift
   shift_onto parent slot contents name target =
       let there = target.leads.there in
-      let same : last_name_of_path to ≡ there.name = ap last_name_of_path there.is ∙ last_is there.above there.name in
+      let same : last_name to ≡ there.name = ap last_name there.is ∙ last_is there.above there.name in
       subst (λ n. CanMoveOntoFile (with_history t.kept h) from to source slot contents n) (sym (target.named ∙ same))
       (record { can = can_shift there.above parent there.name (sym same) there.is there.there.0.on; target = there.there.0.stands; shows = there.there.1 })
 
-  pub shift_over : (parent : ℕ) (slot : SlotPosition) (first : ℕ) (name : Name) → IsLookupResultAndLastNameOfPath t.kept to (found.Directory parent slot first) name → CanMoveOntoDirectory (with_history t.kept h) from to source slot first name
+  pub shift_over : (parent : ℕ) (slot : SlotPosition) (first : ℕ) (name : Name) → IsResultAndName t.kept to (found.Directory parent slot first) name → CanMoveOntoDirectory (with_history t.kept h) from to source slot first name
   unfolding can_shift
   shift_over parent slot first name target =
       let there = target.leads.there in
       let stood = there.there.0 in
       let on = there.there.1 in
-      let same : last_name_of_path to ≡ there.name = ap last_name_of_path there.is ∙ last_is there.above there.name in
-      let none = none_entered t.kept to (checked_apart (same_path from to) _ other can.empty) on.at (subst (λ p. IsPathToDirectory t.kept.pairs p on.at) (sym there.is) on.leads) in
+      let same : last_name to ≡ there.name = ap last_name there.is ∙ last_is there.above there.name in
+      let none = none_entered t.kept to (checked_apart (same_path from to) _ other can.empty) on.at (subst (λ p. LeadsTo t.kept.pairs p on.at) (sym there.is) on.leads) in
       let bare = bare_there t.kept.disk t.kept.pairs there.above there.name on.at first rests.held.sound.accepted (rests.held.sound.fits refl) (no_move_from t.kept.pairs rests.settled) on.leads on.begins none in
       subst (λ n. CanMoveOntoDirectory (with_history t.kept h) from to source slot first n) (sym (target.named ∙ same))
       (record {
         can = can_shift there.above parent there.name (sym same) there.is stood.on;
         target = stood.stands;
         at = on.at;
-        branch = branch_is stood.stands.stands.slot.struct on.at (sym (ap (option_and_then (λ (s : Slot). branch_address_of_struct s.struct)) stood.slot) ∙ on.leads);
+        branch = branch_is stood.stands.stands.slot.struct on.at (sym (ap (option_and_then (λ (s : Slot). branch_address s.struct)) stood.slot) ∙ on.leads);
         below = slice_get_within t.kept.pairs first on.begins.pair on.begins.there;
         there = at_there t.kept.pairs on.at first on.begins;
         empty = bare.empty;
         alone = bare.alone;
       })
 
-  pub shift_found : (f : PathLookup) (name : Name) → IsLookupResultAndLastNameOfPath t.kept to f name → CanMoveOntoFound (with_history t.kept h) from to source f name
+  pub shift_found : (f : PathLookup) (name : Name) → IsResultAndName t.kept to f name → CanMoveOntoFound (with_history t.kept h) from to source f name
   shift_found found.Root name target = let k = sym can.target ∙ ap is_root_path target.leads.there in absurd (cc)
   shift_found found.ParentIsFile name target = let k = sym can.target_parents ∙ target.leads.parents in absurd (cc)
   shift_found found.ParentIsMissing name target = let k = sym can.target_parents ∙ target.leads.parents in absurd (cc)
@@ -162,8 +162,8 @@ module _ (t : ThreadView) (root : ℕ) (rests : CanChangeRecoveredImage t root) 
 
 -- ---- what comes of it
 
-module _ (t : ThreadView) (root : ℕ) (rests : CanChangeRecoveredImage t root) (from to : Path) (other : same_path from to ≡ false) (h : List DeviceCallEvent) (c : KeptThread) (reads : AreCallsSinceOnlyReads t.kept.disk.blocks t.kept.history h) (w : WritesOnlyThreadPairsAndFreeBlocks (with_history t.kept h) c) where
-  shifted_at : (given to_given : List ℕ) → HasMovedEntry (with_history t.kept h) from to c → fault_count_of_history c.history ≡ fault_count_of_history t.kept.history → path_of_bytes_or_root given ≡ from → path_of_bytes_or_root to_given ≡ to → AppliesOperationOnThread t.kept (ops.Rename given to_given) c
+module _ (t : ThreadView) (root : ℕ) (rests : CanChangeRecovered t root) (from to : Path) (other : same_path from to ≡ false) (h : List CallEvent) (c : KeptThread) (reads : OnlyReadsSince t.kept.disk.blocks t.kept.history h) (w : WritesThreadFree (with_history t.kept h) c) where
+  shifted_at : (given to_given : List ℕ) → HasMovedEntry (with_history t.kept h) from to c → fault_count c.history ≡ fault_count t.kept.history → path_or_root given ≡ from → path_or_root to_given ≡ to → AppliesOperation t.kept (ops.Rename given to_given) c
   shifted_at given to_given is quiet e f = carried t.kept h (ops.Rename given to_given) c
       (record {
         accepted = rests.held.sound.accepted;
@@ -179,42 +179,42 @@ module _ (t : ThreadView) (root : ℕ) (rests : CanChangeRecoveredImage t root) 
         no_fault = quiet;
       }) (ap₂ same_path e f ∙ other) refl
 
-module _ (t : ThreadView) (root : ℕ) (rests : CanChangeRecoveredImage t root) (from to : Path) (other : same_path from to ≡ false) (h : List DeviceCallEvent) (new : ThreadView) (reads : AreCallsSinceOnlyReads t.kept.disk.blocks t.kept.history h) (w : WritesOnlyThreadPairsAndFreeBlocks (with_history t.kept h) new.kept) where
+module _ (t : ThreadView) (root : ℕ) (rests : CanChangeRecovered t root) (from to : Path) (other : same_path from to ≡ false) (h : List CallEvent) (new : ThreadView) (reads : OnlyReadsSince t.kept.disk.blocks t.kept.history h) (w : WritesThreadFree (with_history t.kept h) new.kept) where
   abbrev before : Tree
   before = tree_on_disk t.kept.disk t.kept.pairs
 
   -- all that is said of it
-  pub rename_does : (r : Result (Unit {0}) Error) (given to_given : List ℕ) → path_of_bytes_or_root given ≡ from → path_of_bytes_or_root to_given ≡ to → fault_count_of_history h ≡ fault_count_of_history t.kept.history → OnOk r (HasMovedEntry (with_history t.kept h) from to new.kept)
-      → ReportsFaultsSince h new.kept.history r → OnOk r (new.failed ≡ false) → SurvivesWithOldOrNewTree (with_history t.kept h) new.kept (tree_after_rename from to before) → AppliesCallOnThreadOrFails t (call.Rename from to) r new
+  pub rename_does : (r : Result (Unit {0}) Error) (given to_given : List ℕ) → path_or_root given ≡ from → path_or_root to_given ≡ to → fault_count h ≡ fault_count t.kept.history → OnOk r (HasMovedEntry (with_history t.kept h) from to new.kept)
+      → ReportsFaultsSince h new.kept.history r → OnOk r (new.failed ≡ false) → SurvivesEither (with_history t.kept h) new.kept (tree_renaming from to before) → AppliesOrFails t (call.Rename from to) r new
   rename_does r given to_given named to_named quiet shifted reported works survives =
       changed t new (HasAppliedCall t.kept (call.Rename from to)) (tree_after_call (call.Rename from to) before) h w.blocks r quiet reads w.writes reported works (go r shifted (quiet_reported t.kept new.kept h r quiet reported))
-      (survives_behind t root rests h new.kept w.blocks (tree_after_rename from to before) reads w.writes survives)
+      (survives_behind t root rests h new.kept w.blocks (tree_renaming from to before) reads w.writes survives)
     where
-      go : (r : Result (Unit {0}) Error) → OnOk r (HasMovedEntry (with_history t.kept h) from to new.kept) → OnOk r (fault_count_of_history new.kept.history ≡ fault_count_of_history t.kept.history)
-          → OnOk r (HasAppliedCall t.kept (call.Rename from to) new.kept × HasSoundImageOfTree t.kept (tree_after_call (call.Rename from to) before) new.kept)
+      go : (r : Result (Unit {0}) Error) → OnOk r (HasMovedEntry (with_history t.kept h) from to new.kept) → OnOk r (fault_count new.kept.history ≡ fault_count t.kept.history)
+          → OnOk r (HasAppliedCall t.kept (call.Rename from to) new.kept × HasSoundImage t.kept (tree_after_call (call.Rename from to) before) new.kept)
       go (Err e) shifted same = tt
       go (Ok x) shifted same = (
         record {
-          carries = does_rename (λ op. AppliesOperationOnThread t.kept op new.kept) from to (λ given to_given e f. shifted_at t root rests from to other h new.kept reads w given to_given shifted same e f);
-          spares = does_rename (λ op. SparesBlocksOutsideOperation t.kept op new.kept) from to (λ given to_given e f none files. shifted.alone (record { tree = tree_on_disk t.kept.disk t.kept.pairs; files = files }) given to_given e f);
+          carries = does_rename (λ op. AppliesOperation t.kept op new.kept) from to (λ given to_given e f. shifted_at t root rests from to other h new.kept reads w given to_given shifted same e f);
+          spares = does_rename (λ op. SparesOutsideOperation t.kept op new.kept) from to (λ given to_given e f none files. shifted.alone (record { tree = tree_on_disk t.kept.disk t.kept.pairs; files = files }) given to_given e f);
         },
         rename_stands t.kept new.kept from to given to_given named to_named (shifted_at t root rests from to other h new.kept reads w given to_given shifted same named to_named) shifted.root,
       )
 
-pub rests_still : (t mid : ThreadView) (root : ℕ) → CanChangeRecoveredImage t root → IsThreadOnlyRead t.kept mid.kept → mid.failed ≡ false → CanChangeRecoveredImage mid root
+pub rests_still : (t mid : ThreadView) (root : ℕ) → CanChangeRecovered t root → OnlyReadsThread t.kept mid.kept → mid.failed ≡ false → CanChangeRecovered mid root
 rests_still t mid root rests only works = record {
   held = record {
     works = works;
     sound = sound_read t.kept mid.kept true false false only rests.held.sound;
     root_is = rests.held.root_is ∙ ap pair_count_before_root (sym only.pairs);
   };
-  settled = ap gstate_of_pairs only.pairs ∙ rests.settled;
+  settled = ap pairs_gstate only.pairs ∙ rests.settled;
 }
 
 pub reported_of_work : {X : Type 0} (old new : ThreadView) (result : Result X Error) → ThreadWorksOrReportsError old new result → ReportsFaultsSince old.kept.history new.kept.history result
 reported_of_work old new result t = record { errors = t.errors; fault = t.fault; no_fault = t.no_fault }
 
-leads_back : (t : KeptThread) (h : List DeviceCallEvent) (path : Path) (f : PathLookup) → PathLeadsToLookupResult (with_history t h) path f → PathLeadsToLookupResult t path f
+leads_back : (t : KeptThread) (h : List CallEvent) (path : Path) (f : PathLookup) → LeadsToResult (with_history t h) path f → LeadsToResult t path f
 leads_back t h path found.Root l = record { parents = l.parents; there = l.there }
 leads_back t h path found.ParentIsFile l = record { parents = l.parents; there = l.there }
 leads_back t h path found.ParentIsMissing l = record { parents = l.parents; there = l.there }
@@ -223,7 +223,7 @@ leads_back t h path (found.Directory parent slot first) l = record { parents = l
 leads_back t h path (found.File parent slot contents) l = record { parents = l.parents; there = l.there }
 
 -- what is found behind calls that only read
-pub target_back : (a b : KeptThread) (path : Path) (f : PathLookup) (name : Name) → IsThreadOnlyRead a b → IsLookupResultAndLastNameOfPath b path f name → IsLookupResultAndLastNameOfPath a path f name
+pub target_back : (a b : KeptThread) (path : Path) (f : PathLookup) (name : Name) → OnlyReadsThread a b → IsResultAndName b path f name → IsResultAndName a path f name
 target_back a b path f name only target =
-    let k = subst (λ z. IsLookupResultAndLastNameOfPath z path f name) (read_is a b only) target in
+    let k = subst (λ z. IsResultAndName z path f name) (read_is a b only) target in
     record { leads = leads_back a b.history path f k.leads; named = k.named }

@@ -3,32 +3,32 @@ use Rattle.std.proofs.Common.{ℕ, ◌≡◌, ◌≢◌, ◌⊎◌, ◌<◌, ◌
 use Rattle.std.specs.Prelude.{IfErr, OnOk, is_err}
 use Rattle.lfs_device.specs.declared.error.Error.{Error}
 use Rattle.lfs_device.specs.declared.error.Error.TheVariants.{Io, NoMemory}
-use Rattle.lfs_tree.specs.SettledFiles.{ChangesOnlyBlockMap}
+use Rattle.lfs_tree.specs.SettledFiles.{ChangesOnlyMap}
 use Rattle.lfs_tree.specs.ThreadContents.{ReportsFaultOrNoMemory}
-use Rattle.lfs_model.specs.Frame.{LeavesUnrelatedBlocksUnchanged}
-use Rattle.lfs_model.specs.Thread.{pair_count_before_root, blocks_of_two_pair_addresses}
-use Rattle.lfs_model.specs.TreeEdits.{tree_after_rename, path_without_prefix}
-use Rattle.lfs_model.specs.InDirectory.{IsPlaceOfNameInDirectory}
-use Rattle.lfs_model.specs.Names.{Name}
-use Rattle.lfs_model.specs.Operations as ops
-use Rattle.lfs_model.specs.Slots.{Struct}
-use Rattle.lfs_model.specs.Tree.{Path, branch_address_of_struct}
-use Rattle.lfs_model.specs.Shown.{tree_on_disk}
-use Rattle.lfs_model.proofs.Committed.{IsImageAfterCompletedOperation}
-use Rattle.lfs_operations.specs.Altering.{ChangesOnlyGivenAlteredOrFreeBlocks}
-use Rattle.lfs_operations.specs.Changing.{WritesPairAndTwoFreeBlocks}
-use Rattle.lfs_operations.specs.Dropping.{HasSameBlocksInFlight}
-use Rattle.lfs_operations.specs.Editing.{CanEditEntryOfPair}
-use Rattle.lfs_operations.specs.MovingSteps.{WritesTwoPairsAndTwoFreeBlocks, pair_written_by_second_move_commit, WritesOnlyThreadPairsAndFreeBlocks}
-use Rattle.lfs_operations.specs.MovingAcross.{tree_with_moved_entry}
-use Rattle.lfs_operations.specs.MovingOnto.{CanReplaceFileAcrossPairs, IsFileReplacedAcrossPairs}
-use Rattle.lfs_operations.specs.Ready.{IsImageReadyForChange}
-use Rattle.lfs_operations.specs.Renaming.{CanRenameOntoFileInPair, IsEntryRenamedOntoFileInPair, tree_with_renamed_entry}
+use Rattle.lfs_model.specs.crash.Frame.{LeavesOthers}
+use Rattle.lfs_model.specs.format.Thread.{pair_count_before_root, addresses_blocks}
+use Rattle.lfs_model.specs.session.TreeEdits.{tree_renaming, without_prefix}
+use Rattle.lfs_model.specs.session.InDirectory.{IsPlaceOf}
+use Rattle.lfs_model.specs.format.Names.{Name}
+use Rattle.lfs_model.specs.session.Operations as ops
+use Rattle.lfs_model.specs.format.Slots.{Struct}
+use Rattle.lfs_model.specs.tree.Tree.{Path, branch_address}
+use Rattle.lfs_model.specs.tree.Shown.{tree_on_disk}
+use Rattle.lfs_model.proofs.Committed.{IsCompletion}
+use Rattle.lfs_operations.specs.Altering.{ChangesGiven}
+use Rattle.lfs_operations.specs.Changing.{WritesPairTwo}
+use Rattle.lfs_operations.specs.Dropping.{SameInFlight}
+use Rattle.lfs_operations.specs.Editing.{CanEditIn}
+use Rattle.lfs_operations.specs.MovingSteps.{WritesTwoTwo, second_commit_pair, WritesThreadFree}
+use Rattle.lfs_operations.specs.MovingAcross.{tree_moved}
+use Rattle.lfs_operations.specs.MovingOnto.{CanReplaceFileOver, IsFileReplaced}
+use Rattle.lfs_operations.specs.Ready.{IsReadyImage}
+use Rattle.lfs_operations.specs.Renaming.{CanRenameOnto, IsRenamedOnto, tree_renamed}
 use Rattle.lfs_thread.specs.Kept.{KeptThread, ThreadView}
-use Rattle.lfs_thread.specs.Steps.{thread_pair_at_index}
-use Rattle.lfs_tree.specs.TreeChanges.{SurvivesWithOldOrNewTree}
-use Rattle.lfs_lookup.specs.Entry.{IsStorageOfStruct}
-use Rattle.lfs_tree.specs.Moves.{CanMoveEntry, CanMoveOntoFile, HasMovedEntry, HasMovedOntoFileWithListStillUsed, ThreadWorksOrReportsError}
+use Rattle.lfs_thread.specs.ThreadSteps.{thread_pair_at}
+use Rattle.lfs_tree.specs.TreeChanges.{SurvivesEither}
+use Rattle.lfs_lookup.specs.Entry.{IsStorage}
+use Rattle.lfs_tree.specs.MovedEntries.{CanMoveEntry, CanMoveOntoFile, HasMovedEntry, HasMovedOnto, ThreadWorksOrReportsError}
 use Rattle.lfs_tree.specs.declared.renames_at.RenameSource.{RenameSource}
 use Rattle.lfs_lookup.specs.declared.entry.FileStorage.{FileStorage}
 use Rattle.lfs_lookup.specs.declared.entry.FileStorage.TheVariants as shown
@@ -43,19 +43,19 @@ use Rattle.lfs_tree.proofs.ShiftedSlots.{across_written, apart_across, file_besi
 
 -- what stands there, seen in the directory of another number
 record IsFileAt (t : KeptThread) (first index id : ℕ) (name : Name) (contents : FileStorage) : Type 0 where
-  target : IsPlaceOfNameInDirectory t.pairs first name index id
-  shows : IsStorageOfStruct contents target.stands.slot.struct
+  target : IsPlaceOf t.pairs first name index id
+  shows : IsStorage contents target.stands.slot.struct
 
-file_branch : (c : FileStorage) (s : Struct) → IsStorageOfStruct c s → branch_address_of_struct s ≡ None
-file_branch (shown.Inline len) s h = ap branch_address_of_struct h.1.0
-file_branch (shown.List head size) s h = ap branch_address_of_struct h
+file_branch : (c : FileStorage) (s : Struct) → IsStorage c s → branch_address s ≡ None
+file_branch (shown.Inline len) s h = ap branch_address h.1.0
+file_branch (shown.List head size) s h = ap branch_address h
 
 module _ (t : KeptThread) (from to : Path) (source : RenameSource) (slot : SlotPosition) (contents : FileStorage) (name : Name) (can : CanMoveOntoFile t from to source slot contents name) where
   abbrev shift : CanMoveEntry t from to source name
   shift = can.can
 
   -- the file's slot, as one that may be edited
-  target_edit : CanEditEntryOfPair t slot.pair slot.id
+  target_edit : CanEditIn t slot.pair slot.id
   target_edit = record {
     ready = shift.old.ready;
     path = shift.above;
@@ -76,7 +76,7 @@ module _ (t : KeptThread) (from to : Path) (source : RenameSource) (slot : SlotP
       subst (λ i. IsFileAt t shift.old.first i slot.id name contents) (sym e)
       (subst (λ f. IsFileAt t f slot.pair slot.id name contents) (one_place t from to source slot name shift can.target e) (record { target = can.target; shows = can.shows }))
 
-  pub replace_within : source.slot.pair ≡ slot.pair → CanRenameOntoFileInPair t source.slot.pair source.slot.id slot.id name
+  pub replace_within : source.slot.pair ≡ slot.pair → CanRenameOnto t source.slot.pair source.slot.id slot.id name
   replace_within e =
       let there = file_here e in
       record {
@@ -87,7 +87,7 @@ module _ (t : KeptThread) (from to : Path) (source : RenameSource) (slot : SlotP
         fits = shift.fits;
       }
 
-  within_edit : source.slot.pair ≡ slot.pair → CanEditEntryOfPair t source.slot.pair slot.id
+  within_edit : source.slot.pair ≡ slot.pair → CanEditIn t source.slot.pair slot.id
   within_edit e = record {
     ready = shift.old.ready;
     path = shift.old.path;
@@ -100,17 +100,17 @@ module _ (t : KeptThread) (from to : Path) (source : RenameSource) (slot : SlotP
     logged = shift.logged _;
   }
 
-  pub onto_survives_within : (new : KeptThread) → source.slot.pair ≡ slot.pair → ((rename : CanRenameOntoFileInPair t source.slot.pair source.slot.id slot.id name) → SurvivesWithOldOrNewTree t new (tree_with_renamed_entry t rename.can.path rename.can.name name)) → SurvivesWithOldOrNewTree t new (tree_after_rename from to (tree_on_disk t.disk t.pairs))
+  pub onto_survives_within : (new : KeptThread) → source.slot.pair ≡ slot.pair → ((rename : CanRenameOnto t source.slot.pair source.slot.id slot.id name) → SurvivesEither t new (tree_renamed t rename.can.path rename.can.name name)) → SurvivesEither t new (tree_renaming from to (tree_on_disk t.disk t.pairs))
   unfolding replace_within
   onto_survives_within new e gives = survives_at t new from to _ _ shift.old_is (path_here e) (gives (replace_within e))
 
-  pub onto_within : (new : KeptThread) → source.slot.pair ≡ slot.pair → WritesPairAndTwoFreeBlocks t source.slot.pair new
-      → ((rename : CanRenameOntoFileInPair t source.slot.pair source.slot.id slot.id name) → IsEntryRenamedOntoFileInPair t new rename.can.path rename.can.name name rename.target.stands.slot.struct) → HasMovedOntoFileWithListStillUsed t from to contents new
+  pub onto_within : (new : KeptThread) → source.slot.pair ≡ slot.pair → WritesPairTwo t source.slot.pair new
+      → ((rename : CanRenameOnto t source.slot.pair source.slot.id slot.id name) → IsRenamedOnto t new rename.can.path rename.can.name name rename.target.stands.slot.struct) → HasMovedOnto t from to contents new
   unfolding replace_within within_edit
   onto_within new e w gives =
       let there = file_here e in
       let edit = within_edit e in
-      let is : IsEntryRenamedOntoFileInPair t new shift.old.path shift.old.name name there.target.stands.slot.struct = gives (replace_within e) in
+      let is : IsRenamedOnto t new shift.old.path shift.old.name name there.target.stands.slot.struct = gives (replace_within e) in
       record {
         free = can_free t new source.slot.pair slot.id edit contents there.shows (shape_geometry t new w.writes.shape)
             (file_beside t new source.slot.pair slot.id edit _ w.writes (within_written t from to source name new shift w)) is.now.ready is.once;
@@ -123,7 +123,7 @@ module _ (t : KeptThread) (from to : Path) (source : RenameSource) (slot : SlotP
 
   -- ---- in another pair
 
-  pub replace_apart : source.slot.pair ≢ slot.pair → CanReplaceFileAcrossPairs t source.slot.pair source.slot.id source.first slot.pair slot.id name
+  pub replace_apart : source.slot.pair ≢ slot.pair → CanReplaceFileOver t source.slot.pair source.slot.id source.first slot.pair slot.id name
   replace_apart ne = record {
     old = shift.old;
     begins_old = shift.old_first;
@@ -136,23 +136,23 @@ module _ (t : KeptThread) (from to : Path) (source : RenameSource) (slot : SlotP
     file = file_branch contents can.target.stands.slot.struct can.shows;
     logged = shift.logged _;
     apart = ne;
-    not_beneath = ap₂ path_without_prefix (sym shift.old_is) (sym shift.is) ∙ shift.not_beneath;
+    not_beneath = ap₂ without_prefix (sym shift.old_is) (sym shift.is) ∙ shift.not_beneath;
     fits = shift.fits;
   }
 
-  pub onto_survives_apart : (new : KeptThread) → source.slot.pair ≢ slot.pair → ((rename : CanReplaceFileAcrossPairs t source.slot.pair source.slot.id source.first slot.pair slot.id name) → SurvivesWithOldOrNewTree t new (tree_with_moved_entry t rename.old.path rename.old.name rename.path name))
-      → SurvivesWithOldOrNewTree t new (tree_after_rename from to (tree_on_disk t.disk t.pairs))
+  pub onto_survives_apart : (new : KeptThread) → source.slot.pair ≢ slot.pair → ((rename : CanReplaceFileOver t source.slot.pair source.slot.id source.first slot.pair slot.id name) → SurvivesEither t new (tree_moved t rename.old.path rename.old.name rename.path name))
+      → SurvivesEither t new (tree_renaming from to (tree_on_disk t.disk t.pairs))
   unfolding replace_apart
   onto_survives_apart new ne gives = survives_at t new from to _ _ shift.old_is shift.is (gives (replace_apart ne))
 
   below_target : slot.pair < length t.pairs
   below_target = behind_below t.pairs shift.first slot.pair can.target.pair can.target.rest can.target.place
 
-  pub onto_apart : (new : KeptThread) → source.slot.pair ≢ slot.pair → WritesTwoPairsAndTwoFreeBlocks t (pair_written_by_second_move_commit t source.slot.pair source.first) slot.pair new → ChangesOnlyGivenAlteredOrFreeBlocks t (blocks_of_two_pair_addresses (thread_pair_at_index t source.slot.pair).at (thread_pair_at_index t slot.pair).at) new
-      → ((rename : CanReplaceFileAcrossPairs t source.slot.pair source.slot.id source.first slot.pair slot.id name) → IsFileReplacedAcrossPairs t new rename.old.path rename.old.name rename.path name rename.target.stands.slot.struct) → HasMovedOntoFileWithListStillUsed t from to contents new
+  pub onto_apart : (new : KeptThread) → source.slot.pair ≢ slot.pair → WritesTwoTwo t (second_commit_pair t source.slot.pair source.first) slot.pair new → ChangesGiven t (addresses_blocks (thread_pair_at t source.slot.pair).at (thread_pair_at t slot.pair).at) new
+      → ((rename : CanReplaceFileOver t source.slot.pair source.slot.id source.first slot.pair slot.id name) → IsFileReplaced t new rename.old.path rename.old.name rename.path name rename.target.stands.slot.struct) → HasMovedOnto t from to contents new
   unfolding replace_apart target_edit
   onto_apart new ne w alters gives =
-      let is : IsFileReplacedAcrossPairs t new shift.old.path shift.old.name shift.above name can.target.stands.slot.struct = gives (replace_apart ne) in
+      let is : IsFileReplaced t new shift.old.path shift.old.name shift.above name can.target.stands.slot.struct = gives (replace_apart ne) in
       record {
         free = can_free t new slot.pair slot.id target_edit contents can.shows (shape_geometry t new w.writes.shape)
             (file_beside t new slot.pair slot.id target_edit _ w.writes (across_written t from to source name slot.pair new shift below_target w)) is.now.ready is.once;
@@ -163,25 +163,25 @@ module _ (t : KeptThread) (from to : Path) (source : RenameSource) (slot : SlotP
         alone = spares_two t new from to source name shift slot can.target alters;
       }
 
-  pub onto_writes_apart : (new : KeptThread) → WritesTwoPairsAndTwoFreeBlocks t (pair_written_by_second_move_commit t source.slot.pair source.first) slot.pair new → WritesOnlyThreadPairsAndFreeBlocks t new
+  pub onto_writes_apart : (new : KeptThread) → WritesTwoTwo t (second_commit_pair t source.slot.pair source.first) slot.pair new → WritesThreadFree t new
   onto_writes_apart new w = apart_across t from to source name slot.pair new shift below_target w
 
 -- ---- the file's list is freed behind it
 
-pub onto_done : (t mid new : KeptThread) (from to : Path) (contents : FileStorage) → HasMovedOntoFileWithListStillUsed t from to contents mid → ChangesOnlyBlockMap mid new → IsImageReadyForChange new → HasSameBlocksInFlight mid.map new.map → HasMovedEntry t from to new
+pub onto_done : (t mid new : KeptThread) (from to : Path) (contents : FileStorage) → HasMovedOnto t from to contents mid → ChangesOnlyMap mid new → IsReadyImage new → SameInFlight mid.map new.map → HasMovedEntry t from to new
 onto_done t mid new from to contents is only ready flying = record {
   ready = ready;
   flying = λ b. ((λ h. (is.flying b).0 ((flying b).0 h)), (λ h. (flying b).1 ((is.flying b).1 h)));
   root = ap pair_count_before_root only.pairs ∙ is.root;
   completed = λ s given to_given tree f k.
-      subst (λ ps. IsImageAfterCompletedOperation t.disk t.pairs s (ops.Rename given to_given) new.disk ps) (sym only.pairs)
-      (subst (λ disk. IsImageAfterCompletedOperation t.disk t.pairs s (ops.Rename given to_given) disk mid.pairs) (sym only.disk) (is.completed s given to_given tree f k));
+      subst (λ ps. IsCompletion t.disk t.pairs s (ops.Rename given to_given) new.disk ps) (sym only.pairs)
+      (subst (λ disk. IsCompletion t.disk t.pairs s (ops.Rename given to_given) disk mid.pairs) (sym only.disk) (is.completed s given to_given tree f k));
   alone = λ s given to_given f k.
-      subst (λ ps. LeavesUnrelatedBlocksUnchanged t.disk t.pairs s (ops.Rename given to_given) new.disk ps) (sym only.pairs)
-      (subst (λ disk. LeavesUnrelatedBlocksUnchanged t.disk t.pairs s (ops.Rename given to_given) disk mid.pairs) (sym only.disk) (is.alone s given to_given f k));
+      subst (λ ps. LeavesOthers t.disk t.pairs s (ops.Rename given to_given) new.disk ps) (sym only.pairs)
+      (subst (λ disk. LeavesOthers t.disk t.pairs s (ops.Rename given to_given) disk mid.pairs) (sym only.disk) (is.alone s given to_given f k));
 }
 
-pub apart_then : (t mid new : KeptThread) → WritesOnlyThreadPairsAndFreeBlocks t mid → ChangesOnlyBlockMap mid new → WritesOnlyThreadPairsAndFreeBlocks t new
+pub apart_then : (t mid new : KeptThread) → WritesThreadFree t mid → ChangesOnlyMap mid new → WritesThreadFree t new
 apart_then t mid new w only = record { blocks = w.blocks; writes = writes_then t mid new w.blocks w.writes only; each = w.each }
 
 pub reported_then : {X Y : Type 0} (old mid new : ThreadView) (x : X) (result : Result X Error) (given : Result Y Error) → result ≡ Ok x → ThreadWorksOrReportsError old mid result → new.failed ≡ is_err given → ReportsFaultOrNoMemory mid.kept new.kept given → ThreadWorksOrReportsError old new given
@@ -209,7 +209,7 @@ reported_of {X} {Y} old new e result given is same t = record {
     error_is : {Z : Type 0} (a b : Error) (r : Result Z Error) → r ≡ Err a → r ≡ Err b → a ≡ b
     error_is a b r h k = cc
 
-pub onto_survives : (t mid new : KeptThread) (from to : Path) (contents : FileStorage) → WritesOnlyThreadPairsAndFreeBlocks t mid → HasMovedOntoFileWithListStillUsed t from to contents mid → ChangesOnlyBlockMap mid new → SurvivesWithOldOrNewTree t mid (tree_after_rename from to (tree_on_disk t.disk t.pairs))
-    → SurvivesWithOldOrNewTree t new (tree_after_rename from to (tree_on_disk t.disk t.pairs))
+pub onto_survives : (t mid new : KeptThread) (from to : Path) (contents : FileStorage) → WritesThreadFree t mid → HasMovedOnto t from to contents mid → ChangesOnlyMap mid new → SurvivesEither t mid (tree_renaming from to (tree_on_disk t.disk t.pairs))
+    → SurvivesEither t new (tree_renaming from to (tree_on_disk t.disk t.pairs))
 onto_survives t mid new from to contents w is only k =
-    survives_left t mid new.history (tree_after_rename from to (tree_on_disk t.disk t.pairs)) (shape_geometry t mid w.writes.shape) w.writes.at_worst is.free.ready.accepted is.free.ready.writable is.shows only.reads k
+    survives_left t mid new.history (tree_renaming from to (tree_on_disk t.disk t.pairs)) (shape_geometry t mid w.writes.shape) w.writes.at_worst is.free.ready.accepted is.free.ready.writable is.shows only.reads k

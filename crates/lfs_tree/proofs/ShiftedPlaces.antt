@@ -1,17 +1,17 @@
 -- An entry that takes the place of another one, whose slot is of the same pair.
 use Rattle.std.proofs.Common.{◌≡◌, ◌≢◌, ◌∙◌, ◌++◌, [], ◌∷◌, append-nil, Some, None, sym, ap, subst}
-use Rattle.lfs_model.specs.TreeEdits.{path_without_prefix}
-use Rattle.lfs_model.specs.InDirectory.{IsPairOfDirectory, IsPlaceOfNameInDirectory}
-use Rattle.lfs_model.specs.Names.{Name}
-use Rattle.lfs_model.specs.Tree.{Path}
+use Rattle.lfs_model.specs.session.TreeEdits.{without_prefix}
+use Rattle.lfs_model.specs.session.InDirectory.{IsPairOfDirectory, IsPlaceOf}
+use Rattle.lfs_model.specs.format.Names.{Name}
+use Rattle.lfs_model.specs.tree.Tree.{Path}
 use Rattle.lfs_model.proofs.Paths.{rest_itself}
 use Rattle.lfs_thread.specs.Kept.{KeptThread}
-use Rattle.lfs_tree.specs.Moves.{CanMoveEntry}
+use Rattle.lfs_tree.specs.MovedEntries.{CanMoveEntry}
 use Rattle.lfs_tree.specs.declared.renames_at.RenameSource.{RenameSource}
 use Rattle.lfs_lookup.specs.declared.search.SlotPosition.{SlotPosition}
 use Rattle.lfs_tree.proofs.SameDirectory.{same_above, same_first}
 
-module _ (t : KeptThread) (from to : Path) (source : RenameSource) (slot : SlotPosition) (name : Name) (can : CanMoveEntry t from to source name) (target : IsPlaceOfNameInDirectory t.pairs can.first name slot.pair slot.id) (e : source.slot.pair ≡ slot.pair) where
+module _ (t : KeptThread) (from to : Path) (source : RenameSource) (slot : SlotPosition) (name : Name) (can : CanMoveEntry t from to source name) (target : IsPlaceOf t.pairs can.first name slot.pair slot.id) (e : source.slot.pair ≡ slot.pair) where
   pub one_place : can.first ≡ can.old.first
   one_place = same_first t.disk t.pairs can.above can.old.path can.on.at can.old.at can.first can.old.first slot.pair target.pair can.old.stands.pair target.rest can.old.stands.rest
       can.old.ready.accepted can.on.leads can.on.begins can.old.leads can.old.begins target.place
@@ -25,6 +25,6 @@ module _ (t : KeptThread) (from to : Path) (source : RenameSource) (slot : SlotP
 
   pub other_name : name ≢ can.old.name
   other_name same =
-      let k : path_without_prefix from from ≡ None = subst (λ p. path_without_prefix from p ≡ None) (target_path ∙ ap (λ n. can.old.path ++ n ∷ []) same ∙ sym can.old_is) can.not_beneath in
-      let l : path_without_prefix from from ≡ Some [] = ap (path_without_prefix from) (sym (append-nil from)) ∙ rest_itself from [] in
+      let k : without_prefix from from ≡ None = subst (λ p. without_prefix from p ≡ None) (target_path ∙ ap (λ n. can.old.path ++ n ∷ []) same ∙ sym can.old_is) can.not_beneath in
+      let l : without_prefix from from ≡ Some [] = ap (without_prefix from) (sym (append-nil from)) ∙ rest_itself from [] in
       absurd (let z = sym k ∙ l in cc)

@@ -6,35 +6,35 @@ use Rattle.std.proofs.lemmas.List.Elements.{All-from_recursion}
 use Rattle.std.proofs.lemmas.Option.{same_Some}
 use Rattle.lfs_device.specs.declared.error.Error.{Error}
 use Rattle.lfs_device.specs.declared.error.Error.TheVariants.{Io, NoMemory, NoSpace}
-use Rattle.lfs_model.specs.TreeEdits.{tree_after_rename, path_without_prefix}
-use Rattle.lfs_model.specs.BlockSets.{IsBlockFree, IsBlockMarkedUsedInMap}
-use Rattle.lfs_model.specs.BlockSets.BlockState.{Free, Used}
-use Rattle.lfs_model.specs.Changes.{PairContentChange}
-use Rattle.lfs_model.specs.Disk.{block_bytes_on_disk}
-use Rattle.lfs_model.specs.InDirectory.{IsPlaceWhereNameBelongs, IsPairOfDirectory}
-use Rattle.lfs_model.specs.Names.{Name}
-use Rattle.lfs_model.specs.Slots.{Slot}
-use Rattle.lfs_model.specs.Thread.{blocks_of_pairs, blocks_of_pair_address}
-use Rattle.lfs_model.specs.Tree.{Path}
-use Rattle.lfs_model.specs.Shown.{all_slots_not_moved, skip_list_blocks_of_struct, tree_on_disk, used_blocks}
-use Rattle.lfs_model.proofs.BlockSets.{Contains-occurrence_count_of_number, occurrence_count_of_number-Contains}
-use Rattle.lfs_model.proofs.Counts.{Each, occurrence_count_of_number, count_append, each_from_counted, each_weaker}
-use Rattle.lfs_model.proofs.Files.{HasSameFileBlocksOfStructOnDisks}
-use Rattle.lfs_model.proofs.Splices.{file_blocks_of_slots}
-use Rattle.lfs_operations.specs.Altering.{ChangesOnlyGivenAlteredOrFreeBlocks}
-use Rattle.lfs_operations.specs.Changing.{HasTwoFreeBlocks, WritesPairAndTwoFreeBlocks, has_thread_failed_after_result}
-use Rattle.lfs_operations.specs.Editing.{CanEditEntryOfPair, slot_of_editable_entry}
-use Rattle.lfs_operations.specs.Making.{HasSoManyFreeBlocks}
-use Rattle.lfs_operations.specs.MoveEnds.{pair_written_at_move_end}
-use Rattle.lfs_operations.specs.MovingSteps.{ReportsErrorsOfCommitsTakingBlocks, WritesTwoPairsAndTwoFreeBlocks, pair_written_by_second_move_commit, WritesOnlyThreadPairsAndFreeBlocks}
-use Rattle.lfs_operations.specs.MovingAcross.{CanRenameAcrossPairs, IsEntryRenamedAcrossPairs, tree_with_moved_entry}
-use Rattle.lfs_operations.specs.Ready.{IsImageReadyForChange, IsImageReadyOnceMapIsUpdated}
-use Rattle.lfs_operations.specs.Removing.{is_pair_dropped_with_slot}
-use Rattle.lfs_operations.specs.Renaming.{CanRenameWithinPair, IsEntryRenamedInPair, ReportsErrorsOfReadThenChangeOrSplit, tree_with_renamed_entry}
+use Rattle.lfs_model.specs.session.TreeEdits.{tree_renaming, without_prefix}
+use Rattle.lfs_model.specs.layers.BlockSets.{IsFree, IsUsedBlock}
+use Rattle.lfs_model.specs.layers.BlockSets.BlockState.{Free, Used}
+use Rattle.lfs_model.specs.layers.Changes.{PairChange}
+use Rattle.lfs_model.specs.format.Disk.{disk_block}
+use Rattle.lfs_model.specs.session.InDirectory.{BelongsAt, IsPairOfDirectory}
+use Rattle.lfs_model.specs.format.Names.{Name}
+use Rattle.lfs_model.specs.format.Slots.{Slot}
+use Rattle.lfs_model.specs.format.Thread.{blocks_of_pairs, address_blocks}
+use Rattle.lfs_model.specs.tree.Tree.{Path}
+use Rattle.lfs_model.specs.tree.Shown.{all_slots_not_moved, struct_blocks, tree_on_disk, used_blocks}
+use Rattle.lfs_model.proofs.BlockSets.{Contains-number_count, number_count-Contains}
+use Rattle.lfs_model.proofs.Counts.{Each, number_count, count_append, each_from_counted, each_weaker}
+use Rattle.lfs_model.proofs.Files.{SameFileBlocks}
+use Rattle.lfs_model.proofs.Splices.{file_blocks}
+use Rattle.lfs_operations.specs.Altering.{ChangesGiven}
+use Rattle.lfs_operations.specs.Changing.{HasTwoFree, WritesPairTwo, has_failed_after}
+use Rattle.lfs_operations.specs.Editing.{CanEditIn, editable_slot}
+use Rattle.lfs_operations.specs.Making.{HasFreeBlocks}
+use Rattle.lfs_operations.specs.MoveEnds.{written_at_end}
+use Rattle.lfs_operations.specs.MovingSteps.{ReportsErrorsOfCommitsTakingBlocks, WritesTwoTwo, second_commit_pair, WritesThreadFree}
+use Rattle.lfs_operations.specs.MovingAcross.{CanRenameAcross, IsRenamedAcross, tree_moved}
+use Rattle.lfs_operations.specs.Ready.{IsReadyImage, IsReadyUpdated}
+use Rattle.lfs_operations.specs.Removing.{drops_with_its_slot}
+use Rattle.lfs_operations.specs.Renaming.{CanRenameWithin, IsRenamedWithin, ReportsErrorsOfReadThenChangeOrSplit, tree_renamed}
 use Rattle.lfs_thread.specs.Kept.{KeptThread, ThreadView}
-use Rattle.lfs_thread.specs.Steps.{ThreadChangesOnlyTheseBlocks, thread_pair_at_index}
-use Rattle.lfs_tree.specs.TreeChanges.{SurvivesWithOldOrNewTree}
-use Rattle.lfs_tree.specs.Moves.{CanMoveEntry, CanMoveToVacantPath, HasMovedEntry, ThreadWorksOrReportsError}
+use Rattle.lfs_thread.specs.ThreadSteps.{ChangesThreadBlocks, thread_pair_at}
+use Rattle.lfs_tree.specs.TreeChanges.{SurvivesEither}
+use Rattle.lfs_tree.specs.MovedEntries.{CanMoveEntry, CanMoveToVacant, HasMovedEntry, ThreadWorksOrReportsError}
 use Rattle.lfs_tree.specs.declared.renames_at.RenameSource.{RenameSource}
 use Rattle.lfs_lookup.specs.declared.search.SlotPosition.{SlotPosition}
 use Rattle.lfs_tree.proofs.Carried.{among_one, among_two, behind_below, pair_blocks}
@@ -56,18 +56,18 @@ if_both (Ok x) h k f = f h k
 if_both (Err e) h k f = tt
 
 -- there was room, so NoSpace doesn't come
-reported_errors : {X : Type 0} (old : KeptThread) (r : Result X Error) → HasSoManyFreeBlocks 2 old.map → ((r ≡ Err NoSpace) → (HasTwoFreeBlocks old.map → ⊥)) → IfErr r (λ e. (e ≡ Io) ⊎ ((e ≡ NoMemory) ⊎ (e ≡ NoSpace))) → IfErr r (λ e. (e ≡ Io) ⊎ (e ≡ NoMemory))
+reported_errors : {X : Type 0} (old : KeptThread) (r : Result X Error) → HasFreeBlocks 2 old.map → ((r ≡ Err NoSpace) → (HasTwoFree old.map → ⊥)) → IfErr r (λ e. (e ≡ Io) ⊎ ((e ≡ NoMemory) ⊎ (e ≡ NoSpace))) → IfErr r (λ e. (e ≡ Io) ⊎ (e ≡ NoMemory))
 reported_errors old (Ok x) room none h = tt
 reported_errors old (Err e) room none (inl io) = inl io
 reported_errors old (Err e) room none (inr (inl memory)) = inr memory
 reported_errors old (Err e) room none (inr (inr space)) = absurd (no_room old.map room (none (ap Err space)))
 
-works_on : {X : Type 0} (new : ThreadView) (P : Type 0) (r : Result X Error) → (new.failed ≡ has_thread_failed_after_result r) ⊎ ((new.failed ≡ false) × P) → OnOk r (new.failed ≡ false)
+works_on : {X : Type 0} (new : ThreadView) (P : Type 0) (r : Result X Error) → (new.failed ≡ has_failed_after r) ⊎ ((new.failed ≡ false) × P) → OnOk r (new.failed ≡ false)
 works_on new P (Ok x) (inl h) = h
 works_on new P (Ok x) (inr h) = h.0
 works_on new P (Err e) h = tt
 
-pub reported_within : {X : Type 0} (old new : ThreadView) (index : ℕ) (changes : List PairContentChange) (r : Result X Error) → HasSoManyFreeBlocks 2 old.kept.map → ReportsErrorsOfReadThenChangeOrSplit old new index changes r → ThreadWorksOrReportsError old new r
+pub reported_within : {X : Type 0} (old new : ThreadView) (index : ℕ) (changes : List PairChange) (r : Result X Error) → HasFreeBlocks 2 old.kept.map → ReportsErrorsOfReadThenChangeOrSplit old new index changes r → ThreadWorksOrReportsError old new r
 reported_within old new index changes r room t = record {
   works = works_on new _ r t.failed;
   errors = reported_errors old.kept r room t.reports.no_space t.reports.errors;
@@ -75,7 +75,7 @@ reported_within old new index changes r room t = record {
   no_fault = t.reports.no_fault;
 }
 
-pub reported_across : {X : Type 0} (old new : ThreadView) (index : ℕ) (changes : List PairContentChange) (r : Result X Error) → HasSoManyFreeBlocks 2 old.kept.map → ReportsErrorsOfCommitsTakingBlocks old new index changes r → ThreadWorksOrReportsError old new r
+pub reported_across : {X : Type 0} (old new : ThreadView) (index : ℕ) (changes : List PairChange) (r : Result X Error) → HasFreeBlocks 2 old.kept.map → ReportsErrorsOfCommitsTakingBlocks old new index changes r → ThreadWorksOrReportsError old new r
 reported_across old new index changes r room t = record {
   works = works_on new _ r t.failed;
   errors = reported_errors old.kept r room t.no_space t.errors;
@@ -85,7 +85,7 @@ reported_across old new index changes r room t = record {
 
 -- ---- which blocks are written
 
-pub apart_within : (t : KeptThread) (from to : Path) (source : RenameSource) (name : Name) (new : KeptThread) → CanMoveEntry t from to source name → WritesPairAndTwoFreeBlocks t source.slot.pair new → WritesOnlyThreadPairsAndFreeBlocks t new
+pub apart_within : (t : KeptThread) (from to : Path) (source : RenameSource) (name : Name) (new : KeptThread) → CanMoveEntry t from to source name → WritesPairTwo t source.slot.pair new → WritesThreadFree t new
 apart_within t from to source name new can w = record {
   blocks = _;
   writes = w.writes;
@@ -93,70 +93,70 @@ apart_within t from to source name new can w = record {
 }
 
 -- a pair's two blocks
-in_pair : (t : KeptThread) (index : ℕ) → index < length t.pairs → (1 ≤ occurrence_count_of_number (thread_pair_at_index t index).at.0 (blocks_of_pairs t.pairs)) × (1 ≤ occurrence_count_of_number (thread_pair_at_index t index).at.1 (blocks_of_pairs t.pairs))
+in_pair : (t : KeptThread) (index : ℕ) → index < length t.pairs → (1 ≤ number_count (thread_pair_at t index).at.0 (blocks_of_pairs t.pairs)) × (1 ≤ number_count (thread_pair_at t index).at.1 (blocks_of_pairs t.pairs))
 in_pair t index below =
-    let k = pair_blocks t.pairs index below in (occurrence_count_of_number-Contains (blocks_of_pairs t.pairs) (thread_pair_at_index t index).at.0 k.0, occurrence_count_of_number-Contains (blocks_of_pairs t.pairs) (thread_pair_at_index t index).at.1 k.1)
+    let k = pair_blocks t.pairs index below in (number_count-Contains (blocks_of_pairs t.pairs) (thread_pair_at t index).at.0 k.0, number_count-Contains (blocks_of_pairs t.pairs) (thread_pair_at t index).at.1 k.1)
 
 -- a pair's, or free
 abbrev pub IsBeside : KeptThread → ℕ → Type 0
-IsBeside t c = (1 ≤ occurrence_count_of_number c (blocks_of_pairs t.pairs)) ⊎ IsBlockFree t.map c
+IsBeside t c = (1 ≤ number_count c (blocks_of_pairs t.pairs)) ⊎ IsFree t.map c
 
-all_free : (t : KeptThread) (fresh : List ℕ) → AllByRecursion (IsBlockFree t.map) fresh → Each (IsBeside t) fresh
-all_free t fresh h = each_weaker (IsBlockFree t.map) (IsBeside t) (λ c f. inr f) fresh h
+all_free : (t : KeptThread) (fresh : List ℕ) → AllByRecursion (IsFree t.map) fresh → Each (IsBeside t) fresh
+all_free t fresh h = each_weaker (IsFree t.map) (IsBeside t) (λ c f. inr f) fresh h
 
 source_below : (t : KeptThread) (from to : Path) (source : RenameSource) (name : Name) → CanMoveEntry t from to source name → source.slot.pair < length t.pairs
 source_below t from to source name can = behind_below t.pairs can.old.first source.slot.pair can.old.stands.pair can.old.stands.rest can.old.stands.place
 
-pub within_written : (t : KeptThread) (from to : Path) (source : RenameSource) (name : Name) (new : KeptThread) → CanMoveEntry t from to source name → (w : WritesPairAndTwoFreeBlocks t source.slot.pair new)
-    → Each (IsBeside t) ((thread_pair_at_index t source.slot.pair).at.0 ∷ (thread_pair_at_index t source.slot.pair).at.1 ∷ w.fresh)
+pub within_written : (t : KeptThread) (from to : Path) (source : RenameSource) (name : Name) (new : KeptThread) → CanMoveEntry t from to source name → (w : WritesPairTwo t source.slot.pair new)
+    → Each (IsBeside t) ((thread_pair_at t source.slot.pair).at.0 ∷ (thread_pair_at t source.slot.pair).at.1 ∷ w.fresh)
 within_written t from to source name new can w = let k = in_pair t source.slot.pair (source_below t from to source name can) in (inl k.0, (inl k.1, all_free t w.fresh w.free))
 
 -- the pair that the second step writes
-left_below : (t : KeptThread) (index first : ℕ) → index < length t.pairs → pair_written_by_second_move_commit t index first < length t.pairs
-left_below t index first below = go (is_pair_dropped_with_slot t index first)
+left_below : (t : KeptThread) (index first : ℕ) → index < length t.pairs → second_commit_pair t index first < length t.pairs
+left_below t index first below = go (drops_with_its_slot t index first)
   where
-    go : (b : Bool) → pair_written_at_move_end index b < length t.pairs
+    go : (b : Bool) → written_at_end index b < length t.pairs
     go true = omega arith
     go false = below
 
-pub across_written : (t : KeptThread) (from to : Path) (source : RenameSource) (name : Name) (other : ℕ) (new : KeptThread) → CanMoveEntry t from to source name → other < length t.pairs → (w : WritesTwoPairsAndTwoFreeBlocks t (pair_written_by_second_move_commit t source.slot.pair source.first) other new)
-    → (let one = pair_written_by_second_move_commit t source.slot.pair source.first in Each (IsBeside t) ((thread_pair_at_index t other).at.0 ∷ (thread_pair_at_index t other).at.1 ∷ (thread_pair_at_index t one).at.0 ∷ (thread_pair_at_index t one).at.1 ∷ w.fresh))
+pub across_written : (t : KeptThread) (from to : Path) (source : RenameSource) (name : Name) (other : ℕ) (new : KeptThread) → CanMoveEntry t from to source name → other < length t.pairs → (w : WritesTwoTwo t (second_commit_pair t source.slot.pair source.first) other new)
+    → (let one = second_commit_pair t source.slot.pair source.first in Each (IsBeside t) ((thread_pair_at t other).at.0 ∷ (thread_pair_at t other).at.1 ∷ (thread_pair_at t one).at.0 ∷ (thread_pair_at t one).at.1 ∷ w.fresh))
 across_written t from to source name other new can below w =
     let k = in_pair t other below in
-    let l = in_pair t (pair_written_by_second_move_commit t source.slot.pair source.first) (left_below t source.slot.pair source.first (source_below t from to source name can)) in
+    let l = in_pair t (second_commit_pair t source.slot.pair source.first) (left_below t source.slot.pair source.first (source_below t from to source name can)) in
     (inl k.0, (inl k.1, (inl l.0, (inl l.1, all_free t w.fresh w.free))))
 
-pub apart_across : (t : KeptThread) (from to : Path) (source : RenameSource) (name : Name) (other : ℕ) (new : KeptThread) → CanMoveEntry t from to source name → other < length t.pairs → WritesTwoPairsAndTwoFreeBlocks t (pair_written_by_second_move_commit t source.slot.pair source.first) other new → WritesOnlyThreadPairsAndFreeBlocks t new
+pub apart_across : (t : KeptThread) (from to : Path) (source : RenameSource) (name : Name) (other : ℕ) (new : KeptThread) → CanMoveEntry t from to source name → other < length t.pairs → WritesTwoTwo t (second_commit_pair t source.slot.pair source.first) other new → WritesThreadFree t new
 apart_across t from to source name other new can below w = record {
   blocks = _;
   writes = w.writes;
-  each = among_two t other (pair_written_by_second_move_commit t source.slot.pair source.first) w.fresh below (left_below t source.slot.pair source.first (source_below t from to source name can)) w.free;
+  each = among_two t other (second_commit_pair t source.slot.pair source.first) w.fresh below (left_below t source.slot.pair source.first (source_below t from to source name can)) w.free;
 }
 
 -- none of them is a file's
-file_used : (t : KeptThread) (index id : ℕ) (can : CanEditEntryOfPair t index id) (b : ℕ) → 1 ≤ occurrence_count_of_number b (skip_list_blocks_of_struct t.disk (slot_of_editable_entry can).struct) → IsBlockMarkedUsedInMap t.map b
+file_used : (t : KeptThread) (index id : ℕ) (can : CanEditIn t index id) (b : ℕ) → 1 ≤ number_count b (struct_blocks t.disk (editable_slot can).struct) → IsUsedBlock t.map b
 file_used t index id can b some =
-    let l = each_here (λ (s : Slot). occurrence_count_of_number b (skip_list_blocks_of_struct t.disk s.struct) ≤ occurrence_count_of_number b (file_blocks_of_slots t.disk (all_slots_not_moved t.pairs))) t index id can (among_files b t.disk (all_slots_not_moved t.pairs)) in
-    let e = count_append b (blocks_of_pairs t.pairs) (file_blocks_of_slots t.disk (all_slots_not_moved t.pairs)) in
-    (can.ready.used b).1 (Contains-occurrence_count_of_number (used_blocks t.disk t.pairs) b (omega (arith, l, e, some)))
+    let l = each_here (λ (s : Slot). number_count b (struct_blocks t.disk s.struct) ≤ number_count b (file_blocks t.disk (all_slots_not_moved t.pairs))) t index id can (among_files b t.disk (all_slots_not_moved t.pairs)) in
+    let e = count_append b (blocks_of_pairs t.pairs) (file_blocks t.disk (all_slots_not_moved t.pairs)) in
+    (can.ready.used b).1 (Contains-number_count (used_blocks t.disk t.pairs) b (omega (arith, l, e, some)))
 
-pub file_beside : (t new : KeptThread) (index id : ℕ) (can : CanEditEntryOfPair t index id) (bs : List ℕ) → ThreadChangesOnlyTheseBlocks bs t new → Each (IsBeside t) bs → HasSameFileBlocksOfStructOnDisks t.disk new.disk (slot_of_editable_entry can).struct
-file_beside t new index id can bs w beside = each_from_counted (λ b. block_bytes_on_disk new.disk b ≡ block_bytes_on_disk t.disk b) (skip_list_blocks_of_struct t.disk (slot_of_editable_entry can).struct)
+pub file_beside : (t new : KeptThread) (index id : ℕ) (can : CanEditIn t index id) (bs : List ℕ) → ChangesThreadBlocks bs t new → Each (IsBeside t) bs → SameFileBlocks t.disk new.disk (editable_slot can).struct
+file_beside t new index id can bs w beside = each_from_counted (λ b. disk_block new.disk b ≡ disk_block t.disk b) (struct_blocks t.disk (editable_slot can).struct)
     (λ b some. w.others.others b (All-from_recursion (λ c. c ≢ b) bs (each_weaker (IsBeside t) (λ c. c ≢ b) (other b some) bs beside)))
   where
-    other : (b : ℕ) → 1 ≤ occurrence_count_of_number b (skip_list_blocks_of_struct t.disk (slot_of_editable_entry can).struct) → (c : ℕ) → IsBeside t c → c ≢ b
-    other b some c (inl has) e = let k = ap (λ z. occurrence_count_of_number z (blocks_of_pairs t.pairs)) e in let n = apart_from_pairs t index id can b some in absurd (omega (arith, k, n, has))
+    other : (b : ℕ) → 1 ≤ number_count b (struct_blocks t.disk (editable_slot can).struct) → (c : ℕ) → IsBeside t c → c ≢ b
+    other b some c (inl has) e = let k = ap (λ z. number_count z (blocks_of_pairs t.pairs)) e in let n = apart_from_pairs t index id can b some in absurd (omega (arith, k, n, has))
     other b some c (inr free) e = let k : Used ≡ Free = same_Some Used Free (sym (file_used t index id can b some) ∙ ap (slice_get t.map) (sym e) ∙ free) in absurd (cc)
 
 -- nothing is gone
-pub none_gone : (t : KeptThread) → IsImageReadyOnceMapIsUpdated t [] [] → IsImageReadyForChange t
+pub none_gone : (t : KeptThread) → IsReadyUpdated t [] [] → IsReadyImage t
 none_gone t r = record {
   accepted = r.accepted;
   writable = r.writable;
   settled = r.settled;
   used = λ b. (
-    (λ h. Contains-occurrence_count_of_number (used_blocks t.disk t.pairs) b (let k = occurrence_count_of_number-Contains r.used.owned b ((r.used.are b).0 h) in let e = r.used.same b in omega (arith, k, e))),
-    (λ h. (r.used.are b).1 (Contains-occurrence_count_of_number r.used.owned b (let k = occurrence_count_of_number-Contains (used_blocks t.disk t.pairs) b h in let e = r.used.same b in omega (arith, k, e)))),
+    (λ h. Contains-number_count (used_blocks t.disk t.pairs) b (let k = number_count-Contains r.used.owned b ((r.used.are b).0 h) in let e = r.used.same b in omega (arith, k, e))),
+    (λ h. (r.used.are b).1 (Contains-number_count r.used.owned b (let k = number_count-Contains (used_blocks t.disk t.pairs) b h in let e = r.used.same b in omega (arith, k, e)))),
   );
   size = r.size;
   large = r.large;
@@ -164,16 +164,16 @@ none_gone t r = record {
 
 -- ---- paths
 
-pub survives_at : (t new : KeptThread) (from to p q : Path) → from ≡ p → to ≡ q → SurvivesWithOldOrNewTree t new (tree_after_rename p q (tree_on_disk t.disk t.pairs)) → SurvivesWithOldOrNewTree t new (tree_after_rename from to (tree_on_disk t.disk t.pairs))
+pub survives_at : (t new : KeptThread) (from to p q : Path) → from ≡ p → to ≡ q → SurvivesEither t new (tree_renaming p q (tree_on_disk t.disk t.pairs)) → SurvivesEither t new (tree_renaming from to (tree_on_disk t.disk t.pairs))
 survives_at t new from to p q e f k =
-    subst (λ z. SurvivesWithOldOrNewTree t new (tree_after_rename z to (tree_on_disk t.disk t.pairs))) (sym e) (subst (λ z. SurvivesWithOldOrNewTree t new (tree_after_rename p z (tree_on_disk t.disk t.pairs))) (sym f) k)
+    subst (λ z. SurvivesEither t new (tree_renaming z to (tree_on_disk t.disk t.pairs))) (sym e) (subst (λ z. SurvivesEither t new (tree_renaming p z (tree_on_disk t.disk t.pairs))) (sym f) k)
 
-pub shows_at : (t new : KeptThread) (from to p q : Path) → from ≡ p → to ≡ q → tree_on_disk new.disk new.pairs ≡ tree_after_rename p q (tree_on_disk t.disk t.pairs) → tree_on_disk new.disk new.pairs ≡ tree_after_rename from to (tree_on_disk t.disk t.pairs)
-shows_at t new from to p q e f k = k ∙ ap₂ (λ a b. tree_after_rename a b (tree_on_disk t.disk t.pairs)) (sym e) (sym f)
+pub shows_at : (t new : KeptThread) (from to p q : Path) → from ≡ p → to ≡ q → tree_on_disk new.disk new.pairs ≡ tree_renaming p q (tree_on_disk t.disk t.pairs) → tree_on_disk new.disk new.pairs ≡ tree_renaming from to (tree_on_disk t.disk t.pairs)
+shows_at t new from to p q e f k = k ∙ ap₂ (λ a b. tree_renaming a b (tree_on_disk t.disk t.pairs)) (sym e) (sym f)
 
 -- ---- a name that isn't there
 
-module _ (t : KeptThread) (from to : Path) (source : RenameSource) (place : SlotPosition) (name : Name) (can : CanMoveToVacantPath t from to source place name) where
+module _ (t : KeptThread) (from to : Path) (source : RenameSource) (place : SlotPosition) (name : Name) (can : CanMoveToVacant t from to source place name) where
   abbrev shift : CanMoveEntry t from to source name
   shift = can.can
 
@@ -182,10 +182,10 @@ module _ (t : KeptThread) (from to : Path) (source : RenameSource) (place : Slot
       shift.old.ready.accepted shift.on.leads shift.on.begins shift.old.leads shift.old.begins can.belongs.place
       (subst (λ i. IsPairOfDirectory t.pairs shift.old.first i shift.old.stands.pair shift.old.stands.rest) e shift.old.stands.place)
 
-  pub rename_within : source.slot.pair ≡ place.pair → CanRenameWithinPair t source.slot.pair source.slot.id place.id name
+  pub rename_within : source.slot.pair ≡ place.pair → CanRenameWithin t source.slot.pair source.slot.id place.id name
   rename_within e = record {
     can = shift.old;
-    belongs = subst (λ i. IsPlaceWhereNameBelongs t.disk.order t.pairs shift.old.first name i place.id) (sym e) (subst (λ f. IsPlaceWhereNameBelongs t.disk.order t.pairs f name place.pair place.id) (one_directory e) can.belongs);
+    belongs = subst (λ i. BelongsAt t.disk.order t.pairs shift.old.first name i place.id) (sym e) (subst (λ f. BelongsAt t.disk.order t.pairs f name place.pair place.id) (one_directory e) can.belongs);
     is_name = shift.is_name;
     fits = shift.fits;
   }
@@ -194,14 +194,14 @@ module _ (t : KeptThread) (from to : Path) (source : RenameSource) (place : Slot
   path_is e = shift.is ∙ ap (λ p. p ++ name ∷ [])
       (same_above t.disk t.pairs shift.above shift.old.path shift.on.at shift.old.at shift.first shift.old.first shift.old.ready.accepted shift.on.leads shift.on.begins shift.old.leads shift.old.begins (one_directory e))
 
-  pub survives_within : (new : KeptThread) → source.slot.pair ≡ place.pair → ((rename : CanRenameWithinPair t source.slot.pair source.slot.id place.id name) → SurvivesWithOldOrNewTree t new (tree_with_renamed_entry t rename.can.path rename.can.name name)) → SurvivesWithOldOrNewTree t new (tree_after_rename from to (tree_on_disk t.disk t.pairs))
+  pub survives_within : (new : KeptThread) → source.slot.pair ≡ place.pair → ((rename : CanRenameWithin t source.slot.pair source.slot.id place.id name) → SurvivesEither t new (tree_renamed t rename.can.path rename.can.name name)) → SurvivesEither t new (tree_renaming from to (tree_on_disk t.disk t.pairs))
   unfolding rename_within
   survives_within new e gives = survives_at t new from to _ _ shift.old_is (path_is e) (gives (rename_within e))
 
-  pub shifted_within : (new : KeptThread) → source.slot.pair ≡ place.pair → WritesPairAndTwoFreeBlocks t source.slot.pair new → ((rename : CanRenameWithinPair t source.slot.pair source.slot.id place.id name) → IsEntryRenamedInPair t new rename.can.path rename.can.name name) → HasMovedEntry t from to new
+  pub shifted_within : (new : KeptThread) → source.slot.pair ≡ place.pair → WritesPairTwo t source.slot.pair new → ((rename : CanRenameWithin t source.slot.pair source.slot.id place.id name) → IsRenamedWithin t new rename.can.path rename.can.name name) → HasMovedEntry t from to new
   unfolding rename_within
   shifted_within new e w gives =
-      let is : IsEntryRenamedInPair t new shift.old.path shift.old.name name = gives (rename_within e) in
+      let is : IsRenamedWithin t new shift.old.path shift.old.name name = gives (rename_within e) in
       record {
         ready = is.now.ready;
         flying = λ b. (is.now.none_comes b, stay_in_flight t.map new.map is.now.stays b);
@@ -212,7 +212,7 @@ module _ (t : KeptThread) (from to : Path) (source : RenameSource) (place : Slot
 
   -- ---- in another pair
 
-  pub rename_apart : source.slot.pair ≢ place.pair → CanRenameAcrossPairs t source.slot.pair source.slot.id source.first place.pair place.id name
+  pub rename_apart : source.slot.pair ≢ place.pair → CanRenameAcross t source.slot.pair source.slot.id source.first place.pair place.id name
   rename_apart ne = record {
     old = shift.old;
     begins_old = shift.old_first;
@@ -224,21 +224,21 @@ module _ (t : KeptThread) (from to : Path) (source : RenameSource) (place : Slot
     belongs = can.belongs;
     logged = shift.logged _;
     apart = ne;
-    not_beneath = ap₂ path_without_prefix (sym shift.old_is) (sym shift.is) ∙ shift.not_beneath;
+    not_beneath = ap₂ without_prefix (sym shift.old_is) (sym shift.is) ∙ shift.not_beneath;
     is_name = shift.is_name;
     fits = shift.fits;
   }
 
-  pub survives_apart : (new : KeptThread) → source.slot.pair ≢ place.pair → ((rename : CanRenameAcrossPairs t source.slot.pair source.slot.id source.first place.pair place.id name) → SurvivesWithOldOrNewTree t new (tree_with_moved_entry t rename.old.path rename.old.name rename.path name))
-      → SurvivesWithOldOrNewTree t new (tree_after_rename from to (tree_on_disk t.disk t.pairs))
+  pub survives_apart : (new : KeptThread) → source.slot.pair ≢ place.pair → ((rename : CanRenameAcross t source.slot.pair source.slot.id source.first place.pair place.id name) → SurvivesEither t new (tree_moved t rename.old.path rename.old.name rename.path name))
+      → SurvivesEither t new (tree_renaming from to (tree_on_disk t.disk t.pairs))
   unfolding rename_apart
   survives_apart new ne gives = survives_at t new from to _ _ shift.old_is shift.is (gives (rename_apart ne))
 
-  pub shifted_apart : (new : KeptThread) → source.slot.pair ≢ place.pair → ChangesOnlyGivenAlteredOrFreeBlocks t (blocks_of_pair_address (thread_pair_at_index t source.slot.pair).at) new → ((rename : CanRenameAcrossPairs t source.slot.pair source.slot.id source.first place.pair place.id name) → IsEntryRenamedAcrossPairs t new rename.old.path rename.old.name rename.path name)
+  pub shifted_apart : (new : KeptThread) → source.slot.pair ≢ place.pair → ChangesGiven t (address_blocks (thread_pair_at t source.slot.pair).at) new → ((rename : CanRenameAcross t source.slot.pair source.slot.id source.first place.pair place.id name) → IsRenamedAcross t new rename.old.path rename.old.name rename.path name)
       → HasMovedEntry t from to new
   unfolding rename_apart
   shifted_apart new ne alters gives =
-      let is : IsEntryRenamedAcrossPairs t new shift.old.path shift.old.name shift.above name = gives (rename_apart ne) in
+      let is : IsRenamedAcross t new shift.old.path shift.old.name shift.above name = gives (rename_apart ne) in
       record {
         ready = none_gone new is.now.ready;
         flying = is.now.flying;
@@ -247,6 +247,6 @@ module _ (t : KeptThread) (from to : Path) (source : RenameSource) (place : Slot
         alone = spares_one t new from to source name shift alters;
       }
 
-  pub writes_apart : (new : KeptThread) → WritesTwoPairsAndTwoFreeBlocks t (pair_written_by_second_move_commit t source.slot.pair source.first) place.pair new → WritesOnlyThreadPairsAndFreeBlocks t new
+  pub writes_apart : (new : KeptThread) → WritesTwoTwo t (second_commit_pair t source.slot.pair source.first) place.pair new → WritesThreadFree t new
   writes_apart new w = apart_across t from to source name place.pair new shift
       (behind_below t.pairs shift.first place.pair can.belongs.pair _ can.belongs.place) w

@@ -2,41 +2,41 @@
 use Rattle.std.proofs.Common.{◌≡◌, ◌∙◌, List, [], ◌∷◌, ◌++◌, Option, Some, None, refl, sym, ap, subst}
 use Rattle.std.specs.Option.{option_and_then}
 use Rattle.std.proofs.lemmas.Option.{same_Some}
-use Rattle.lfs_model.specs.Disk.{Disk}
-use Rattle.lfs_model.specs.Names.{Name}
-use Rattle.lfs_model.specs.SlotEdits.{slot_of_path}
-use Rattle.lfs_model.specs.Slots.{Slot, Struct, Inline, Ctz, Branch}
-use Rattle.lfs_model.specs.Thread.{Pair, root_directory_address_of_pairs}
-use Rattle.lfs_model.specs.Tree.{Path, branch_address_of_struct, child_slot_of, entry_of_name, root_slot, slot_at_path}
-use Rattle.lfs_model.specs.View.{IsAcceptedImage}
-use Rattle.lfs_model.specs.Shown.{IsPathToDirectory, all_slots_not_moved, entries_by_directory_in_thread}
+use Rattle.lfs_model.specs.format.Disk.{Disk}
+use Rattle.lfs_model.specs.format.Names.{Name}
+use Rattle.lfs_model.specs.session.SlotEdits.{slot_of}
+use Rattle.lfs_model.specs.format.Slots.{Slot, Struct, Inline, Ctz, Branch}
+use Rattle.lfs_model.specs.format.Thread.{Pair, root_address}
+use Rattle.lfs_model.specs.tree.Tree.{Path, branch_address, child_slot, entry_named, root_slot, slot_at_path}
+use Rattle.lfs_model.specs.tree.View.{IsAccepted}
+use Rattle.lfs_model.specs.tree.Shown.{LeadsTo, all_slots_not_moved, all_entries}
 use Rattle.lfs_model.proofs.Counts.{Each}
 use Rattle.lfs_model.proofs.Walks.{walk_on}
 use Rattle.lfs_lookup.proofs.AtPaths.{each_found}
 use Rattle.lfs_lookup.proofs.Visits.{each_entry}
 
-module _ (P : Slot → Type 0) (disk : Disk) (ps : List Pair) (ok : IsAcceptedImage disk ps) (all : Each P (all_slots_not_moved ps)) where
-  child_has : (above : Path) (s c : Slot) (n : Name) → slot_of_path ps above ≡ Some s → child_slot_of (entries_by_directory_in_thread ps) s n ≡ Some c → P c
+module _ (P : Slot → Type 0) (disk : Disk) (ps : List Pair) (ok : IsAccepted disk ps) (all : Each P (all_slots_not_moved ps)) where
+  child_has : (above : Path) (s c : Slot) (n : Name) → slot_of ps above ≡ Some s → child_slot (all_entries ps) s n ≡ Some c → P c
   child_has above s c n at child = go s.struct refl
     where
       go : (x : Struct) → s.struct ≡ x → P c
-      go (Inline bytes) e = absurd (let k = sym (ap (λ z. option_and_then (λ at. entry_of_name n (entries_by_directory_in_thread ps at)) (branch_address_of_struct z)) e) ∙ child in cc)
-      go (Ctz head size) e = absurd (let k = sym (ap (λ z. option_and_then (λ at. entry_of_name n (entries_by_directory_in_thread ps at)) (branch_address_of_struct z)) e) ∙ child in cc)
+      go (Inline bytes) e = absurd (let k = sym (ap (λ z. option_and_then (λ at. entry_named n (all_entries ps at)) (branch_address z)) e) ∙ child in cc)
+      go (Ctz head size) e = absurd (let k = sym (ap (λ z. option_and_then (λ at. entry_named n (all_entries ps at)) (branch_address z)) e) ∙ child in cc)
       go (Branch to) e =
-          let leads : IsPathToDirectory ps above to = ap (λ o. option_and_then (λ (f : Slot). branch_address_of_struct f.struct) o) at ∙ ap branch_address_of_struct e in
-          each_found P n (entries_by_directory_in_thread ps to) c (each_entry P disk ps above to ok leads all)
-          (sym (ap (λ z. option_and_then (λ at. entry_of_name n (entries_by_directory_in_thread ps at)) (branch_address_of_struct z)) e) ∙ child)
+          let leads : LeadsTo ps above to = ap (λ o. option_and_then (λ (f : Slot). branch_address f.struct) o) at ∙ ap branch_address e in
+          each_found P n (all_entries ps to) c (each_entry P disk ps above to ok leads all)
+          (sym (ap (λ z. option_and_then (λ at. entry_named n (all_entries ps at)) (branch_address z)) e) ∙ child)
 
-  below_has : (path above : Path) (s u : Slot) → slot_of_path ps above ≡ Some s → P s → slot_at_path (entries_by_directory_in_thread ps) s path ≡ Some u → P u
+  below_has : (path above : Path) (s u : Slot) → slot_of ps above ≡ Some s → P s → slot_at_path (all_entries ps) s path ≡ Some u → P u
   below_has [] above s u at has e = subst P (same_Some s u e) has
-  below_has (n ∷ path) above s u at has e = go (child_slot_of (entries_by_directory_in_thread ps) s n) refl (λ c k h. below_has path (above ++ n ∷ []) c u
-      (walk_on (entries_by_directory_in_thread ps) (root_slot (root_directory_address_of_pairs ps)) s above (n ∷ []) at ∙ ap (λ o. option_and_then (λ x. slot_at_path (entries_by_directory_in_thread ps) x []) o) k) (child_has above s c n at k) h) e
+  below_has (n ∷ path) above s u at has e = go (child_slot (all_entries ps) s n) refl (λ c k h. below_has path (above ++ n ∷ []) c u
+      (walk_on (all_entries ps) (root_slot (root_address ps)) s above (n ∷ []) at ∙ ap (λ o. option_and_then (λ x. slot_at_path (all_entries ps) x []) o) k) (child_has above s c n at k) h) e
     where
-      go : (o : Option Slot) → child_slot_of (entries_by_directory_in_thread ps) s n ≡ o → ((c : Slot) → child_slot_of (entries_by_directory_in_thread ps) s n ≡ Some c → slot_at_path (entries_by_directory_in_thread ps) c path ≡ Some u → P u)
-          → option_and_then (λ child. slot_at_path (entries_by_directory_in_thread ps) child path) o ≡ Some u → P u
+      go : (o : Option Slot) → child_slot (all_entries ps) s n ≡ o → ((c : Slot) → child_slot (all_entries ps) s n ≡ Some c → slot_at_path (all_entries ps) c path ≡ Some u → P u)
+          → option_and_then (λ child. slot_at_path (all_entries ps) child path) o ≡ Some u → P u
       go None k on h = absurd (cc)
       go (Some c) k on h = on c k h
 
   -- the root's own slot stands in no directory
-  pub slot_has : P (root_slot (root_directory_address_of_pairs ps)) → (path : Path) (u : Slot) → slot_of_path ps path ≡ Some u → P u
-  slot_has root path u e = below_has path [] (root_slot (root_directory_address_of_pairs ps)) u refl root e
+  pub slot_has : P (root_slot (root_address ps)) → (path : Path) (u : Slot) → slot_of ps path ≡ Some u → P u
+  slot_has root path u e = below_has path [] (root_slot (root_address ps)) u refl root e

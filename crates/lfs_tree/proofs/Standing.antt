@@ -4,88 +4,88 @@ use Rattle.std.specs.Prelude.{IfOk}
 use Rattle.lfs_device.specs.declared.error.Error.{Error}
 use Rattle.lfs_device.specs.declared.device.BlockDevice.{Ghosts}
 use Rattle.lfs_device.specs.declared.geometry.Geometry.{Geometry}
-use Rattle.lfs_model.specs.Blocks.{Blocks, HasBlocksOfCountAndSize}
-use Rattle.lfs_model.specs.BlockSets.{BlockStateList, used_count}
-use Rattle.lfs_model.specs.Disk.{Disk}
-use Rattle.lfs_thread.specs.Beside.{DiskHasGeometry, AreDeviceAndMapOfThread}
+use Rattle.lfs_model.specs.format.Blocks.{Blocks, HasBlockSizes}
+use Rattle.lfs_model.specs.layers.BlockSets.{BlockStates, used_count}
+use Rattle.lfs_model.specs.format.Disk.{Disk}
+use Rattle.lfs_thread.specs.Beside.{HasGeometryOf, AreDeviceAndMapOfThread}
 use Rattle.lfs_thread.specs.Kept.{KeptThread}
-use Rattle.lfs_file.specs.Contents.{CanFinishContents, CanTruncateContents, CanWriteContents, HasBlockRoomForTruncation, HasBlockRoomForWrite, AreConsistentContentsWithBytesAndForm, AreContentsConsistentWithMapAndDisk, block_room_for_finish, storage_form_of_contents}
-use Rattle.lfs_file.specs.Form.{ContentsStorageForm}
-use Rattle.lfs_file.specs.BlockOwners.{AreUsedBlocksOfListAmongOwnBlocks, blocks_of_contents}
+use Rattle.lfs_file.specs.Contents.{CanFinishContents, CanTruncateContents, CanWriteContents, HasTruncationRoom, HasWriteRoom, HaveForm, AreSoundContents, finish_room, contents_form}
+use Rattle.lfs_file.specs.Form.{StorageForm}
+use Rattle.lfs_file.specs.BlockOwners.{AreOwn, contents_blocks}
 use Rattle.lfs_file.specs.declared.contents.WriterContents.{WriterContents}
-use Rattle.lfs_tree.specs.ThreadContents.{CanFinishContentsOnThread, CanTruncateContentsOnThread, CanWriteContentsOnThread, AreConsistentContentsWithBytesAndFormOnThread, AreContentsConsistentWithThread, list_blocks_of_contents}
+use Rattle.lfs_tree.specs.ThreadContents.{CanFinish, CanTruncate, CanWrite, HasContents, AreOnThread, contents_list_blocks}
 use Rattle.lfs_file.proofs.ContentsGeometries.{geometry_is}
 
-module _ {D : Type 0} (g : Ghosts D) (t : KeptThread) (device : D) (map : BlockStateList) (shows : AreDeviceAndMapOfThread g t device map)
-    (shape : HasBlocksOfCountAndSize (g.geometry device).block_size (g.geometry device).block_count (g.blocks device)) where
+module _ {D : Type 0} (g : Ghosts D) (t : KeptThread) (device : D) (map : BlockStates) (shows : AreDeviceAndMapOfThread g t device map)
+    (shape : HasBlockSizes (g.geometry device).block_size (g.geometry device).block_count (g.blocks device)) where
   pub blocks_here : g.blocks device ≡ t.disk.blocks
   blocks_here = ap (λ (d : Disk). d.blocks) shows.disk
 
   pub size_here : (g.geometry device).block_size ≡ t.disk.block_size
   size_here = ap (λ (d : Disk). d.block_size) shows.disk
 
-  pub divided_here : DiskHasGeometry (g.geometry device) t.disk
+  pub divided_here : HasGeometryOf (g.geometry device) t.disk
   divided_here = record { block_size = size_here; page = ap (λ (d : Disk). d.page) shows.disk; profile = ap (λ (d : Disk). d.profile) shows.disk; count = sym shape.count ∙ ap length blocks_here }
 
-  pub geometry_here : (x : Geometry) → DiskHasGeometry x t.disk → g.geometry device ≡ x
+  pub geometry_here : (x : Geometry) → HasGeometryOf x t.disk → g.geometry device ≡ x
   geometry_here x of_disk = geometry_is (g.geometry device) x (size_here ∙ sym of_disk.block_size) (divided_here.page ∙ sym of_disk.page) (divided_here.profile ∙ sym of_disk.profile) (divided_here.count ∙ sym of_disk.count)
 
-  pub stands_here : (contents : WriterContents) → AreContentsConsistentWithThread t contents → AreContentsConsistentWithMapAndDisk map (g.blocks device) (g.geometry device) contents
+  pub stands_here : (contents : WriterContents) → AreOnThread t contents → AreSoundContents map (g.blocks device) (g.geometry device) contents
   stands_here contents is =
-      subst (λ (m : BlockStateList). AreContentsConsistentWithMapAndDisk m (g.blocks device) (g.geometry device) contents) (sym shows.map)
-      (subst (λ (d : Blocks). AreContentsConsistentWithMapAndDisk t.map d (g.geometry device) contents) (sym blocks_here)
-      (subst (λ (x : Geometry). AreContentsConsistentWithMapAndDisk t.map t.disk.blocks x contents) (sym (geometry_here is.geometry is.divided)) is.stands))
+      subst (λ (m : BlockStates). AreSoundContents m (g.blocks device) (g.geometry device) contents) (sym shows.map)
+      (subst (λ (d : Blocks). AreSoundContents t.map d (g.geometry device) contents) (sym blocks_here)
+      (subst (λ (x : Geometry). AreSoundContents t.map t.disk.blocks x contents) (sym (geometry_here is.geometry is.divided)) is.stands))
 
   -- contents that a call left there
-  pub holds_here : (x : Geometry) (contents : WriterContents) (bytes : List ℕ) (form : ContentsStorageForm) → x ≡ g.geometry device → AreConsistentContentsWithBytesAndForm map (g.blocks device) x contents bytes form → AreConsistentContentsWithBytesAndFormOnThread t contents bytes form
+  pub holds_here : (x : Geometry) (contents : WriterContents) (bytes : List ℕ) (form : StorageForm) → x ≡ g.geometry device → HaveForm map (g.blocks device) x contents bytes form → HasContents t contents bytes form
   holds_here x contents bytes form is has = record {
     geometry = g.geometry device;
     divided = divided_here;
-    has = subst (λ (y : Geometry). AreConsistentContentsWithBytesAndForm t.map t.disk.blocks y contents bytes form) is
-        (subst (λ (m : BlockStateList). AreConsistentContentsWithBytesAndForm m t.disk.blocks x contents bytes form) shows.map
-        (subst (λ (d : Blocks). AreConsistentContentsWithBytesAndForm map d x contents bytes form) blocks_here has));
+    has = subst (λ (y : Geometry). HaveForm t.map t.disk.blocks y contents bytes form) is
+        (subst (λ (m : BlockStates). HaveForm m t.disk.blocks x contents bytes form) shows.map
+        (subst (λ (d : Blocks). HaveForm map d x contents bytes form) blocks_here has));
   }
 
   -- a write there
-  pub write_here : (contents : WriterContents) (limit place count : ℕ) → CanWriteContentsOnThread t contents limit place count → CanWriteContents map (g.blocks device) (g.geometry device) contents limit place count
+  pub write_here : (contents : WriterContents) (limit place count : ℕ) → CanWrite t contents limit place count → CanWriteContents map (g.blocks device) (g.geometry device) contents limit place count
   write_here contents limit place count can = record {
     stands = stands_here contents can.stands;
-    fits = subst (λ (n : ℕ). HasBlockRoomForWrite map n (storage_form_of_contents contents) limit place count) (sym size_here) (subst (λ (m : BlockStateList). HasBlockRoomForWrite m t.disk.block_size (storage_form_of_contents contents) limit place count) (sym shows.map) can.fits);
+    fits = subst (λ (n : ℕ). HasWriteRoom map n (contents_form contents) limit place count) (sym size_here) (subst (λ (m : BlockStates). HasWriteRoom m t.disk.block_size (contents_form contents) limit place count) (sym shows.map) can.fits);
   }
 
   -- a truncation
-  pub truncate_here : (contents : WriterContents) (limit size : ℕ) → CanTruncateContentsOnThread t contents limit size → CanTruncateContents map (g.blocks device) (g.geometry device) contents limit size
+  pub truncate_here : (contents : WriterContents) (limit size : ℕ) → CanTruncate t contents limit size → CanTruncateContents map (g.blocks device) (g.geometry device) contents limit size
   truncate_here contents limit size can = record {
     stands = stands_here contents can.stands;
-    fits = subst (λ (n : ℕ). HasBlockRoomForTruncation map n (storage_form_of_contents contents) limit size) (sym size_here) (subst (λ (m : BlockStateList). HasBlockRoomForTruncation m t.disk.block_size (storage_form_of_contents contents) limit size) (sym shows.map) can.fits);
+    fits = subst (λ (n : ℕ). HasTruncationRoom map n (contents_form contents) limit size) (sym size_here) (subst (λ (m : BlockStates). HasTruncationRoom m t.disk.block_size (contents_form contents) limit size) (sym shows.map) can.fits);
   }
 
   -- the end of a list in hand
-  pub finish_here : (contents : WriterContents) → CanFinishContentsOnThread t contents → CanFinishContents map (g.blocks device) (g.geometry device) contents
+  pub finish_here : (contents : WriterContents) → CanFinish t contents → CanFinishContents map (g.blocks device) (g.geometry device) contents
   finish_here contents can = record {
     stands = stands_here contents can.stands;
-    room = subst (λ (n : ℕ). used_count map + block_room_for_finish n (storage_form_of_contents contents) ≤ length map) (sym size_here)
-        (subst (λ (m : BlockStateList). used_count m + block_room_for_finish t.disk.block_size (storage_form_of_contents contents) ≤ length m) (sym shows.map) can.room);
+    room = subst (λ (n : ℕ). used_count map + finish_room n (contents_form contents) ≤ length map) (sym size_here)
+        (subst (λ (m : BlockStates). used_count m + finish_room t.disk.block_size (contents_form contents) ≤ length m) (sym shows.map) can.room);
   }
 
 -- what a call answers, seen from the thread
-pub holds_after : {D : Type 0} (g : Ghosts D) (old new : KeptThread) (d e : D) (m n : BlockStateList) → AreDeviceAndMapOfThread g old d m → AreDeviceAndMapOfThread g new e n → HasBlocksOfCountAndSize (g.geometry d).block_size (g.geometry d).block_count (g.blocks d)
-    → HasBlocksOfCountAndSize (g.geometry e).block_size (g.geometry e).block_count (g.blocks e) → g.geometry e ≡ g.geometry d → (bytes : Blocks → ℕ → List ℕ) (form : ContentsStorageForm) (r : Result WriterContents Error)
-    → IfOk r (λ c. AreConsistentContentsWithBytesAndForm n (g.blocks e) (g.geometry d) c (bytes (g.blocks d) (g.geometry d).block_size) form) → IfOk r (λ c. AreConsistentContentsWithBytesAndFormOnThread new c (bytes old.disk.blocks old.disk.block_size) form)
+pub holds_after : {D : Type 0} (g : Ghosts D) (old new : KeptThread) (d e : D) (m n : BlockStates) → AreDeviceAndMapOfThread g old d m → AreDeviceAndMapOfThread g new e n → HasBlockSizes (g.geometry d).block_size (g.geometry d).block_count (g.blocks d)
+    → HasBlockSizes (g.geometry e).block_size (g.geometry e).block_count (g.blocks e) → g.geometry e ≡ g.geometry d → (bytes : Blocks → ℕ → List ℕ) (form : StorageForm) (r : Result WriterContents Error)
+    → IfOk r (λ c. HaveForm n (g.blocks e) (g.geometry d) c (bytes (g.blocks d) (g.geometry d).block_size) form) → IfOk r (λ c. HasContents new c (bytes old.disk.blocks old.disk.block_size) form)
 holds_after g old new d e m n before after shape later geometry bytes form (Ok c) has =
-    subst (λ (x : Blocks). AreConsistentContentsWithBytesAndFormOnThread new c (bytes x old.disk.block_size) form) (blocks_here g old d m before shape)
-    (subst (λ (k : ℕ). AreConsistentContentsWithBytesAndFormOnThread new c (bytes (g.blocks d) k) form) (size_here g old d m before shape)
+    subst (λ (x : Blocks). HasContents new c (bytes x old.disk.block_size) form) (blocks_here g old d m before shape)
+    (subst (λ (k : ℕ). HasContents new c (bytes (g.blocks d) k) form) (size_here g old d m before shape)
     (holds_here g new e n after later (g.geometry d) c (bytes (g.blocks d) (g.geometry d).block_size) form (sym geometry) has))
 holds_after g old new d e m n before after shape later geometry bytes form (Err x) has = tt
 
 -- no used block comes into the lists
-pub owned_after : {D : Type 0} (g : Ghosts D) (old new : KeptThread) (d e : D) (m n : BlockStateList) → AreDeviceAndMapOfThread g old d m → AreDeviceAndMapOfThread g new e n → HasBlocksOfCountAndSize (g.geometry d).block_size (g.geometry d).block_count (g.blocks d)
-    → HasBlocksOfCountAndSize (g.geometry e).block_size (g.geometry e).block_count (g.blocks e) → g.geometry e ≡ g.geometry d → (contents : WriterContents) (r : Result WriterContents Error)
-    → IfOk r (λ c. AreUsedBlocksOfListAmongOwnBlocks n (blocks_of_contents (g.blocks d) (g.geometry d).block_size contents) (blocks_of_contents (g.blocks e) (g.geometry d).block_size c)) → IfOk r (λ c. AreUsedBlocksOfListAmongOwnBlocks new.map (list_blocks_of_contents old contents) (list_blocks_of_contents new c))
+pub owned_after : {D : Type 0} (g : Ghosts D) (old new : KeptThread) (d e : D) (m n : BlockStates) → AreDeviceAndMapOfThread g old d m → AreDeviceAndMapOfThread g new e n → HasBlockSizes (g.geometry d).block_size (g.geometry d).block_count (g.blocks d)
+    → HasBlockSizes (g.geometry e).block_size (g.geometry e).block_count (g.blocks e) → g.geometry e ≡ g.geometry d → (contents : WriterContents) (r : Result WriterContents Error)
+    → IfOk r (λ c. AreOwn n (contents_blocks (g.blocks d) (g.geometry d).block_size contents) (contents_blocks (g.blocks e) (g.geometry d).block_size c)) → IfOk r (λ c. AreOwn new.map (contents_list_blocks old contents) (contents_list_blocks new c))
 owned_after g old new d e m n before after shape later geometry contents (Ok c) owned =
-    subst (λ (s : BlockStateList). AreUsedBlocksOfListAmongOwnBlocks s (list_blocks_of_contents old contents) (list_blocks_of_contents new c)) after.map
-    (subst (λ (k : ℕ). AreUsedBlocksOfListAmongOwnBlocks n (list_blocks_of_contents old contents) (blocks_of_contents new.disk.blocks k c)) (ap (λ (x : Geometry). x.block_size) (sym geometry) ∙ size_here g new e n after later)
-    (subst (λ (x : Blocks). AreUsedBlocksOfListAmongOwnBlocks n (list_blocks_of_contents old contents) (blocks_of_contents x (g.geometry d).block_size c)) (blocks_here g new e n after later)
-    (subst (λ (k : ℕ). AreUsedBlocksOfListAmongOwnBlocks n (blocks_of_contents old.disk.blocks k contents) (blocks_of_contents (g.blocks e) (g.geometry d).block_size c)) (size_here g old d m before shape)
-    (subst (λ (x : Blocks). AreUsedBlocksOfListAmongOwnBlocks n (blocks_of_contents x (g.geometry d).block_size contents) (blocks_of_contents (g.blocks e) (g.geometry d).block_size c)) (blocks_here g old d m before shape) owned))))
+    subst (λ (s : BlockStates). AreOwn s (contents_list_blocks old contents) (contents_list_blocks new c)) after.map
+    (subst (λ (k : ℕ). AreOwn n (contents_list_blocks old contents) (contents_blocks new.disk.blocks k c)) (ap (λ (x : Geometry). x.block_size) (sym geometry) ∙ size_here g new e n after later)
+    (subst (λ (x : Blocks). AreOwn n (contents_list_blocks old contents) (contents_blocks x (g.geometry d).block_size c)) (blocks_here g new e n after later)
+    (subst (λ (k : ℕ). AreOwn n (contents_blocks old.disk.blocks k contents) (contents_blocks (g.blocks e) (g.geometry d).block_size c)) (size_here g old d m before shape)
+    (subst (λ (x : Blocks). AreOwn n (contents_blocks x (g.geometry d).block_size contents) (contents_blocks (g.blocks e) (g.geometry d).block_size c)) (blocks_here g old d m before shape) owned))))
 owned_after g old new d e m n before after shape later geometry contents (Err x) owned = tt

@@ -2,62 +2,62 @@
 use Rattle.std.proofs.Common.{ℕ, ◌≡◌, ◌≤◌, ◌+◌, ◌∙◌, Bool, true, false, List, [], ◌∷◌, ◌++◌, length, Result, Ok, Err, refl, sym, ap, ap₂, subst, arith, append_assoc}
 use Rattle.std.specs.Prelude.{IfErr, OnOk, Contains}
 use Rattle.lfs_device.specs.declared.error.Error.{Error}
-use Rattle.lfs_model.specs.Frame.{IsPairWithSlotOfPath}
-use Rattle.lfs_model.specs.TreeEdits.{tree_after_change_of_node}
-use Rattle.lfs_model.specs.Blocks.{Blocks}
-use Rattle.lfs_model.specs.BlockSets.{used_count}
-use Rattle.lfs_model.specs.Disk.{Disk, block_count, inline_limit}
-use Rattle.lfs_model.specs.History.{IsTrueOfEachCall, IsTrueOfEachCallSince, DeviceCallEvent, fault_count_of_history}
-use Rattle.lfs_model.specs.Layout.{IsSlotLayoutAfterOperation}
-use Rattle.lfs_model.specs.Operations as ops
-use Rattle.lfs_model.specs.Operations.{Operation}
-use Rattle.lfs_model.specs.PowerLoss.{HasTreeBeforeOrAfterOperation, SurvivesPowerLossInCallsSince, disk_with_blocks}
-use Rattle.lfs_model.specs.Session.{Session, skip_list_block_count_unless_inline}
-use Rattle.lfs_model.specs.Effects.{node_with_bytes}
-use Rattle.lfs_model.specs.Thread.{Pair, gstate_of_pairs}
-use Rattle.lfs_model.specs.Tree.{Path, Tree}
-use Rattle.lfs_model.specs.View.{IsAcceptedImage}
-use Rattle.lfs_model.specs.Shown.{tree_on_disk, used_blocks}
+use Rattle.lfs_model.specs.crash.Frame.{HasPathSlot}
+use Rattle.lfs_model.specs.session.TreeEdits.{tree_with_change}
+use Rattle.lfs_model.specs.format.Blocks.{Blocks}
+use Rattle.lfs_model.specs.layers.BlockSets.{used_count}
+use Rattle.lfs_model.specs.format.Disk.{Disk, block_count, inline_limit}
+use Rattle.lfs_model.specs.session.History.{AllCalls, AllCallsSince, CallEvent, fault_count}
+use Rattle.lfs_model.specs.session.Layout.{IsLayout}
+use Rattle.lfs_model.specs.session.Operations as ops
+use Rattle.lfs_model.specs.session.Operations.{Operation}
+use Rattle.lfs_model.specs.crash.PowerLoss.{HasEither, SurvivesLossSince, with_blocks}
+use Rattle.lfs_model.specs.session.Session.{Session, list_blocks_of}
+use Rattle.lfs_model.specs.session.Effects.{file_with_bytes}
+use Rattle.lfs_model.specs.format.Thread.{Pair, pairs_gstate}
+use Rattle.lfs_model.specs.tree.Tree.{Path, Tree}
+use Rattle.lfs_model.specs.tree.View.{IsAccepted}
+use Rattle.lfs_model.specs.tree.Shown.{tree_on_disk, used_blocks}
 use Rattle.lfs_model.proofs.AfterStops.{survives_then}
 use Rattle.lfs_model.proofs.Arranged.{arranged_after, recovered_stays}
 use Rattle.lfs_model.proofs.Committed.{recovered_from}
-use Rattle.lfs_model.proofs.Histories.{IsTrueAfterAnyPowerLossSince-weaker, IsTrueAfterAnyPowerLossSince-worst}
-use Rattle.lfs_tree.specs.ThreadContents.{CanFinishContentsOnThread, AreConsistentContentsWithBytesAndFormOnThread, LeavesPairsAndUsedBlocksUnchanged, list_blocks_of_contents}
+use Rattle.lfs_model.proofs.Histories.{HoldsAtLosses-weaker, HoldsAtLosses-worst}
+use Rattle.lfs_tree.specs.ThreadContents.{CanFinish, HasContents, KeepsPairs, contents_list_blocks}
 use Rattle.lfs_thread.specs.Kept.{KeptThread, ThreadView}
 use Rattle.lfs_tree.proofs.LeftAlone.{files_of_alone, pair_of_alone}
-use Rattle.lfs_tree.specs.TreeChanges.{HasFurtherDeviceCalls, CanChangeRecoveredImage, SurvivesWithOldOrNewTree, ReportsIoWithFaultOrNoMemory}
-use Rattle.lfs_tree.specs.RootedThreads.{IsSoundThreadUnlessFailed, tree_state_of_kept_thread, tree_state_of_thread}
+use Rattle.lfs_tree.specs.TreeChanges.{HasFurtherCalls, CanChangeRecovered, SurvivesEither, ReportsFaults}
+use Rattle.lfs_tree.specs.RootedThreads.{SoundUnlessFailed, kept_state, thread_state}
 use Rattle.lfs_tree.proofs.Asking.{seen_working}
-use Rattle.lfs_tree.specs.KeptFiles.{KeepsBytesOfSkipListsOfFiles, KeepsStructsOfOtherFiles}
+use Rattle.lfs_tree.specs.KeptFiles.{KeepsListBytes, KeepsOtherFiles}
 use Rattle.lfs_tree.proofs.KeptFiles.{list_stays}
-use Rattle.lfs_tree.specs.OpenContents.{CanStoreContentsAt, AreSlotsLaidOutByWriterOperationAfterRecovery, IsInMemoryExactlyUpToInlineLimit, StoresBytesKeepingOtherFilesAtPath, bytes_of_writer_contents, kept_thread_of_tree_state}
-use Rattle.lfs_tree.specs.TreeState.{IsSoundTreeState, TreeState, tree_view}
-use Rattle.lfs_tree.specs.Stores.{CanCommitContentsAtPath, HasCommittedBytesOfFile, StoresBytesKeepingOtherFilesOnThread, IsFinishedAndInlineExactlyUpToLimit, AreSlotsLaidOutByWriterOperation, ChangesOnlyPairOfPath}
+use Rattle.lfs_tree.specs.OpenContents.{CanStoreAt, SlotsAfterRecovery, InlineUpToLimit, StoresBytesAt, writer_contents_bytes, kept_thread}
+use Rattle.lfs_tree.specs.TreeState.{IsSoundState, TreeState, tree_view}
+use Rattle.lfs_tree.specs.Stores.{CanCommitContents, HasCommittedBytes, StoresBytesIn, IsFinishedInline, SlotsAfterWriter, ChangesPathPair}
 use Rattle.lfs_tree.proofs.BesideWritten.{accepted_beside, bytes_of_held, geometry_beside, left_beside, over_beside, rooted_beside, tree_beside}
 use Rattle.lfs_tree.proofs.UsedBlocks.{count_is}
-use Rattle.lfs_file.specs.Contents.{writer_contents_bytes_in_memory_or_blocks, block_room_for_finish, storage_form_after_finish, storage_form_of_contents}
+use Rattle.lfs_file.specs.Contents.{contents_bytes, finish_room, form_after_finish, contents_form}
 use Rattle.lfs_file.specs.Form as form
-use Rattle.lfs_file.specs.Form.{ContentsStorageForm}
-use Rattle.lfs_file.specs.BlockOwners.{AreUsedBlocksOfListAmongOwnBlocks}
+use Rattle.lfs_file.specs.Form.{StorageForm}
+use Rattle.lfs_file.specs.BlockOwners.{AreOwn}
 use Rattle.lfs_file.specs.declared.contents.WriterContents.{WriterContents}
 
 -- ---- calls, one after another
 
-pub each_any : (events : List DeviceCallEvent) → IsTrueOfEachCall (λ e. Unit {0}) events
+pub each_any : (events : List CallEvent) → AllCalls (λ e. Unit {0}) events
 each_any [] = tt
 each_any (e ∷ events) = (tt, each_any events)
 
-pub called_beside_image : (a b : KeptThread) → LeavesPairsAndUsedBlocksUnchanged a b → HasFurtherDeviceCalls a b
+pub called_beside_image : (a b : KeptThread) → KeepsPairs a b → HasFurtherCalls a b
 called_beside_image a b l = record { geometry = geometry_beside a b l; calls = l.at_worst.events; called = l.at_worst.extends }
 
-pub called_then : (a b c : KeptThread) → HasFurtherDeviceCalls a b → HasFurtherDeviceCalls b c → HasFurtherDeviceCalls a c
+pub called_then : (a b c : KeptThread) → HasFurtherCalls a b → HasFurtherCalls b c → HasFurtherCalls a c
 called_then a b c k m = record {
   geometry = record { block_size = m.geometry.block_size ∙ k.geometry.block_size; page = m.geometry.page ∙ k.geometry.page; order = m.geometry.order ∙ k.geometry.order; profile = m.geometry.profile ∙ k.geometry.profile; count = m.geometry.count ∙ k.geometry.count };
   calls = m.calls ++ k.calls;
   called = m.called ∙ ap (λ z. m.calls ++ z) k.called ∙ sym (append_assoc m.calls k.calls a.history);
 }
 
-pub errors_then : {X : Type 0} (a b c : KeptThread) (r : Result X Error) → fault_count_of_history b.history ≡ fault_count_of_history a.history → IfErr r (ReportsIoWithFaultOrNoMemory b c) → IfErr r (ReportsIoWithFaultOrNoMemory a c)
+pub errors_then : {X : Type 0} (a b c : KeptThread) (r : Result X Error) → fault_count b.history ≡ fault_count a.history → IfErr r (ReportsFaults b c) → IfErr r (ReportsFaults a c)
 errors_then a b c (Ok x) same t = tt
 errors_then a b c (Err e) same t = record {
   errors = t.errors;
@@ -67,89 +67,89 @@ errors_then a b c (Err e) same t = record {
 
 -- ---- what is asked for
 
-room_on : (t : KeptThread) → IsSoundTreeState (tree_state_of_kept_thread t true false) → (need : ℕ) → length (used_blocks t.disk t.pairs) + need ≤ block_count t.disk → used_count t.map + need ≤ length t.map
-room_on t sound need room = let e = count_is (tree_state_of_kept_thread t true false) sound in let s = sound.size in omega arith
+room_on : (t : KeptThread) → IsSoundState (kept_state t true false) → (need : ℕ) → length (used_blocks t.disk t.pairs) + need ≤ block_count t.disk → used_count t.map + need ≤ length t.map
+room_on t sound need room = let e = count_is (kept_state t true false) sound in let s = sound.size in omega arith
 
-finished_form : (limit : ℕ) (f : ContentsStorageForm) → IsInMemoryExactlyUpToInlineLimit limit f → IsFinishedAndInlineExactlyUpToLimit limit (storage_form_after_finish f)
+finished_form : (limit : ℕ) (f : StorageForm) → InlineUpToLimit limit f → IsFinishedInline limit (form_after_finish f)
 finished_form limit (form.InMemory size) h = h
 finished_form limit (form.Finished size flying) h = h
 finished_form limit (form.InHand stop base flying) h = h
 
-module _ (t : ThreadView) (root : ℕ) (rests : CanChangeRecoveredImage t root) (path : Path) (contents : WriterContents) (can : CanStoreContentsAt (tree_state_of_kept_thread t.kept true false) path contents) where
-  abbrev sound : IsSoundTreeState (tree_state_of_kept_thread t.kept true false)
+module _ (t : ThreadView) (root : ℕ) (rests : CanChangeRecovered t root) (path : Path) (contents : WriterContents) (can : CanStoreAt (kept_state t.kept true false) path contents) where
+  abbrev sound : IsSoundState (kept_state t.kept true false)
   sound = rests.held.sound
 
-  pub can_finish : CanFinishContentsOnThread t.kept contents
-  can_finish = record { stands = can.over.stands; room = room_on t.kept sound (block_room_for_finish t.kept.disk.block_size (storage_form_of_contents contents)) can.end }
+  pub can_finish : CanFinish t.kept contents
+  can_finish = record { stands = can.over.stands; room = room_on t.kept sound (finish_room t.kept.disk.block_size (contents_form contents)) can.end }
 
   -- the list in hand was ended
-  module _ (b : ThreadView) (still : b.failed ≡ false) (leaves : LeavesPairsAndUsedBlocksUnchanged t.kept b.kept) where
-    pub rests_beside : CanChangeRecoveredImage b root
-    rests_beside = record { held = rooted_beside t b root true rests.held still leaves; settled = ap gstate_of_pairs leaves.pairs ∙ rests.settled }
+  module _ (b : ThreadView) (still : b.failed ≡ false) (leaves : KeepsPairs t.kept b.kept) where
+    pub rests_beside : CanChangeRecovered b root
+    rests_beside = record { held = rooted_beside t b root true rests.held still leaves; settled = ap pairs_gstate leaves.pairs ∙ rests.settled }
 
-    pub survives_beside : (after : Tree) → SurvivesWithOldOrNewTree t.kept b.kept after
-    survives_beside after clean = IsTrueAfterAnyPowerLossSince-weaker (λ blocks spared. left_beside t.kept blocks sound.accepted (sound.fits refl) sound.used spared) (IsTrueAfterAnyPowerLossSince-worst leaves.at_worst)
+    pub survives_beside : (after : Tree) → SurvivesEither t.kept b.kept after
+    survives_beside after clean = HoldsAtLosses-weaker (λ blocks spared. left_beside t.kept blocks sound.accepted (sound.fits refl) sound.used spared) (HoldsAtLosses-worst leaves.at_worst)
 
-    module _ (c : WriterContents) (holds : AreConsistentContentsWithBytesAndFormOnThread b.kept c (writer_contents_bytes_in_memory_or_blocks t.kept.disk.blocks t.kept.disk.block_size contents) (storage_form_after_finish (storage_form_of_contents contents))) (owned : AreUsedBlocksOfListAmongOwnBlocks b.kept.map (list_blocks_of_contents t.kept contents) (list_blocks_of_contents b.kept c)) where
-      bytes_same : bytes_of_writer_contents b.kept c ≡ bytes_of_writer_contents t.kept contents
-      bytes_same = bytes_of_held b.kept c (writer_contents_bytes_in_memory_or_blocks t.kept.disk.blocks t.kept.disk.block_size contents) (storage_form_after_finish (storage_form_of_contents contents)) holds
+    module _ (c : WriterContents) (holds : HasContents b.kept c (contents_bytes t.kept.disk.blocks t.kept.disk.block_size contents) (form_after_finish (contents_form contents))) (owned : AreOwn b.kept.map (contents_list_blocks t.kept contents) (contents_list_blocks b.kept c)) where
+      bytes_same : writer_contents_bytes b.kept c ≡ writer_contents_bytes t.kept contents
+      bytes_same = bytes_of_held b.kept c (contents_bytes t.kept.disk.blocks t.kept.disk.block_size contents) (form_after_finish (contents_form contents)) holds
 
-      pub can_commit : CanCommitContentsAtPath b.kept path c
+      pub can_commit : CanCommitContents b.kept path c
       can_commit = record {
         over = over_beside t.kept b.kept leaves sound.accepted sound.used path contents c _ _ can.over holds owned;
-        finished = subst (λ (f : ContentsStorageForm). IsFinishedAndInlineExactlyUpToLimit (inline_limit b.kept.disk.profile b.kept.disk.block_size) f) (sym holds.has.form)
-            (subst (λ (n : ℕ). IsFinishedAndInlineExactlyUpToLimit n (storage_form_after_finish (storage_form_of_contents contents))) (sym (ap₂ (λ p n. inline_limit p n) leaves.shape.profile leaves.shape.block_size)) (finished_form (inline_limit t.kept.disk.profile t.kept.disk.block_size) (storage_form_of_contents contents) can.form));
-        room = (let l : skip_list_block_count_unless_inline b.kept.disk.profile b.kept.disk.block_size (length (bytes_of_writer_contents b.kept c)) ≡ skip_list_block_count_unless_inline t.kept.disk.profile t.kept.disk.block_size (length (bytes_of_writer_contents t.kept contents))
-            = ap₂ (λ p n. skip_list_block_count_unless_inline p n (length (bytes_of_writer_contents b.kept c))) leaves.shape.profile leaves.shape.block_size ∙ ap (λ z. skip_list_block_count_unless_inline t.kept.disk.profile t.kept.disk.block_size (length z)) bytes_same in
+        finished = subst (λ (f : StorageForm). IsFinishedInline (inline_limit b.kept.disk.profile b.kept.disk.block_size) f) (sym holds.has.form)
+            (subst (λ (n : ℕ). IsFinishedInline n (form_after_finish (contents_form contents))) (sym (ap₂ (λ p n. inline_limit p n) leaves.shape.profile leaves.shape.block_size)) (finished_form (inline_limit t.kept.disk.profile t.kept.disk.block_size) (contents_form contents) can.form));
+        room = (let l : list_blocks_of b.kept.disk.profile b.kept.disk.block_size (length (writer_contents_bytes b.kept c)) ≡ list_blocks_of t.kept.disk.profile t.kept.disk.block_size (length (writer_contents_bytes t.kept contents))
+            = ap₂ (λ p n. list_blocks_of p n (length (writer_contents_bytes b.kept c))) leaves.shape.profile leaves.shape.block_size ∙ ap (λ z. list_blocks_of t.kept.disk.profile t.kept.disk.block_size (length z)) bytes_same in
             let r = can.room in
-            let k : length (used_blocks t.kept.disk t.kept.pairs) + (skip_list_block_count_unless_inline t.kept.disk.profile t.kept.disk.block_size (length (bytes_of_writer_contents t.kept contents)) + 2) ≤ block_count t.kept.disk = omega arith in
-            let m = room_on t.kept sound (skip_list_block_count_unless_inline t.kept.disk.profile t.kept.disk.block_size (length (bytes_of_writer_contents t.kept contents)) + 2) k in
+            let k : length (used_blocks t.kept.disk t.kept.pairs) + (list_blocks_of t.kept.disk.profile t.kept.disk.block_size (length (writer_contents_bytes t.kept contents)) + 2) ≤ block_count t.kept.disk = omega arith in
+            let m = room_on t.kept sound (list_blocks_of t.kept.disk.profile t.kept.disk.block_size (length (writer_contents_bytes t.kept contents)) + 2) k in
             let u = leaves.map.used in
             let n = leaves.map.count in
             omega arith);
       }
 
       abbrev turn : Tree
-      turn = tree_after_change_of_node path (node_with_bytes (bytes_of_writer_contents t.kept contents)) (tree_on_disk t.kept.disk t.kept.pairs)
+      turn = tree_with_change path (file_with_bytes (writer_contents_bytes t.kept contents)) (tree_on_disk t.kept.disk t.kept.pairs)
 
       tree_same : tree_on_disk b.kept.disk b.kept.pairs ≡ tree_on_disk t.kept.disk t.kept.pairs
       tree_same = tree_beside t.kept b.kept leaves sound.accepted sound.used
 
-      turn_same : tree_after_change_of_node path (node_with_bytes (bytes_of_writer_contents b.kept c)) (tree_on_disk b.kept.disk b.kept.pairs) ≡ tree_after_change_of_node path (node_with_bytes (bytes_of_writer_contents t.kept contents)) (tree_on_disk t.kept.disk t.kept.pairs)
-      turn_same = ap (λ (x : Tree). tree_after_change_of_node path (node_with_bytes (bytes_of_writer_contents b.kept c)) x) tree_same ∙ ap (λ z. tree_after_change_of_node path (node_with_bytes z) (tree_on_disk t.kept.disk t.kept.pairs)) bytes_same
+      turn_same : tree_with_change path (file_with_bytes (writer_contents_bytes b.kept c)) (tree_on_disk b.kept.disk b.kept.pairs) ≡ tree_with_change path (file_with_bytes (writer_contents_bytes t.kept contents)) (tree_on_disk t.kept.disk t.kept.pairs)
+      turn_same = ap (λ (x : Tree). tree_with_change path (file_with_bytes (writer_contents_bytes b.kept c)) x) tree_same ∙ ap (λ z. tree_with_change path (file_with_bytes z) (tree_on_disk t.kept.disk t.kept.pairs)) bytes_same
 
       -- seen from before the end of the list
-      arranged_before : (new : KeptThread) (op : ℕ → Operation) → AreSlotsLaidOutByWriterOperation b.kept path (bytes_of_writer_contents b.kept c) op new → AreSlotsLaidOutByWriterOperationAfterRecovery (tree_state_of_kept_thread t.kept true false) path (bytes_of_writer_contents t.kept contents) op (tree_state_of_kept_thread new true false)
+      arranged_before : (new : KeptThread) (op : ℕ → Operation) → SlotsAfterWriter b.kept path (writer_contents_bytes b.kept c) op new → SlotsAfterRecovery (kept_state t.kept true false) path (writer_contents_bytes t.kept contents) op (kept_state new true false)
       arranged_before new op laid files fd writer wr =
           let s : Session = record { tree = tree_on_disk t.kept.disk t.kept.pairs; files = files } in
           let stays = recovered_stays t.kept.disk t.kept.pairs (record { tree = tree_on_disk t.kept.disk t.kept.pairs; files = files }) sound.accepted (sound.fits refl) rests.settled in
           arranged_after t.kept.disk b.kept.disk new.disk t.kept.pairs t.kept.pairs new.pairs (record { tree = tree_on_disk t.kept.disk t.kept.pairs; files = files }) (op fd)
-          (geometry_beside t.kept b.kept leaves) (subst (IsAcceptedImage b.kept.disk) leaves.pairs (accepted_beside t.kept b.kept leaves sound.accepted sound.used)) (recovered_from t.kept.disk t.kept.pairs sound.accepted rests.settled)
+          (geometry_beside t.kept b.kept leaves) (subst (IsAccepted b.kept.disk) leaves.pairs (accepted_beside t.kept b.kept leaves sound.accepted sound.used)) (recovered_from t.kept.disk t.kept.pairs sound.accepted rests.settled)
           (record { drafts = stays.drafts; parts = stays.parts; front = stays.front; fresh = stays.fresh; back = stays.back; edits = stays.edits; stand = stays.stand; joined = stays.joined; is = stays.is })
-          (subst (λ (ps : List Pair). IsSlotLayoutAfterOperation b.kept.disk ps (record { tree = tree_on_disk t.kept.disk t.kept.pairs; files = files }) (op fd) new.disk new.pairs) leaves.pairs
-          (subst (λ (x : Tree). IsSlotLayoutAfterOperation b.kept.disk b.kept.pairs (record { tree = x; files = files }) (op fd) new.disk new.pairs) tree_same
+          (subst (λ (ps : List Pair). IsLayout b.kept.disk ps (record { tree = tree_on_disk t.kept.disk t.kept.pairs; files = files }) (op fd) new.disk new.pairs) leaves.pairs
+          (subst (λ (x : Tree). IsLayout b.kept.disk b.kept.pairs (record { tree = x; files = files }) (op fd) new.disk new.pairs) tree_same
           (laid files fd writer (wr.0, (wr.1.0, (wr.1.1.0, wr.1.1.1 ∙ sym bytes_same))))))
 
       -- what the end of the list wrote wasn't used
-      changes_before : (new : Disk) → ChangesOnlyPairOfPath b.kept.disk b.kept.pairs path new → ChangesOnlyPairOfPath t.kept.disk t.kept.pairs path new
+      changes_before : (new : Disk) → ChangesPathPair b.kept.disk b.kept.pairs path new → ChangesPathPair t.kept.disk t.kept.pairs path new
       changes_before new k = record {
         pair = k.pair;
         there = subst (λ (ps : List Pair). Contains ps k.pair) leaves.pairs k.there;
-        holds = subst (λ (ps : List Pair). IsPairWithSlotOfPath ps k.pair path) leaves.pairs k.holds;
+        holds = subst (λ (ps : List Pair). HasPathSlot ps k.pair path) leaves.pairs k.holds;
         others = λ x has first second.
             let is = (sound.used x).1 has in
             k.others x ((rests_beside.held.sound.used x).0 (leaves.map.stays x is)) first second ∙ leaves.spared.same x is;
       }
 
       -- the other files keep what they have
-      others_before : (new : KeptThread) → HasCommittedBytesOfFile b.kept path (bytes_of_writer_contents b.kept c) new → KeepsStructsOfOtherFiles (tree_on_disk t.kept.disk t.kept.pairs) t.kept.pairs path new.pairs
-      others_before new k = subst (λ (ps : List Pair). KeepsStructsOfOtherFiles (tree_on_disk t.kept.disk t.kept.pairs) ps path new.pairs) leaves.pairs
-          (subst (λ (x : Tree). KeepsStructsOfOtherFiles x b.kept.pairs path new.pairs) tree_same k.others)
+      others_before : (new : KeptThread) → HasCommittedBytes b.kept path (writer_contents_bytes b.kept c) new → KeepsOtherFiles (tree_on_disk t.kept.disk t.kept.pairs) t.kept.pairs path new.pairs
+      others_before new k = subst (λ (ps : List Pair). KeepsOtherFiles (tree_on_disk t.kept.disk t.kept.pairs) ps path new.pairs) leaves.pairs
+          (subst (λ (x : Tree). KeepsOtherFiles x b.kept.pairs path new.pairs) tree_same k.others)
 
-      lists_before : (new : KeptThread) → ChangesOnlyPairOfPath b.kept.disk b.kept.pairs path new.disk → KeepsBytesOfSkipListsOfFiles t.kept.disk t.kept.pairs new.disk
+      lists_before : (new : KeptThread) → ChangesPathPair b.kept.disk b.kept.pairs path new.disk → KeepsListBytes t.kept.disk t.kept.pairs new.disk
       lists_before new k = files_of_alone t.kept.disk new.disk t.kept.pairs [] path sound.accepted (changes_before new.disk k)
 
-      stored_before : (new : KeptThread) → HasFurtherDeviceCalls t.kept new → fault_count_of_history new.history ≡ fault_count_of_history t.kept.history → HasCommittedBytesOfFile b.kept path (bytes_of_writer_contents b.kept c) new → StoresBytesKeepingOtherFilesOnThread t.kept path (bytes_of_writer_contents t.kept contents) new
+      stored_before : (new : KeptThread) → HasFurtherCalls t.kept new → fault_count new.history ≡ fault_count t.kept.history → HasCommittedBytes b.kept path (writer_contents_bytes b.kept c) new → StoresBytesIn t.kept path (writer_contents_bytes t.kept contents) new
       stored_before new called quiet k = record {
         works = refl;
         sound = k.sound;
@@ -169,36 +169,36 @@ module _ (t : ThreadView) (root : ℕ) (rests : CanChangeRecoveredImage t root) 
         none_in_flight = k.none_in_flight;
       }
 
-      pub all_stored : (new : KeptThread) (r : Result (Unit {0}) Error) → HasFurtherDeviceCalls t.kept new → fault_count_of_history b.kept.history ≡ fault_count_of_history t.kept.history → OnOk r (fault_count_of_history new.history ≡ fault_count_of_history b.kept.history) → OnOk r (HasCommittedBytesOfFile b.kept path (bytes_of_writer_contents b.kept c) new) → OnOk r (StoresBytesKeepingOtherFilesOnThread t.kept path (bytes_of_writer_contents t.kept contents) new)
+      pub all_stored : (new : KeptThread) (r : Result (Unit {0}) Error) → HasFurtherCalls t.kept new → fault_count b.kept.history ≡ fault_count t.kept.history → OnOk r (fault_count new.history ≡ fault_count b.kept.history) → OnOk r (HasCommittedBytes b.kept path (writer_contents_bytes b.kept c) new) → OnOk r (StoresBytesIn t.kept path (writer_contents_bytes t.kept contents) new)
       all_stored new (Ok u) called same quiet k = stored_before new called (quiet ∙ same) k
       all_stored new (Err e) called same quiet k = tt
 
-      pub survives_then_commit : (new : KeptThread) → HasFurtherDeviceCalls b.kept new → SurvivesWithOldOrNewTree b.kept new (tree_after_change_of_node path (node_with_bytes (bytes_of_writer_contents b.kept c)) (tree_on_disk b.kept.disk b.kept.pairs))
-          → SurvivesWithOldOrNewTree t.kept new (tree_after_change_of_node path (node_with_bytes (bytes_of_writer_contents t.kept contents)) (tree_on_disk t.kept.disk t.kept.pairs))
+      pub survives_then_commit : (new : KeptThread) → HasFurtherCalls b.kept new → SurvivesEither b.kept new (tree_with_change path (file_with_bytes (writer_contents_bytes b.kept c)) (tree_on_disk b.kept.disk b.kept.pairs))
+          → SurvivesEither t.kept new (tree_with_change path (file_with_bytes (writer_contents_bytes t.kept contents)) (tree_on_disk t.kept.disk t.kept.pairs))
       survives_then_commit new called k =
-          let second : IsTrueOfEachCallSince (λ e. Unit {0}) b.kept.history new.history = record { events = called.calls; extends = called.called; each = each_any called.calls } in
-          let after = tree_after_change_of_node path (node_with_bytes (bytes_of_writer_contents t.kept contents)) (tree_on_disk t.kept.disk t.kept.pairs) in
-          let same : (blocks : Blocks) → disk_with_blocks blocks b.kept.disk ≡ disk_with_blocks blocks t.kept.disk = λ blocks. λ i. record { block_size = leaves.shape.block_size i; page = leaves.shape.page i; order = leaves.shape.order i; profile = leaves.shape.profile i; blocks = blocks } in
+          let second : AllCallsSince (λ e. Unit {0}) b.kept.history new.history = record { events = called.calls; extends = called.called; each = each_any called.calls } in
+          let after = tree_with_change path (file_with_bytes (writer_contents_bytes t.kept contents)) (tree_on_disk t.kept.disk t.kept.pairs) in
+          let same : (blocks : Blocks) → with_blocks blocks b.kept.disk ≡ with_blocks blocks t.kept.disk = λ blocks. λ i. record { block_size = leaves.shape.block_size i; page = leaves.shape.page i; order = leaves.shape.order i; profile = leaves.shape.profile i; blocks = blocks } in
           survives_then t.kept.disk t.kept.history b.kept.history new.history (tree_on_disk t.kept.disk t.kept.pairs) after leaves.at_worst second (survives_beside after)
-          (λ clean. IsTrueAfterAnyPowerLossSince-weaker (λ blocks left.
-          subst (λ (d : Disk). HasTreeBeforeOrAfterOperation d (tree_on_disk t.kept.disk t.kept.pairs) (tree_after_change_of_node path (node_with_bytes (bytes_of_writer_contents t.kept contents)) (tree_on_disk t.kept.disk t.kept.pairs))) (same blocks)
-          (subst (λ (x : Tree). HasTreeBeforeOrAfterOperation (disk_with_blocks blocks b.kept.disk) x (tree_after_change_of_node path (node_with_bytes (bytes_of_writer_contents t.kept contents)) (tree_on_disk t.kept.disk t.kept.pairs))) tree_same
-          (subst (λ (x : Tree). HasTreeBeforeOrAfterOperation (disk_with_blocks blocks b.kept.disk) (tree_on_disk b.kept.disk b.kept.pairs) x) turn_same left))) (k clean))
+          (λ clean. HoldsAtLosses-weaker (λ blocks left.
+          subst (λ (d : Disk). HasEither d (tree_on_disk t.kept.disk t.kept.pairs) (tree_with_change path (file_with_bytes (writer_contents_bytes t.kept contents)) (tree_on_disk t.kept.disk t.kept.pairs))) (same blocks)
+          (subst (λ (x : Tree). HasEither (with_blocks blocks b.kept.disk) x (tree_with_change path (file_with_bytes (writer_contents_bytes t.kept contents)) (tree_on_disk t.kept.disk t.kept.pairs))) tree_same
+          (subst (λ (x : Tree). HasEither (with_blocks blocks b.kept.disk) (tree_on_disk b.kept.disk b.kept.pairs) x) turn_same left))) (k clean))
 
 -- ---- seen from a tree
 
-module _ (thread : ThreadView) (root : ℕ) (writable : Bool) (now : TreeState) (kept : IsSoundThreadUnlessFailed thread root writable) (view : tree_state_of_thread thread writable ≡ now) (works : now.failed ≡ false) (may : now.writable ≡ true) (path : Path) (contents : WriterContents) where
-  stored_working : (new : ThreadView) → new.failed ≡ false → StoresBytesKeepingOtherFilesOnThread thread.kept path (bytes_of_writer_contents thread.kept contents) new.kept → StoresBytesKeepingOtherFilesAtPath now path (bytes_of_writer_contents (kept_thread_of_tree_state now) contents) (tree_state_of_thread new writable)
+module _ (thread : ThreadView) (root : ℕ) (writable : Bool) (now : TreeState) (kept : SoundUnlessFailed thread root writable) (view : thread_state thread writable ≡ now) (works : now.failed ≡ false) (may : now.writable ≡ true) (path : Path) (contents : WriterContents) where
+  stored_working : (new : ThreadView) → new.failed ≡ false → StoresBytesIn thread.kept path (writer_contents_bytes thread.kept contents) new.kept → StoresBytesAt now path (writer_contents_bytes (kept_thread now) contents) (thread_state new writable)
   stored_working new still k =
-      subst (λ a. StoresBytesKeepingOtherFilesAtPath now path (bytes_of_writer_contents (kept_thread_of_tree_state now) contents) (tree_state_of_kept_thread new.kept a new.failed)) (sym (ap (λ (s : TreeState). s.writable) view ∙ may))
-      (subst (λ b. StoresBytesKeepingOtherFilesAtPath now path (bytes_of_writer_contents (kept_thread_of_tree_state now) contents) (tree_state_of_kept_thread new.kept true b)) (sym still)
-      (subst (λ (s : TreeState). StoresBytesKeepingOtherFilesAtPath s path (bytes_of_writer_contents (kept_thread_of_tree_state s) contents) (tree_state_of_kept_thread new.kept true false)) (sym (seen_working thread root writable now kept view works may)) k))
+      subst (λ a. StoresBytesAt now path (writer_contents_bytes (kept_thread now) contents) (kept_state new.kept a new.failed)) (sym (ap (λ (s : TreeState). s.writable) view ∙ may))
+      (subst (λ b. StoresBytesAt now path (writer_contents_bytes (kept_thread now) contents) (kept_state new.kept true b)) (sym still)
+      (subst (λ (s : TreeState). StoresBytesAt s path (writer_contents_bytes (kept_thread s) contents) (kept_state new.kept true false)) (sym (seen_working thread root writable now kept view works may)) k))
 
-  pub all_stored_working : (r : Result (Unit {0}) Error) (new : ThreadView) → OnOk r (StoresBytesKeepingOtherFilesOnThread thread.kept path (bytes_of_writer_contents thread.kept contents) new.kept) → OnOk r (new.failed ≡ false) → OnOk r (StoresBytesKeepingOtherFilesAtPath now path (bytes_of_writer_contents (kept_thread_of_tree_state now) contents) (tree_state_of_thread new writable))
+  pub all_stored_working : (r : Result (Unit {0}) Error) (new : ThreadView) → OnOk r (StoresBytesIn thread.kept path (writer_contents_bytes thread.kept contents) new.kept) → OnOk r (new.failed ≡ false) → OnOk r (StoresBytesAt now path (writer_contents_bytes (kept_thread now) contents) (thread_state new writable))
   all_stored_working (Ok x) new k still = stored_working new still k
   all_stored_working (Err e) new k still = tt
 
-  pub survives_stored : (new : List DeviceCallEvent) → SurvivesPowerLossInCallsSince thread.kept.disk thread.kept.history new (tree_on_disk thread.kept.disk thread.kept.pairs) (tree_after_change_of_node path (node_with_bytes (bytes_of_writer_contents thread.kept contents)) (tree_on_disk thread.kept.disk thread.kept.pairs))
-      → SurvivesPowerLossInCallsSince now.disk now.history new (tree_view now) (tree_after_change_of_node path (node_with_bytes (bytes_of_writer_contents (kept_thread_of_tree_state now) contents)) (tree_view now))
+  pub survives_stored : (new : List CallEvent) → SurvivesLossSince thread.kept.disk thread.kept.history new (tree_on_disk thread.kept.disk thread.kept.pairs) (tree_with_change path (file_with_bytes (writer_contents_bytes thread.kept contents)) (tree_on_disk thread.kept.disk thread.kept.pairs))
+      → SurvivesLossSince now.disk now.history new (tree_view now) (tree_with_change path (file_with_bytes (writer_contents_bytes (kept_thread now) contents)) (tree_view now))
   survives_stored new k =
-      subst (λ (s : TreeState). SurvivesPowerLossInCallsSince s.disk s.history new (tree_view s) (tree_after_change_of_node path (node_with_bytes (bytes_of_writer_contents (kept_thread_of_tree_state s) contents)) (tree_view s))) (sym (seen_working thread root writable now kept view works may)) k
+      subst (λ (s : TreeState). SurvivesLossSince s.disk s.history new (tree_view s) (tree_with_change path (file_with_bytes (writer_contents_bytes (kept_thread s) contents)) (tree_view s))) (sym (seen_working thread root writable now kept view works may)) k

@@ -3,28 +3,28 @@ use Rattle.std.proofs.Common.{ℕ, ◌≡◌, ◌≤◌, ◌+◌, ◌*◌, ◌�
 use Rattle.std.specs.Prelude.{sum_by}
 use Rattle.std.proofs.lemmas.List.Elements.{recursion_from_All}
 use Rattle.std.proofs.lemmas.List.Sums.{sum_by-append, sum_by-cons}
-use Rattle.lfs_model.specs.TreeEdits.{last_name_of_path}
-use Rattle.lfs_model.specs.Content.{attributes_with_attribute, attributes_without_attribute}
-use Rattle.lfs_model.specs.Disk.{Disk}
-use Rattle.lfs_model.specs.Layout.{IsContentFittingPairOnDisk, IsDirectoryUnreachedOrRemoved, IsSlotLayoutAfterRecoveryAndOperation, IsSlotLayoutAfterOperation}
-use Rattle.lfs_model.specs.Names.{Name}
-use Rattle.lfs_model.specs.Operations as ops
-use Rattle.lfs_model.specs.Operations.{Operation}
-use Rattle.lfs_model.specs.Session.{Session}
-use Rattle.lfs_model.specs.SlotEdits.{RemovesSlotIfSome, AddsFileSlotIfNew, AreSlotEditsOfOperation, HasSlotsReplacedInOnePair, AddsDirectorySlotAndPair, MovesSlotToPath, ReplacesSlotOfPath, new_directory_slot, new_file_slot, slot_of_path, pair_with_slots, pairs_without_moved_slot}
-use Rattle.lfs_model.specs.Slots.{IsContentFittingPair, Slot, slot_size}
-use Rattle.lfs_model.specs.Refusals.{path_of_bytes_or_root}
-use Rattle.lfs_model.specs.Thread.{Pair, gstate_of_pairs, pair_count_before_root}
-use Rattle.lfs_model.specs.Tree.{Node, Path, Tree}
+use Rattle.lfs_model.specs.session.TreeEdits.{last_name}
+use Rattle.lfs_model.specs.format.Content.{attributes_with, attributes_without}
+use Rattle.lfs_model.specs.format.Disk.{Disk}
+use Rattle.lfs_model.specs.session.Layout.{FitsPair, IsDirectoryGone, IsLayoutRecovered, IsLayout}
+use Rattle.lfs_model.specs.format.Names.{Name}
+use Rattle.lfs_model.specs.session.Operations as ops
+use Rattle.lfs_model.specs.session.Operations.{Operation}
+use Rattle.lfs_model.specs.session.Session.{Session}
+use Rattle.lfs_model.specs.session.SlotEdits.{RemovesSlot, AddsFile, EditsSlots, ReplacesSlots, AddsDirectory, MovesSlot, ReplacesSlot, directory_slot, file_slot, slot_of, pair_with_slots, pairs_without_moved}
+use Rattle.lfs_model.specs.format.Slots.{FitsInPair, Slot, slot_size}
+use Rattle.lfs_model.specs.session.Refusals.{path_or_root}
+use Rattle.lfs_model.specs.format.Thread.{Pair, pairs_gstate, pair_count_before_root}
+use Rattle.lfs_model.specs.tree.Tree.{Node, Path, Tree}
 use Rattle.lfs_model.proofs.Counts.{Each, each_append, each_left, each_right}
 use Rattle.lfs_operations.proofs.RawSlots.{fewer_attributes}
-use Rattle.lfs_tree.specs.KeptFiles.{blocks_taken_by_operation}
-use Rattle.lfs_tree.specs.TreeState.{IsOperationAppliedToTree, IsSoundTreeState, TreeState, disk_summary_of_tree, tree_view}
+use Rattle.lfs_tree.specs.KeptFiles.{operation_blocks}
+use Rattle.lfs_tree.specs.TreeState.{IsApplied, IsSoundState, TreeState, tree_summary, tree_view}
 use Rattle.lfs_tree.proofs.TakenBlocks.{FitBut, all_few, all_fit, fit_unmoved, list_length, lists_append, lists_in, lists_of, parts_fit, some_fit, total, total_append, total_unmoved, used_total}
 
 -- ---- slots that are replaced by others
 
-module _ (disk : Disk) (olds news : List Slot) (old new : List Pair) (s : HasSlotsReplacedInOnePair olds news old new) where
+module _ (disk : Disk) (olds news : List Slot) (old new : List Pair) (s : ReplacesSlots olds news old new) where
   abbrev now : Pair
   now = pair_with_slots (s.left ++ (news ++ s.right)) s.pair
 
@@ -59,21 +59,21 @@ module _ (disk : Disk) (olds news : List Slot) (old new : List Pair) (s : HasSlo
       let d = length-append s.before (now ∷ s.after) in
       omega arith
 
-  front_fits : Each (IsContentFittingPairOnDisk disk) old → Each (IsContentFittingPairOnDisk disk) s.before
-  front_fits h = each_left (IsContentFittingPairOnDisk disk) s.before (s.pair ∷ s.after) (subst (Each (IsContentFittingPairOnDisk disk)) s.was h)
+  front_fits : Each (FitsPair disk) old → Each (FitsPair disk) s.before
+  front_fits h = each_left (FitsPair disk) s.before (s.pair ∷ s.after) (subst (Each (FitsPair disk)) s.was h)
 
-  rest_fits : Each (IsContentFittingPairOnDisk disk) old → IsContentFittingPairOnDisk disk s.pair × Each (IsContentFittingPairOnDisk disk) s.after
-  rest_fits h = each_right (IsContentFittingPairOnDisk disk) s.before (s.pair ∷ s.after) (subst (Each (IsContentFittingPairOnDisk disk)) s.was h)
+  rest_fits : Each (FitsPair disk) old → FitsPair disk s.pair × Each (FitsPair disk) s.after
+  rest_fits h = each_right (FitsPair disk) s.before (s.pair ∷ s.after) (subst (Each (FitsPair disk)) s.was h)
 
   -- one pair may have to be cut
-  pub splice_cut : Each (IsContentFittingPairOnDisk disk) old → FitBut disk 1 new
+  pub splice_cut : Each (FitsPair disk) old → FitBut disk 1 new
   splice_cut h = subst (FitBut disk 1) (sym s.is) (some_fit disk 1 s.before (now ∷ s.after) (front_fits h) (inr (0, (refl, all_fit disk 0 s.after (rest_fits h).1))))
 
   -- or none, where what comes is no larger
-  pub splice_fits : sum_by slot_size news ≤ sum_by slot_size olds → length news ≤ length olds → Each (IsContentFittingPairOnDisk disk) old → Each (IsContentFittingPairOnDisk disk) new
-  splice_fits less few h = subst (Each (IsContentFittingPairOnDisk disk)) (sym s.is) (each_append (IsContentFittingPairOnDisk disk) s.before (now ∷ s.after) (front_fits h) (here, (rest_fits h).1))
+  pub splice_fits : sum_by slot_size news ≤ sum_by slot_size olds → length news ≤ length olds → Each (FitsPair disk) old → Each (FitsPair disk) new
+  splice_fits less few h = subst (Each (FitsPair disk)) (sym s.is) (each_append (FitsPair disk) s.before (now ∷ s.after) (front_fits h) (here, (rest_fits h).1))
     where
-      here : IsContentFittingPairOnDisk disk now
+      here : FitsPair disk now
       here = record {
         size = (let a = sums_was slot_size in let b = sums_now slot_size in let k = (rest_fits h).0.size in omega arith);
         count = (let a = count_was in let b = count_now in let k = (rest_fits h).0.count in omega arith);
@@ -95,7 +95,7 @@ module _ (disk : Disk) where
   abbrev size : ℕ
   size = disk.block_size
 
-  stays_drafted : (old fresh drafts : List Pair) → Each (IsContentFittingPairOnDisk disk) old → (fresh ≡ []) × (drafts ≡ old) → IsDrafted disk old fresh drafts 0
+  stays_drafted : (old fresh drafts : List Pair) → Each (FitsPair disk) old → (fresh ≡ []) × (drafts ≡ old) → IsDrafted disk old fresh drafts 0
   stays_drafted old fresh drafts h (none, same) = record {
     cuts = 0;
     few = subst (FitBut disk 0) (sym same) (all_fit disk 0 old h);
@@ -107,7 +107,7 @@ module _ (disk : Disk) where
   more_drafted old fresh drafts n m le d = record { cuts = d.cuts; few = d.few; same = d.same; taken = (let t = d.taken in omega arith) }
 
   -- some slots are replaced by others with no more blocks
-  spliced_drafted : (old fresh drafts : List Pair) (olds news : List Slot) → Each (IsContentFittingPairOnDisk disk) old → fresh ≡ [] → HasSlotsReplacedInOnePair olds news old drafts → lists_in size news ≤ lists_in size olds → IsDrafted disk old fresh drafts 2
+  spliced_drafted : (old fresh drafts : List Pair) (olds news : List Slot) → Each (FitsPair disk) old → fresh ≡ [] → ReplacesSlots olds news old drafts → lists_in size news ≤ lists_in size olds → IsDrafted disk old fresh drafts 2
   spliced_drafted old fresh drafts olds news h none s le = record {
     cuts = 1;
     few = splice_cut disk olds news old drafts s h;
@@ -116,7 +116,7 @@ module _ (disk : Disk) where
   }
 
   -- and are no larger
-  shrunk_drafted : (old fresh drafts : List Pair) (olds news : List Slot) → Each (IsContentFittingPairOnDisk disk) old → fresh ≡ [] → HasSlotsReplacedInOnePair olds news old drafts → lists_in size news ≤ lists_in size olds
+  shrunk_drafted : (old fresh drafts : List Pair) (olds news : List Slot) → Each (FitsPair disk) old → fresh ≡ [] → ReplacesSlots olds news old drafts → lists_in size news ≤ lists_in size olds
       → sum_by slot_size news ≤ sum_by slot_size olds → length news ≤ length olds → IsDrafted disk old fresh drafts 0
   shrunk_drafted old fresh drafts olds news h none s le less few = record {
     cuts = 0;
@@ -128,52 +128,52 @@ module _ (disk : Disk) where
   one_list : (f : Slot → ℕ) (s : Slot) → sum_by f (s ∷ []) ≡ f s
   one_list f s = let e = sum_by-cons f s [] in omega arith
 
-  created : (node : Option Node) (name : Name) (old fresh drafts : List Pair) → Each (IsContentFittingPairOnDisk disk) old → fresh ≡ [] → AddsFileSlotIfNew node name old drafts → IsDrafted disk old fresh drafts 2
-  created None name old fresh drafts h none s = spliced_drafted old fresh drafts [] (new_file_slot name ∷ []) h none s (let e = one_list (λ (x : Slot). list_length size x.struct) (new_file_slot name) in omega arith)
+  created : (node : Option Node) (name : Name) (old fresh drafts : List Pair) → Each (FitsPair disk) old → fresh ≡ [] → AddsFile node name old drafts → IsDrafted disk old fresh drafts 2
+  created None name old fresh drafts h none s = spliced_drafted old fresh drafts [] (file_slot name ∷ []) h none s (let e = one_list (λ (x : Slot). list_length size x.struct) (file_slot name) in omega arith)
   created (Some node) name old fresh drafts h none same = more_drafted old fresh drafts 0 2 (omega arith) (stays_drafted old fresh drafts h (none, same))
 
-  made : (name : Name) (fresh old drafts : List Pair) → Each (IsContentFittingPairOnDisk disk) old → AddsDirectorySlotAndPair name fresh old drafts → IsDrafted disk old fresh drafts 4
+  made : (name : Name) (fresh old drafts : List Pair) → Each (FitsPair disk) old → AddsDirectory name fresh old drafts → IsDrafted disk old fresh drafts 4
   made name [] old drafts h m = absurd m
   made name (p ∷ []) old drafts h m = record {
     cuts = 1;
-    few = splice_cut disk [] (new_directory_slot name p.at ∷ []) old drafts m.1 h;
-    same = splice_length disk [] (new_directory_slot name p.at ∷ []) old drafts m.1;
+    few = splice_cut disk [] (directory_slot name p.at ∷ []) old drafts m.1 h;
+    same = splice_length disk [] (directory_slot name p.at ∷ []) old drafts m.1;
     taken = (
-        let a = splice_lists disk [] (new_directory_slot name p.at ∷ []) old drafts m.1 in
-        let e = one_list (λ (x : Slot). list_length size x.struct) (new_directory_slot name p.at) in
+        let a = splice_lists disk [] (directory_slot name p.at ∷ []) old drafts m.1 in
+        let e = one_list (λ (x : Slot). list_length size x.struct) (directory_slot name p.at) in
         let f = ap (lists_in size) m.0 in
         omega arith);
   }
   made name (p ∷ q ∷ fresh) old drafts h m = absurd m
 
-  cleared : (o : Option Slot) (left rest : List Pair) → Each (IsContentFittingPairOnDisk disk) left → RemovesSlotIfSome o left rest → Each (IsContentFittingPairOnDisk disk) rest × ((length rest ≡ length left) × (lists_of size rest ≤ lists_of size left))
-  cleared None left rest h same = (subst (Each (IsContentFittingPairOnDisk disk)) (sym same) h, (ap length same, let a = ap (lists_of size) same in omega arith))
+  cleared : (o : Option Slot) (left rest : List Pair) → Each (FitsPair disk) left → RemovesSlot o left rest → Each (FitsPair disk) rest × ((length rest ≡ length left) × (lists_of size rest ≤ lists_of size left))
+  cleared None left rest h same = (subst (Each (FitsPair disk)) (sym same) h, (ap length same, let a = ap (lists_of size) same in omega arith))
   cleared (Some u) left rest h s = (
     splice_fits disk (u ∷ []) [] left rest s (omega arith) (omega arith) h,
     (splice_length disk (u ∷ []) [] left rest s, let a = splice_lists disk (u ∷ []) [] left rest s in omega arith),
   )
 
-  moved : (ps : List Pair) (from to : Path) (old fresh drafts : List Pair) → Each (IsContentFittingPairOnDisk disk) old → fresh ≡ [] → MovesSlotToPath ps from to old drafts → IsDrafted disk old fresh drafts 2
+  moved : (ps : List Pair) (from to : Path) (old fresh drafts : List Pair) → Each (FitsPair disk) old → fresh ≡ [] → MovesSlot ps from to old drafts → IsDrafted disk old fresh drafts 2
   moved ps from to old fresh drafts h none (u, left, rest, (at, taken, clears, placed)) =
       let gone = splice_fits disk (u ∷ []) [] old left taken (omega arith) (omega arith) h in
-      let c = cleared (slot_of_path ps to) left rest gone clears in
+      let c = cleared (slot_of ps to) left rest gone clears in
       record {
         cuts = 1;
-        few = splice_cut disk [] (record u { name = last_name_of_path to } ∷ []) rest drafts placed c.0;
-        same = splice_length disk [] (record u { name = last_name_of_path to } ∷ []) rest drafts placed ∙ c.1.0 ∙ splice_length disk (u ∷ []) [] old left taken;
+        few = splice_cut disk [] (record u { name = last_name to } ∷ []) rest drafts placed c.0;
+        same = splice_length disk [] (record u { name = last_name to } ∷ []) rest drafts placed ∙ c.1.0 ∙ splice_length disk (u ∷ []) [] old left taken;
         taken = (
             let a = splice_lists disk (u ∷ []) [] old left taken in
-            let b = splice_lists disk [] (record u { name = last_name_of_path to } ∷ []) rest drafts placed in
+            let b = splice_lists disk [] (record u { name = last_name to } ∷ []) rest drafts placed in
             let d = c.1.1 in
             let e = one_list (λ (x : Slot). list_length size x.struct) u in
-            let f = one_list (λ (x : Slot). list_length size x.struct) (record u { name = last_name_of_path to }) in
+            let f = one_list (λ (x : Slot). list_length size x.struct) (record u { name = last_name to }) in
             let g = ap (total size) none in
             let i = total_none size in
             omega arith);
       }
 
-  set : (ps : List Pair) (path : Path) (kind : ℕ) (bytes : List ℕ) (old fresh drafts : List Pair) → Each (IsContentFittingPairOnDisk disk) old → fresh ≡ []
-      → ReplacesSlotOfPath (λ u v. v ≡ record u { attributes = attributes_with_attribute kind bytes u.attributes }) ps path old drafts → IsDrafted disk old fresh drafts 2
+  set : (ps : List Pair) (path : Path) (kind : ℕ) (bytes : List ℕ) (old fresh drafts : List Pair) → Each (FitsPair disk) old → fresh ≡ []
+      → ReplacesSlot (λ u v. v ≡ record u { attributes = attributes_with kind bytes u.attributes }) ps path old drafts → IsDrafted disk old fresh drafts 2
   set ps path kind bytes old fresh drafts h none (u, v, (at, is, s)) = spliced_drafted old fresh drafts (u ∷ []) (v ∷ []) h none s (
       let f = λ (x : Slot). list_length size x.struct in
       let e = one_list f u in
@@ -181,8 +181,8 @@ module _ (disk : Disk) where
       let i = ap f is in
       omega arith)
 
-  unset : (ps : List Pair) (path : Path) (kind : ℕ) (old fresh drafts : List Pair) → Each (IsContentFittingPairOnDisk disk) old → fresh ≡ []
-      → ReplacesSlotOfPath (λ u v. v ≡ record u { attributes = attributes_without_attribute kind u.attributes }) ps path old drafts → IsDrafted disk old fresh drafts 0
+  unset : (ps : List Pair) (path : Path) (kind : ℕ) (old fresh drafts : List Pair) → Each (FitsPair disk) old → fresh ≡ []
+      → ReplacesSlot (λ u v. v ≡ record u { attributes = attributes_without kind u.attributes }) ps path old drafts → IsDrafted disk old fresh drafts 0
   unset ps path kind old fresh drafts h none (u, v, (at, is, s)) = shrunk_drafted old fresh drafts (u ∷ []) (v ∷ []) h none s (
       let f = λ (x : Slot). list_length size x.struct in
       let e = one_list f u in
@@ -198,13 +198,13 @@ module _ (disk : Disk) where
   abbrev asked_in : Tree → Session
   asked_in tree = record { tree = tree; files = [] }
 
-  drafted : (new : Disk) (ps : List Pair) (tree : Tree) (op : Operation) (fresh old drafts : List Pair) → Each (IsContentFittingPairOnDisk disk) old → AreSlotEditsOfOperation new ps (asked_in tree) op fresh old drafts → IsDrafted disk old fresh drafts (blocks_taken_by_operation op)
-  drafted new ps tree (ops.Open path flags) fresh old drafts h e = created (tree (path_of_bytes_or_root path)) (last_name_of_path (path_of_bytes_or_root path)) old fresh drafts h e.0 e.1
-  drafted new ps tree (ops.Mkdir path) fresh old drafts h e = made (last_name_of_path (path_of_bytes_or_root path)) fresh old drafts h e
+  drafted : (new : Disk) (ps : List Pair) (tree : Tree) (op : Operation) (fresh old drafts : List Pair) → Each (FitsPair disk) old → EditsSlots new ps (asked_in tree) op fresh old drafts → IsDrafted disk old fresh drafts (operation_blocks op)
+  drafted new ps tree (ops.Open path flags) fresh old drafts h e = created (tree (path_or_root path)) (last_name (path_or_root path)) old fresh drafts h e.0 e.1
+  drafted new ps tree (ops.Mkdir path) fresh old drafts h e = made (last_name (path_or_root path)) fresh old drafts h e
   drafted new ps tree (ops.Remove path) fresh old drafts h e = shrunk_drafted old fresh drafts (e.1 ∷ []) [] h e.0 e.2.1 (omega arith) (omega arith) (omega arith)
-  drafted new ps tree (ops.Rename from to) fresh old drafts h e = moved ps (path_of_bytes_or_root from) (path_of_bytes_or_root to) old fresh drafts h e.0 e.1
-  drafted new ps tree (ops.SetAttr path kind bytes) fresh old drafts h e = set ps (path_of_bytes_or_root path) kind bytes old fresh drafts h e.0 e.1
-  drafted new ps tree (ops.RemoveAttr path kind) fresh old drafts h e = unset ps (path_of_bytes_or_root path) kind old fresh drafts h e.0 e.1
+  drafted new ps tree (ops.Rename from to) fresh old drafts h e = moved ps (path_or_root from) (path_or_root to) old fresh drafts h e.0 e.1
+  drafted new ps tree (ops.SetAttr path kind bytes) fresh old drafts h e = set ps (path_or_root path) kind bytes old fresh drafts h e.0 e.1
+  drafted new ps tree (ops.RemoveAttr path kind) fresh old drafts h e = unset ps (path_or_root path) kind old fresh drafts h e.0 e.1
   drafted new ps tree (ops.Sync fd) fresh old drafts h e = stays_drafted old fresh drafts h e
   drafted new ps tree (ops.Close fd) fresh old drafts h e = stays_drafted old fresh drafts h e
   drafted new ps tree (ops.Read fd count) fresh old drafts h e = stays_drafted old fresh drafts h e
@@ -222,9 +222,9 @@ module _ (disk : Disk) where
 
   -- ---- the whole
 
-  module _ (new : Disk) (ps qs : List Pair) (tree : Tree) (op : Operation) (laid : IsSlotLayoutAfterOperation disk ps (asked_in tree) op new qs) (h : Each (IsContentFittingPairOnDisk disk) ps) where
-    fit_here : Each (IsContentFittingPairOnDisk disk) (pairs_without_moved_slot ps)
-    fit_here = fit_unmoved disk (gstate_of_pairs ps) ps h
+  module _ (new : Disk) (ps qs : List Pair) (tree : Tree) (op : Operation) (laid : IsLayout disk ps (asked_in tree) op new qs) (h : Each (FitsPair disk) ps) where
+    fit_here : Each (FitsPair disk) (pairs_without_moved ps)
+    fit_here = fit_unmoved disk (pairs_gstate ps) ps h
 
     parts_total : total size qs ≡ total size (flat_map (λ part. part) laid.parts) + total size laid.fresh
     parts_total =
@@ -235,35 +235,35 @@ module _ (disk : Disk) where
         let e = total_append disk laid.front laid.back in
         omega arith
 
-    pub taken_laid_out : total size qs ≤ total size (pairs_without_moved_slot ps) + blocks_taken_by_operation op
+    pub taken_laid_out : total size qs ≤ total size (pairs_without_moved ps) + operation_blocks op
     taken_laid_out =
-        let d = drafted new ps tree op laid.fresh (pairs_without_moved_slot ps) laid.drafts fit_here laid.edits in
-        let few = all_few disk (IsDirectoryUnreachedOrRemoved ps op) (pair_count_before_root ps) None laid.drafts laid.parts laid.stand d.cuts d.few in
+        let d = drafted new ps tree op laid.fresh (pairs_without_moved ps) laid.drafts fit_here laid.edits in
+        let few = all_few disk (IsDirectoryGone ps op) (pair_count_before_root ps) None laid.drafts laid.parts laid.stand d.cuts d.few in
         let same = d.same in
         let taken = d.taken in
         let all = parts_total in
         omega arith
 
   -- a recovery adds no pair, and cuts none
-  pub recovered_fit : (new : Disk) (ps qs : List Pair) (tree : Tree) → IsSlotLayoutAfterOperation disk ps (asked_in tree) ops.Recover new qs → Each (IsContentFittingPairOnDisk disk) qs
+  pub recovered_fit : (new : Disk) (ps qs : List Pair) (tree : Tree) → IsLayout disk ps (asked_in tree) ops.Recover new qs → Each (FitsPair disk) qs
   recovered_fit new ps qs tree laid =
-      let parts = parts_fit disk (IsDirectoryUnreachedOrRemoved ps ops.Recover) (pair_count_before_root ps) None laid.drafts laid.parts laid.stand in
-      let joined = subst (Each (IsContentFittingPairOnDisk disk)) laid.joined parts in
+      let parts = parts_fit disk (IsDirectoryGone ps ops.Recover) (pair_count_before_root ps) None laid.drafts laid.parts laid.stand in
+      let joined = subst (Each (FitsPair disk)) laid.joined parts in
       let none = laid.edits.0 in
-      subst (Each (IsContentFittingPairOnDisk disk)) (sym (laid.is ∙ ap (λ (z : List Pair). laid.front ++ (z ++ laid.back)) none)) joined
+      subst (Each (FitsPair disk)) (sym (laid.is ∙ ap (λ (z : List Pair). laid.front ++ (z ++ laid.back)) none)) joined
 
-  pub taken_arranged : (new : Disk) (ps qs : List Pair) (tree : Tree) (op : Operation) → IsSlotLayoutAfterRecoveryAndOperation disk ps (asked_in tree) op new qs → Each (IsContentFittingPairOnDisk disk) ps → total size qs ≤ total size (pairs_without_moved_slot ps) + blocks_taken_by_operation op
+  pub taken_arranged : (new : Disk) (ps qs : List Pair) (tree : Tree) (op : Operation) → IsLayoutRecovered disk ps (asked_in tree) op new qs → Each (FitsPair disk) ps → total size qs ≤ total size (pairs_without_moved ps) + operation_blocks op
   taken_arranged new ps qs tree op a h =
       let first = taken_laid_out a.middle ps a.between tree ops.Recover a.recovery h in
       let second = taken_laid_out new a.between qs tree op a.operation (recovered_fit a.middle ps a.between tree a.recovery) in
-      let between = total_unmoved disk (gstate_of_pairs a.between) a.between in
+      let between = total_unmoved disk (pairs_gstate a.between) a.between in
       omega arith
 
-pub room_of : (old new : TreeState) (op : Operation) → IsSoundTreeState old → old.writable ≡ true → IsOperationAppliedToTree old op new → length (disk_summary_of_tree new).used ≤ length (disk_summary_of_tree old).used + blocks_taken_by_operation op
+pub room_of : (old new : TreeState) (op : Operation) → IsSoundState old → old.writable ≡ true → IsApplied old op new → length (tree_summary new).used ≤ length (tree_summary old).used + operation_blocks op
 room_of old new op sound writable k =
-    let taken = taken_arranged old.disk new.disk old.pairs new.pairs (tree_view old) op (k.arranged []) (recursion_from_All (λ (p : Pair). IsContentFittingPair old.disk.block_size old.disk.page p.content) old.pairs (sound.fits writable).pairs) in
+    let taken = taken_arranged old.disk new.disk old.pairs new.pairs (tree_view old) op (k.arranged []) (recursion_from_All (λ (p : Pair). FitsInPair old.disk.block_size old.disk.page p.content) old.pairs (sound.fits writable).pairs) in
     let before = used_total old.disk old.pairs in
     let after = used_total new.disk new.pairs in
-    let unmoved = total_unmoved new.disk (gstate_of_pairs new.pairs) new.pairs in
+    let unmoved = total_unmoved new.disk (pairs_gstate new.pairs) new.pairs in
     let same = ap (λ n. total n new.pairs) k.geometry.block_size in
     omega arith

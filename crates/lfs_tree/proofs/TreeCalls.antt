@@ -2,19 +2,19 @@
 use Rattle.std.proofs.Common.{ℕ, ◌≡◌, ◌∙◌, ◌||◌, Bool, false, true, Result, Ok, Err, refl, sym, ap, ap₂, subst}
 use Rattle.std.specs.Prelude.{IfErr, OnErr, OnOk, is_err}
 use Rattle.lfs_device.specs.declared.error.Error.{Error}
-use Rattle.lfs_model.specs.Operations as ops
-use Rattle.lfs_model.specs.Operations.{Operation}
-use Rattle.lfs_model.specs.Slots.{zero_gstate}
-use Rattle.lfs_model.specs.Thread.{gstate_of_pairs}
-use Rattle.lfs_model.specs.Tree.{Tree}
-use Rattle.lfs_model.specs.Shown.{tree_on_disk}
+use Rattle.lfs_model.specs.session.Operations as ops
+use Rattle.lfs_model.specs.session.Operations.{Operation}
+use Rattle.lfs_model.specs.format.Slots.{zero_gstate}
+use Rattle.lfs_model.specs.format.Thread.{pairs_gstate}
+use Rattle.lfs_model.specs.tree.Tree.{Tree}
+use Rattle.lfs_model.specs.tree.Shown.{tree_on_disk}
 use Rattle.lfs_thread.specs.Kept.{KeptThread, ThreadView}
-use Rattle.lfs_tree.specs.Calls as calls
-use Rattle.lfs_tree.specs.Calls.{TreeCall, IsCallOfOperation, AppliesCallOrFails, tree_after_call}
-use Rattle.lfs_tree.specs.TreeChanges.{HasFurtherDeviceCalls, HasAppliedCall, CanChangeRecoveredImage, ChangesTreeOrFails, AppliesCallOnThreadOrFails, SurvivesWithOldOrNewTree, ReportsIoWithFaultOrNoMemory}
-use Rattle.lfs_tree.specs.RootedThreads.{IsSoundThreadUnlessFailed, IsSoundThreadWithRootAtPairNumber, tree_state_of_kept_thread, tree_state_of_thread}
-use Rattle.lfs_tree.specs.Recoveries.{HasRecoveredFromPowerLoss}
-use Rattle.lfs_tree.specs.TreeState.{IsFailedTree, IsOperationAppliedToTree, IsOperationAppliedToImage, IsIoWithFaultOrNoMemory, IsSoundTreeState, LeavesUnconcernedBlocksAlone, TreeState, SurvivesStopsInTreeCall, tree_state_without_cache, kept_thread_of_tree_state, tree_view}
+use Rattle.lfs_tree.specs.TreeCalls as calls
+use Rattle.lfs_tree.specs.TreeCalls.{TreeCall, IsOperationCall, AppliesCallOrFails, tree_after_call}
+use Rattle.lfs_tree.specs.TreeChanges.{HasFurtherCalls, HasAppliedCall, CanChangeRecovered, ChangesTreeOrFails, AppliesOrFails, SurvivesEither, ReportsFaults}
+use Rattle.lfs_tree.specs.RootedThreads.{SoundUnlessFailed, IsSoundWithRoot, kept_state, thread_state}
+use Rattle.lfs_tree.specs.Recoveries.{HasRecovered}
+use Rattle.lfs_tree.specs.TreeState.{IsFailedTree, IsApplied, IsAppliedTo, HasErrorCause, IsSoundState, LeavesOthersAlone, TreeState, SurvivesStops, without_cache, kept_thread, tree_view}
 use Rattle.lfs_tree.proofs.NotedErrors.{noted, noted_failed, noted_held}
 use Rattle.lfs_tree.proofs.Operated.{IsPlain}
 use Rattle.lfs_tree.proofs.Carried.{lists_from}
@@ -23,58 +23,58 @@ use Rattle.lfs_tree.proofs.RecoveredFirst.{called_after, carried_after, spares_a
 
 -- ---- what a change of the thread is for who sees the tree
 
-module _ (t : ThreadView) (writable : Bool) (now : TreeState) (view : tree_state_of_thread t writable ≡ now) (Done : KeptThread → Type 0) (after : Tree) {X : Type 0} (r : Result X Error) (new : ThreadView) (w : ChangesTreeOrFails t Done after r new) where
-  pub breaks : OnErr r (new.failed ≡ true) → OnErr r (IsFailedTree now (tree_state_of_thread new writable))
-  breaks failed = subst (λ (s : TreeState). OnErr r (IsFailedTree s (tree_state_of_thread new writable))) view (go r failed)
+module _ (t : ThreadView) (writable : Bool) (now : TreeState) (view : thread_state t writable ≡ now) (Done : KeptThread → Type 0) (after : Tree) {X : Type 0} (r : Result X Error) (new : ThreadView) (w : ChangesTreeOrFails t Done after r new) where
+  pub breaks : OnErr r (new.failed ≡ true) → OnErr r (IsFailedTree now (thread_state new writable))
+  breaks failed = subst (λ (s : TreeState). OnErr r (IsFailedTree s (thread_state new writable))) view (go r failed)
     where
-      go : (r : Result X Error) → OnErr r (new.failed ≡ true) → OnErr r (IsFailedTree (tree_state_of_thread t writable) (tree_state_of_thread new writable))
+      go : (r : Result X Error) → OnErr r (new.failed ≡ true) → OnErr r (IsFailedTree (thread_state t writable) (thread_state new writable))
       go (Ok x) f = tt
       go (Err e) f = record { failed = f; geometry = w.called.geometry; calls = w.called.calls; called = w.called.called }
 
-  pub reports : IfErr r (IsIoWithFaultOrNoMemory now (tree_state_of_thread new writable))
-  reports = subst (λ (s : TreeState). IfErr r (IsIoWithFaultOrNoMemory s (tree_state_of_thread new writable))) view (go r w.errors)
+  pub reports : IfErr r (HasErrorCause now (thread_state new writable))
+  reports = subst (λ (s : TreeState). IfErr r (HasErrorCause s (thread_state new writable))) view (go r w.errors)
     where
-      go : (r : Result X Error) → IfErr r (ReportsIoWithFaultOrNoMemory t.kept new.kept) → IfErr r (IsIoWithFaultOrNoMemory (tree_state_of_thread t writable) (tree_state_of_thread new writable))
+      go : (r : Result X Error) → IfErr r (ReportsFaults t.kept new.kept) → IfErr r (HasErrorCause (thread_state t writable) (thread_state new writable))
       go (Ok x) k = tt
       go (Err e) k = record { errors = k.errors; fault = k.fault; no_fault = k.no_fault }
 
 -- ---- the recovery itself
 
-module _ (t : ThreadView) (writable : Bool) (now : TreeState) (view : tree_state_of_thread t writable ≡ now) (works : t.failed ≡ false) (may : writable ≡ true) (left : gstate_of_pairs t.kept.pairs ≡ zero_gstate → ⊥)
-    {X : Type 0} (r : Result X Error) (new : ThreadView) (w : ChangesTreeOrFails t (HasRecoveredFromPowerLoss t.kept) (tree_on_disk t.kept.disk t.kept.pairs) r new) where
-  pub recovers : OnErr r (new.failed ≡ true) → AppliesCallOrFails now calls.Recover r (tree_state_of_thread new writable)
-  recovers failed = subst (λ (s : TreeState). AppliesCallOrFails s calls.Recover r (tree_state_of_thread new writable)) view (record {
+module _ (t : ThreadView) (writable : Bool) (now : TreeState) (view : thread_state t writable ≡ now) (works : t.failed ≡ false) (may : writable ≡ true) (left : pairs_gstate t.kept.pairs ≡ zero_gstate → ⊥)
+    {X : Type 0} (r : Result X Error) (new : ThreadView) (w : ChangesTreeOrFails t (HasRecovered t.kept) (tree_on_disk t.kept.disk t.kept.pairs) r new) where
+  pub recovers : OnErr r (new.failed ≡ true) → AppliesCallOrFails now calls.Recover r (thread_state new writable)
+  recovers failed = subst (λ (s : TreeState). AppliesCallOrFails s calls.Recover r (thread_state new writable)) view (record {
     done = done r w.done w.works;
     alone = alone r;
-    broken = breaks t writable (tree_state_of_thread t writable) refl (HasRecoveredFromPowerLoss t.kept) (tree_on_disk t.kept.disk t.kept.pairs) r new w failed;
-    errors = reports t writable (tree_state_of_thread t writable) refl (HasRecoveredFromPowerLoss t.kept) (tree_on_disk t.kept.disk t.kept.pairs) r new w;
+    broken = breaks t writable (thread_state t writable) refl (HasRecovered t.kept) (tree_on_disk t.kept.disk t.kept.pairs) r new w failed;
+    errors = reports t writable (thread_state t writable) refl (HasRecovered t.kept) (tree_on_disk t.kept.disk t.kept.pairs) r new w;
     survives = w.survives;
   })
     where
-      done : (r : Result X Error) → OnOk r (HasRecoveredFromPowerLoss t.kept new.kept) → OnOk r (new.failed ≡ false) → OnOk r ((op : Operation) → IsCallOfOperation calls.Recover op → IsOperationAppliedToTree (tree_state_of_thread t writable) op (tree_state_of_thread new writable))
+      done : (r : Result X Error) → OnOk r (HasRecovered t.kept new.kept) → OnOk r (new.failed ≡ false) → OnOk r ((op : Operation) → IsOperationCall calls.Recover op → IsApplied (thread_state t writable) op (thread_state new writable))
       done (Err e) k still = tt
       done (Ok x) k still = λ op is.
-          subst (λ o. IsOperationAppliedToTree (tree_state_of_thread t writable) o (tree_state_of_thread new writable)) (sym is)
-          (subst (λ (s : TreeState). IsOperationAppliedToImage s ops.Recover (tree_state_of_kept_thread new.kept writable new.failed)) (ap₂ (λ a b. tree_state_of_kept_thread t.kept a b) (sym may) (sym works))
-          (subst (λ (s : TreeState). IsOperationAppliedToImage (tree_state_of_kept_thread t.kept true false) ops.Recover s) (ap₂ (λ a b. tree_state_of_kept_thread new.kept a b) (sym may) (sym still)) k.carries))
+          subst (λ o. IsApplied (thread_state t writable) o (thread_state new writable)) (sym is)
+          (subst (λ (s : TreeState). IsAppliedTo s ops.Recover (kept_state new.kept writable new.failed)) (ap₂ (λ a b. kept_state t.kept a b) (sym may) (sym works))
+          (subst (λ (s : TreeState). IsAppliedTo (kept_state t.kept true false) ops.Recover s) (ap₂ (λ a b. kept_state new.kept a b) (sym may) (sym still)) k.carries))
 
-      alone : (r : Result X Error) → OnOk r ((op : Operation) → IsCallOfOperation calls.Recover op → LeavesUnconcernedBlocksAlone (tree_state_of_thread t writable) op (tree_state_of_thread new writable))
+      alone : (r : Result X Error) → OnOk r ((op : Operation) → IsOperationCall calls.Recover op → LeavesOthersAlone (thread_state t writable) op (thread_state new writable))
       alone (Err e) = tt
       alone (Ok x) = λ op is none. absurd (left none)
 
-  pub settles_seen : OnOk r (HasRecoveredFromPowerLoss (kept_thread_of_tree_state now) new.kept)
-  settles_seen = subst (λ (s : TreeState). OnOk r (HasRecoveredFromPowerLoss (kept_thread_of_tree_state s) new.kept)) view w.done
+  pub settles_seen : OnOk r (HasRecovered (kept_thread now) new.kept)
+  settles_seen = subst (λ (s : TreeState). OnOk r (HasRecovered (kept_thread s) new.kept)) view w.done
 
 -- where nothing is left nothing is done
-leaves_itself : (t : TreeState) (op : Operation) → LeavesUnconcernedBlocksAlone t op t
+leaves_itself : (t : TreeState) (op : Operation) → LeavesOthersAlone t op t
 leaves_itself t op none files = record {
   files = lists_from t.disk t.disk t.pairs (λ b some. refl);
   pairs = λ p here there other. (refl, refl);
 }
 
-pub recovers_nothing : (t : TreeState) → t.failed ≡ false → t.writable ≡ true → IsSoundTreeState t → gstate_of_pairs t.pairs ≡ zero_gstate → (r : Result (Unit {0}) Error) → r ≡ Ok tt → AppliesCallOrFails t calls.Recover r t
+pub recovers_nothing : (t : TreeState) → t.failed ≡ false → t.writable ≡ true → IsSoundState t → pairs_gstate t.pairs ≡ zero_gstate → (r : Result (Unit {0}) Error) → r ≡ Ok tt → AppliesCallOrFails t calls.Recover r t
 recovers_nothing t works may sound none r is = subst (λ (z : Result (Unit {0}) Error). AppliesCallOrFails t calls.Recover z t) (sym is) (record {
-  done = λ op does. subst (λ o. IsOperationAppliedToTree t o t) (sym does) (recovered_already t works may sound none);
+  done = λ op does. subst (λ o. IsApplied t o t) (sym does) (recovered_already t works may sound none);
   alone = λ op does. leaves_itself t op;
   broken = tt;
   errors = tt;
@@ -87,70 +87,70 @@ recovery_failed {X} {Y} old mid call r s e f was is same k =
     subst (λ (z : Result Y Error). AppliesCallOrFails old call z mid) (sym (is ∙ ap Err same)) (go (subst (λ (z : Result X Error). AppliesCallOrFails old calls.Recover z mid) was k))
   where
     go : (let z : Result X Error = Err e in AppliesCallOrFails old calls.Recover z mid) → (let z : Result Y Error = Err e in AppliesCallOrFails old call z mid)
-    go k = record { done = tt; alone = tt; broken = k.broken; errors = k.errors; survives = survives_before (kept_thread_of_tree_state old) (kept_thread_of_tree_state mid) (tree_after_call call (tree_view old)) k.survives }
+    go k = record { done = tt; alone = tt; broken = k.broken; errors = k.errors; survives = survives_before (kept_thread old) (kept_thread mid) (tree_after_call call (tree_view old)) k.survives }
 
 -- ---- what comes behind it
 
-module _ (old mid : TreeState) (works : old.failed ≡ false) (may : old.writable ≡ true) (done : IsOperationAppliedToTree old ops.Recover mid) (settled : HasRecoveredFromPowerLoss (kept_thread_of_tree_state old) (kept_thread_of_tree_state mid))
-    (t : ThreadView) (root : ℕ) (writable : Bool) (held : IsSoundThreadUnlessFailed t root writable) (view : tree_state_of_thread t writable ≡ mid) where
+module _ (old mid : TreeState) (works : old.failed ≡ false) (may : old.writable ≡ true) (done : IsApplied old ops.Recover mid) (settled : HasRecovered (kept_thread old) (kept_thread mid))
+    (t : ThreadView) (root : ℕ) (writable : Bool) (held : SoundUnlessFailed t root writable) (view : thread_state t writable ≡ mid) where
   pub writes : writable ≡ true
   writes = ap (λ (s : TreeState). s.writable) view ∙ done.writable
 
-  kept_is : t.kept ≡ kept_thread_of_tree_state mid
-  kept_is = ap kept_thread_of_tree_state view
+  kept_is : t.kept ≡ kept_thread mid
+  kept_is = ap kept_thread view
 
-  pub settled_here : HasRecoveredFromPowerLoss (kept_thread_of_tree_state old) t.kept
-  settled_here = subst (λ (k : KeptThread). HasRecoveredFromPowerLoss (kept_thread_of_tree_state old) k) (sym kept_is) settled
+  pub settled_here : HasRecovered (kept_thread old) t.kept
+  settled_here = subst (λ (k : KeptThread). HasRecovered (kept_thread old) k) (sym kept_is) settled
 
-  bare_is : tree_state_without_cache old ≡ tree_state_of_kept_thread (kept_thread_of_tree_state old) true false
-  bare_is = ap₂ (λ a b. tree_state_of_kept_thread (kept_thread_of_tree_state old) a b) may works
+  bare_is : without_cache old ≡ kept_state (kept_thread old) true false
+  bare_is = ap₂ (λ a b. kept_state (kept_thread old) a b) may works
 
   -- what is asked for
-  pub allowed : (P : TreeState → Type 0) → P (tree_state_without_cache old) → P (tree_state_of_kept_thread (kept_thread_of_tree_state old) true false)
+  pub allowed : (P : TreeState → Type 0) → P (without_cache old) → P (kept_state (kept_thread old) true false)
   allowed P h = subst P bare_is h
 
-  pub rests_behind : CanChangeRecoveredImage t root
+  pub rests_behind : CanChangeRecovered t root
   rests_behind = record {
-    held = subst (λ a. IsSoundThreadWithRootAtPairNumber t root a) writes (held (ap (λ (s : TreeState). s.failed) view ∙ done.works));
-    settled = subst (λ (k : KeptThread). gstate_of_pairs k.pairs ≡ zero_gstate) (sym kept_is) done.recovered.gstate;
+    held = subst (λ a. IsSoundWithRoot t root a) writes (held (ap (λ (s : TreeState). s.failed) view ∙ done.works));
+    settled = subst (λ (k : KeptThread). pairs_gstate k.pairs ≡ zero_gstate) (sym kept_is) done.recovered.gstate;
   }
 
-  module _ (call : TreeCall) (plain : (op : Operation) → IsCallOfOperation call op → IsPlain op) (first : SurvivesStopsInTreeCall old mid (tree_view old)) where
-    operates : {X : Type 0} (r : Result X Error) (new : ThreadView) → AppliesCallOnThreadOrFails t call r new → OnErr r (new.failed ≡ true) → AppliesCallOrFails old call r (tree_state_of_thread new writable)
+  module _ (call : TreeCall) (plain : (op : Operation) → IsOperationCall call op → IsPlain op) (first : SurvivesStops old mid (tree_view old)) where
+    operates : {X : Type 0} (r : Result X Error) (new : ThreadView) → AppliesOrFails t call r new → OnErr r (new.failed ≡ true) → AppliesCallOrFails old call r (thread_state new writable)
     operates {X} r new w failed = record {
       done = dones r w.done w.works;
       alone = alone r w.done;
       broken = broken r failed;
       errors = errors r w.errors;
-      survives = survives_after (kept_thread_of_tree_state old) t.kept settled_here new.kept (tree_after_call call) w.called
-          (subst (λ (k : KeptThread). SurvivesWithOldOrNewTree (kept_thread_of_tree_state old) k (tree_view old)) (sym kept_is) first) w.survives;
+      survives = survives_after (kept_thread old) t.kept settled_here new.kept (tree_after_call call) w.called
+          (subst (λ (k : KeptThread). SurvivesEither (kept_thread old) k (tree_view old)) (sym kept_is) first) w.survives;
     }
       where
-        all : HasFurtherDeviceCalls (kept_thread_of_tree_state old) new.kept
-        all = called_after (kept_thread_of_tree_state old) t.kept settled_here new.kept w.called
+        all : HasFurtherCalls (kept_thread old) new.kept
+        all = called_after (kept_thread old) t.kept settled_here new.kept w.called
 
-        dones : (r : Result X Error) → OnOk r (HasAppliedCall t.kept call new.kept) → OnOk r (new.failed ≡ false) → OnOk r ((op : Operation) → IsCallOfOperation call op → IsOperationAppliedToTree old op (tree_state_of_thread new writable))
+        dones : (r : Result X Error) → OnOk r (HasAppliedCall t.kept call new.kept) → OnOk r (new.failed ≡ false) → OnOk r ((op : Operation) → IsOperationCall call op → IsApplied old op (thread_state new writable))
         dones (Err e) k still = tt
         dones (Ok x) k still = λ op does.
-            subst (λ (s : TreeState). IsOperationAppliedToImage s op (tree_state_of_kept_thread new.kept writable new.failed)) (sym bare_is)
-            (subst (λ (s : TreeState). IsOperationAppliedToImage (tree_state_of_kept_thread (kept_thread_of_tree_state old) true false) op s) (ap₂ (λ a b. tree_state_of_kept_thread new.kept a b) (sym writes) (sym still))
-            (carried_after (kept_thread_of_tree_state old) t.kept settled_here new.kept op (plain op does).0 (plain op does).1 (k.carries op does)))
+            subst (λ (s : TreeState). IsAppliedTo s op (kept_state new.kept writable new.failed)) (sym bare_is)
+            (subst (λ (s : TreeState). IsAppliedTo (kept_state (kept_thread old) true false) op s) (ap₂ (λ a b. kept_state new.kept a b) (sym writes) (sym still))
+            (carried_after (kept_thread old) t.kept settled_here new.kept op (plain op does).0 (plain op does).1 (k.carries op does)))
 
-        alone : (r : Result X Error) → OnOk r (HasAppliedCall t.kept call new.kept) → OnOk r ((op : Operation) → IsCallOfOperation call op → LeavesUnconcernedBlocksAlone old op (tree_state_of_thread new writable))
+        alone : (r : Result X Error) → OnOk r (HasAppliedCall t.kept call new.kept) → OnOk r ((op : Operation) → IsOperationCall call op → LeavesOthersAlone old op (thread_state new writable))
         alone (Err e) k = tt
-        alone (Ok x) k = λ op does. spares_after (kept_thread_of_tree_state old) t.kept settled_here new.kept op (k.spares op does)
+        alone (Ok x) k = λ op does. spares_after (kept_thread old) t.kept settled_here new.kept op (k.spares op does)
 
-        broken : (r : Result X Error) → OnErr r (new.failed ≡ true) → OnErr r (IsFailedTree old (tree_state_of_thread new writable))
+        broken : (r : Result X Error) → OnErr r (new.failed ≡ true) → OnErr r (IsFailedTree old (thread_state new writable))
         broken (Ok x) f = tt
         broken (Err e) f = record { failed = f; geometry = all.geometry; calls = all.calls; called = all.called }
 
-        errors : (r : Result X Error) → IfErr r (ReportsIoWithFaultOrNoMemory t.kept new.kept) → IfErr r (IsIoWithFaultOrNoMemory old (tree_state_of_thread new writable))
+        errors : (r : Result X Error) → IfErr r (ReportsFaults t.kept new.kept) → IfErr r (HasErrorCause old (thread_state new writable))
         errors (Ok x) k = tt
-        errors (Err e) k = let m = reported_after (kept_thread_of_tree_state old) t.kept settled_here new.kept e k in record { errors = m.errors; fault = m.fault; no_fault = m.no_fault }
+        errors (Err e) k = let m = reported_after (kept_thread old) t.kept settled_here new.kept e k in record { errors = m.errors; fault = m.fault; no_fault = m.no_fault }
 
-    module _ {X : Type 0} (b new : ThreadView) (r : Result X Error) (w : AppliesCallOnThreadOrFails t call r b) (f : new ≡ record b { failed = is_err r || b.failed }) where
-      pub operates_noted : AppliesCallOrFails old call r (tree_state_of_thread new writable)
+    module _ {X : Type 0} (b new : ThreadView) (r : Result X Error) (w : AppliesOrFails t call r b) (f : new ≡ record b { failed = is_err r || b.failed }) where
+      pub operates_noted : AppliesCallOrFails old call r (thread_state new writable)
       operates_noted = operates r new (noted t b new (HasAppliedCall t.kept call) (tree_after_call call (tree_on_disk t.kept.disk t.kept.pairs)) r w f) (noted_failed t b new (HasAppliedCall t.kept call) (tree_after_call call (tree_on_disk t.kept.disk t.kept.pairs)) r w f)
 
-      pub held_noted : IsSoundThreadUnlessFailed new root writable
-      held_noted = subst (λ a. IsSoundThreadUnlessFailed new root a) (sym writes) (noted_held t b new (HasAppliedCall t.kept call) (tree_after_call call (tree_on_disk t.kept.disk t.kept.pairs)) r w f root rests_behind.held)
+      pub held_noted : SoundUnlessFailed new root writable
+      held_noted = subst (λ a. SoundUnlessFailed new root a) (sym writes) (noted_held t b new (HasAppliedCall t.kept call) (tree_after_call call (tree_on_disk t.kept.disk t.kept.pairs)) r w f root rests_behind.held)

@@ -3,10 +3,10 @@ use Rattle.std.proofs.Common.{ℕ, ◌≡◌, ◌⊎◌, ◌==◌, ◌||◌, Boo
 use Rattle.std.specs.Prelude.{◌↔◌, Contains, IsTrue}
 use Rattle.std.specs.List.{list_any}
 use Rattle.std.proofs.lemmas.Bool.{eqb-false}
-use Rattle.lfs_model.specs.BlockSets.{AreExactlyTheUsedBlocks, BlockStateList, IsBlockMarkedUsedInMap, used_count}
-use Rattle.lfs_model.specs.Shown.{used_blocks}
-use Rattle.lfs_model.proofs.BlockSets.{Contains-cons, Contains-head, Contains-tail, used_count-AreExactlyTheUsedBlocks}
-use Rattle.lfs_tree.specs.TreeState.{TreeState, IsSoundTreeState}
+use Rattle.lfs_model.specs.layers.BlockSets.{AreUsed, BlockStates, IsUsedBlock, used_count}
+use Rattle.lfs_model.specs.tree.Shown.{used_blocks}
+use Rattle.lfs_model.proofs.BlockSets.{Contains-cons, Contains-head, Contains-tail, used_count-AreUsed}
+use Rattle.lfs_tree.specs.TreeState.{TreeState, IsSoundState}
 
 contained_any : (bs : List ℕ) (block : ℕ) → Contains bs block → list_any (λ b. b == block) bs ≡ true
 contained_any [] block h = absurd (omega (arith, h.1))
@@ -26,7 +26,7 @@ any_contained (b ∷ bs) block h = go (b == block) refl (any_contained bs block)
     go false e rest k = Contains-tail b block bs (rest k)
 
 -- by the map
-pub used_is : (sets : BlockStateList) (bs : List ℕ) (block : ℕ) (r : Bool) → AreExactlyTheUsedBlocks sets bs → IsTrue r ↔ IsBlockMarkedUsedInMap sets block → r ≡ list_any (λ b. b == block) bs
+pub used_is : (sets : BlockStates) (bs : List ℕ) (block : ℕ) (r : Bool) → AreUsed sets bs → IsTrue r ↔ IsUsedBlock sets block → r ≡ list_any (λ b. b == block) bs
 used_is sets bs block true are h = sym (contained_any bs block ((are block).0 (h.0 refl)))
 used_is sets bs block false are h = go (list_any (λ b. b == block) bs) refl
   where
@@ -34,5 +34,5 @@ used_is sets bs block false are h = go (list_any (λ b. b == block) bs) refl
     go false e = refl
     go true e = absurd (let k = h.1 ((are block).1 (any_contained bs block e)) in cc)
 
-pub count_is : (t : TreeState) → IsSoundTreeState t → used_count t.map ≡ length (used_blocks t.disk t.pairs)
-count_is t s = used_count-AreExactlyTheUsedBlocks t.map (used_blocks t.disk t.pairs) s.accepted.owned_once s.used
+pub count_is : (t : TreeState) → IsSoundState t → used_count t.map ≡ length (used_blocks t.disk t.pairs)
+count_is t s = used_count-AreUsed t.map (used_blocks t.disk t.pairs) s.accepted.owned_once s.used

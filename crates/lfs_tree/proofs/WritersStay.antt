@@ -4,28 +4,28 @@ use Rattle.std.specs.Prelude.{Contains}
 use Rattle.std.proofs.lemmas.List.Elements.{Contains-append_cases}
 use Rattle.std.proofs.lemmas.Option.{slice_get-get_or}
 use Rattle.lfs_device.specs.declared.geometry.Geometry.{Geometry}
-use Rattle.lfs_file.specs.Growing.{GrowingList, blocks_kept_when_growing as blocks_kept, unwritten_block_of_list, growing_list_size_with_block_size, size_of_growing_list}
-use Rattle.lfs_tree.specs.ThreadContents.{list_blocks_of_contents}
-use Rattle.lfs_model.specs.Blocks.{Blocks, block_bytes_by_number}
-use Rattle.lfs_model.specs.BlockSets.{BlockStateList, BlockState, IsBlockFree, IsBlockInFlight, IsBlockMarkedUsedInMap, in_flight_block_count}
-use Rattle.lfs_model.specs.BlockSets.BlockState.{Free, InFlight, Used}
-use Rattle.lfs_model.specs.Disk.{SameGeometry}
-use Rattle.lfs_model.specs.Keeping.{removes_or_moves_path_or_ancestor}
-use Rattle.lfs_model.specs.SkipLists.{list_blocks_from_head, list_block_count_for_size}
-use Rattle.lfs_model.specs.Operations.{Operation}
-use Rattle.lfs_model.specs.Tree.{Path}
+use Rattle.lfs_file.specs.Growing.{GrowingList, kept_blocks as blocks_kept, unwritten_block, growing_size_with, growing_size}
+use Rattle.lfs_tree.specs.ThreadContents.{contents_list_blocks}
+use Rattle.lfs_model.specs.format.Blocks.{Blocks, block_bytes}
+use Rattle.lfs_model.specs.layers.BlockSets.{BlockStates, BlockState, IsFree, IsInFlight, IsUsedBlock, in_flight_count}
+use Rattle.lfs_model.specs.layers.BlockSets.BlockState.{Free, InFlight, Used}
+use Rattle.lfs_model.specs.format.Disk.{SameGeometry}
+use Rattle.lfs_model.specs.layers.Keeping.{takes_away}
+use Rattle.lfs_model.specs.format.SkipLists.{blocks_to_head, block_count_for}
+use Rattle.lfs_model.specs.session.Operations.{Operation}
+use Rattle.lfs_model.specs.tree.Tree.{Path}
 use Rattle.lfs_model.proofs.BlockCounts.{few_flying}
-use Rattle.lfs_tree.specs.KeptFiles.{KeepsFileAtPath}
-use Rattle.lfs_tree.specs.OpenContents.{AreWriterContentsOverTreeFile, bytes_of_writer_contents}
-use Rattle.lfs_tree.specs.TreeState.{IsOperationAppliedToTree, IsSoundTreeState, KeepsBlocksInFlightUnchanged, TreeState, tree_state_without_cache, kept_thread_of_tree_state}
+use Rattle.lfs_tree.specs.KeptFiles.{KeepsFileAt}
+use Rattle.lfs_tree.specs.OpenContents.{OverTreeFile, writer_contents_bytes}
+use Rattle.lfs_tree.specs.TreeState.{IsApplied, IsSoundState, KeepsInFlight, TreeState, without_cache, kept_thread}
 use Rattle.lfs_tree.proofs.ContentsStay.{StayAs, base_list, bytes_stay, hand_bytes_stay, hand_stays, hand_still, list_stays, of_all, stored_stays}
 use Rattle.lfs_tree.proofs.KeptFiles.{list_used}
-use Rattle.lfs_file.specs.BlocksApart.{IsUsedOrInFlightButNotUnwritten}
-use Rattle.lfs_file.specs.Bases.{IsSkipListOnDiskUnlessEmpty, list_blocks_by_head_and_size}
-use Rattle.lfs_file.specs.Contents.{AreContentsConsistentWithMapAndDisk, writer_contents_bytes_in_memory_or_blocks, storage_form_of_contents}
-use Rattle.lfs_file.specs.Form.{in_flight_block_limit_of_storage_form}
-use Rattle.lfs_file.specs.Hand.{CanEndGrowingListOverBase, list_bytes_then_rest_of_base}
-use Rattle.lfs_file.specs.BlockOwners.{blocks_of_contents}
+use Rattle.lfs_file.specs.BlocksApart.{IsTakenWritten}
+use Rattle.lfs_file.specs.Bases.{IsListOrEmpty, list_blocks_from}
+use Rattle.lfs_file.specs.Contents.{AreSoundContents, contents_bytes, contents_form}
+use Rattle.lfs_file.specs.Form.{form_in_flight}
+use Rattle.lfs_file.specs.Hand.{CanEndOver, bytes_over_base}
+use Rattle.lfs_file.specs.BlockOwners.{contents_blocks}
 use Rattle.lfs_file.specs.declared.contents.WriterContents.{WriterContents}
 use Rattle.lfs_file.specs.declared.contents.WriterContents.TheVariants.{InMemory, Finished, InHand}
 use Rattle.lfs_file.specs.declared.stored_list.StoredList.{StoredList}
@@ -34,23 +34,23 @@ use Rattle.lfs_file.proofs.Flights.{begun_flying, stored_flying}
 
 -- ---- contents in each form
 
-abbrev pub StandStill : BlockStateList → Blocks → Geometry → WriterContents → BlockStateList → Blocks → Type 0
-StandStill map d now c later e = AreContentsConsistentWithMapAndDisk later e now c × ((blocks_of_contents e now.block_size c ≡ blocks_of_contents d now.block_size c) × (writer_contents_bytes_in_memory_or_blocks e now.block_size c ≡ writer_contents_bytes_in_memory_or_blocks d now.block_size c))
+abbrev pub StandStill : BlockStates → Blocks → Geometry → WriterContents → BlockStates → Blocks → Type 0
+StandStill map d now c later e = AreSoundContents later e now c × ((contents_blocks e now.block_size c ≡ contents_blocks d now.block_size c) × (contents_bytes e now.block_size c ≡ contents_bytes d now.block_size c))
 
-hand_still_on : (map later : BlockStateList) (d e : Blocks) (now : Geometry) (hand : PendingList) → now ≡ hand.list.geometry → CanEndGrowingListOverBase map d now.block_size hand.list hand.base hand.shared
-    → StayAs map d (blocks_of_contents d now.block_size (InHand hand)) later e
-    → CanEndGrowingListOverBase later e now.block_size hand.list hand.base hand.shared
-    × ((blocks_of_contents e now.block_size (InHand hand) ≡ blocks_of_contents d now.block_size (InHand hand)) × (list_bytes_then_rest_of_base e now.block_size hand.list hand.base ≡ list_bytes_then_rest_of_base d now.block_size hand.list hand.base))
+hand_still_on : (map later : BlockStates) (d e : Blocks) (now : Geometry) (hand : PendingList) → now ≡ hand.list.geometry → CanEndOver map d now.block_size hand.list hand.base hand.shared
+    → StayAs map d (contents_blocks d now.block_size (InHand hand)) later e
+    → CanEndOver later e now.block_size hand.list hand.base hand.shared
+    × ((contents_blocks e now.block_size (InHand hand) ≡ contents_blocks d now.block_size (InHand hand)) × (bytes_over_base e now.block_size hand.list hand.base ≡ bytes_over_base d now.block_size hand.list hand.base))
 hand_still_on map later d e now hand is list stay = (
   hand_stays map later d e now.block_size hand.list hand.base hand.shared list stay,
   (
-    ap (λ (l : List ℕ). l ++ list_blocks_by_head_and_size e now.block_size hand.base.head hand.base.size) (hand_still map later d e now.block_size hand.list hand.base hand.shared list stay).kept
+    ap (λ (l : List ℕ). l ++ list_blocks_from e now.block_size hand.base.head hand.base.size) (hand_still map later d e now.block_size hand.list hand.base hand.shared list stay).kept
         ∙ ap (λ (l : List ℕ). blocks_kept d hand.list ++ l) (base_list map later d e now.block_size hand.list hand.base hand.shared list stay),
     hand_bytes_stay map later d e now.block_size hand.list hand.base hand.shared list stay,
   ),
 )
 
-pub stands_still : (map later : BlockStateList) (d e : Blocks) (now : Geometry) (c : WriterContents) → StayAs map d (blocks_of_contents d now.block_size c) later e → AreContentsConsistentWithMapAndDisk map d now c → StandStill map d now c later e
+pub stands_still : (map later : BlockStates) (d e : Blocks) (now : Geometry) (c : WriterContents) → StayAs map d (contents_blocks d now.block_size c) later e → AreSoundContents map d now c → StandStill map d now c later e
 stands_still map later d e now (InMemory list) stay is = (
   record {
     idle = record { count = stay.size ∙ is.idle.count ∙ sym stay.count; none = λ b flies. is.idle.none b (stay.none_comes b flies) };
@@ -61,81 +61,81 @@ stands_still map later d e now (InMemory list) stay is = (
 stands_still map later d e now (Finished stored) stay is =
     (stored_stays map later d e now.block_size stored stay is, (list_stays map later d e now.block_size stored stay, bytes_stay map later d e now.block_size stored stay))
 stands_still map later d e now (InHand hand) stay is =
-    let on = hand_still_on map later d e now hand is.geometry (subst (λ (k : Geometry). CanEndGrowingListOverBase map d k.block_size hand.list hand.base hand.shared) (sym is.geometry) is.list) stay in (
+    let on = hand_still_on map later d e now hand is.geometry (subst (λ (k : Geometry). CanEndOver map d k.block_size hand.list hand.base hand.shared) (sym is.geometry) is.list) stay in (
       record {
         geometry = is.geometry;
-        list = subst (λ (k : Geometry). CanEndGrowingListOverBase later e k.block_size hand.list hand.base hand.shared) is.geometry on.0;
+        list = subst (λ (k : Geometry). CanEndOver later e k.block_size hand.list hand.base hand.shared) is.geometry on.0;
         some = is.some;
       },
-      (on.1.0, subst (λ (k : Geometry). list_bytes_then_rest_of_base e k.block_size hand.list hand.base ≡ list_bytes_then_rest_of_base d k.block_size hand.list hand.base) is.geometry on.1.1),
+      (on.1.0, subst (λ (k : Geometry). bytes_over_base e k.block_size hand.list hand.base ≡ bytes_over_base d k.block_size hand.list hand.base) is.geometry on.1.1),
     )
 
 -- at most so many blocks are in flight
-pub stands_flying : (map : BlockStateList) (d : Blocks) (now : Geometry) (c : WriterContents) → AreContentsConsistentWithMapAndDisk map d now c → in_flight_block_count map ≤ in_flight_block_limit_of_storage_form now.block_size (storage_form_of_contents c)
+pub stands_flying : (map : BlockStates) (d : Blocks) (now : Geometry) (c : WriterContents) → AreSoundContents map d now c → in_flight_count map ≤ form_in_flight now.block_size (contents_form c)
 stands_flying map d now (InMemory list) is = few_flying [] map (λ b flies. absurd (is.idle.none b flies))
 stands_flying map d now (Finished stored) is = stored_flying map d now.block_size stored is
 stands_flying map d now (InHand hand) is =
-    let list : CanEndGrowingListOverBase map d now.block_size hand.list hand.base hand.shared = subst (λ (k : Geometry). CanEndGrowingListOverBase map d k.block_size hand.list hand.base hand.shared) (sym is.geometry) is.list in
+    let list : CanEndOver map d now.block_size hand.list hand.base hand.shared = subst (λ (k : Geometry). CanEndOver map d k.block_size hand.list hand.base hand.shared) (sym is.geometry) is.list in
     let few = begun_flying map d now.block_size hand.list hand.base hand.shared list.begun in
     let many = list.many in
-    let e : growing_list_size_with_block_size now.block_size hand.list ≡ size_of_growing_list hand.list = ap (λ (k : Geometry). growing_list_size_with_block_size k.block_size hand.list) is.geometry in
-    let f = ap (list_block_count_for_size now.block_size) e in
+    let e : growing_size_with now.block_size hand.list ≡ growing_size hand.list = ap (λ (k : Geometry). growing_size_with k.block_size hand.list) is.geometry in
+    let f = ap (block_count_for now.block_size) e in
     omega arith
 
 -- ---- no block of theirs is free
 
-state_of : (sets : BlockStateList) (b : ℕ) → b < length sets → ¬ (IsBlockFree sets b) → IsBlockMarkedUsedInMap sets b ⊎ IsBlockInFlight sets b
+state_of : (sets : BlockStates) (b : ℕ) → b < length sets → ¬ (IsFree sets b) → IsUsedBlock sets b ⊎ IsInFlight sets b
 state_of sets b below taken = go (get_or sets b Free) (slice_get-get_or sets b Free below)
   where
-    go : (s : BlockState) → slice_get sets b ≡ Some s → IsBlockMarkedUsedInMap sets b ⊎ IsBlockInFlight sets b
+    go : (s : BlockState) → slice_get sets b ≡ Some s → IsUsedBlock sets b ⊎ IsInFlight sets b
     go Free is = absurd (taken is)
     go InFlight is = inr is
     go Used is = inl is
 
-base_below : (d : Blocks) (block_size : ℕ) (s : StoredList) → IsSkipListOnDiskUnlessEmpty d block_size s.head s.size → (b : ℕ) → Contains (list_blocks_by_head_and_size d block_size s.head s.size) b → b < length d
-base_below d block_size s (inl none) b has = absurd (let k : Contains [] b = subst (λ n. Contains (list_blocks_by_head_and_size d block_size s.head n) b) none has in omega (arith, k.1))
-base_below d block_size s (inr list) b has = of_all (λ x. x < length d) (list_blocks_by_head_and_size d block_size s.head s.size) list.blocks.in_range b has
+base_below : (d : Blocks) (block_size : ℕ) (s : StoredList) → IsListOrEmpty d block_size s.head s.size → (b : ℕ) → Contains (list_blocks_from d block_size s.head s.size) b → b < length d
+base_below d block_size s (inl none) b has = absurd (let k : Contains [] b = subst (λ n. Contains (list_blocks_from d block_size s.head n) b) none has in omega (arith, k.1))
+base_below d block_size s (inr list) b has = of_all (λ x. x < length d) (list_blocks_from d block_size s.head s.size) list.blocks.in_range b has
 
-own_state : (map : BlockStateList) (d : Blocks) (block_size : ℕ) (g : GrowingList) (base : StoredList) (shared : ℕ) → CanEndGrowingListOverBase map d block_size g base shared → (b : ℕ) → Contains (blocks_kept d g) b → IsBlockMarkedUsedInMap map b ⊎ IsBlockInFlight map b
+own_state : (map : BlockStates) (d : Blocks) (block_size : ℕ) (g : GrowingList) (base : StoredList) (shared : ℕ) → CanEndOver map d block_size g base shared → (b : ℕ) → Contains (blocks_kept d g) b → IsUsedBlock map b ⊎ IsInFlight map b
 own_state map d block_size g base shared hand b has = ⊎_elim
-    (λ full. state_of map b (let l = of_all (λ x. x < length d) (list_blocks_from_head d g.full g.head) hand.begun.growing.chain.in_range b full in omega (arith, l, hand.begun.marked.count))
-    (of_all (λ x. ¬ (IsBlockFree map x)) (blocks_kept d g) hand.begun.marked.kept b has))
-    (λ pending. inr (of_all (IsBlockInFlight map) (unwritten_block_of_list g) hand.begun.marked.pending b pending))
-    (Contains-append_cases (list_blocks_from_head d g.full g.head) (unwritten_block_of_list g) b has)
+    (λ full. state_of map b (let l = of_all (λ x. x < length d) (blocks_to_head d g.full g.head) hand.begun.growing.chain.in_range b full in omega (arith, l, hand.begun.marked.count))
+    (of_all (λ x. ¬ (IsFree map x)) (blocks_kept d g) hand.begun.marked.kept b has))
+    (λ pending. inr (of_all (IsInFlight map) (unwritten_block g) hand.begun.marked.pending b pending))
+    (Contains-append_cases (blocks_to_head d g.full g.head) (unwritten_block g) b has)
 
-pub held_states : (map : BlockStateList) (d : Blocks) (now : Geometry) (c : WriterContents) → AreContentsConsistentWithMapAndDisk map d now c → (b : ℕ) → Contains (blocks_of_contents d now.block_size c) b → IsBlockMarkedUsedInMap map b ⊎ IsBlockInFlight map b
+pub held_states : (map : BlockStates) (d : Blocks) (now : Geometry) (c : WriterContents) → AreSoundContents map d now c → (b : ℕ) → Contains (contents_blocks d now.block_size c) b → IsUsedBlock map b ⊎ IsInFlight map b
 held_states map d now (InMemory list) is b has = absurd (omega (arith, has.1))
 held_states map d now (Finished stored) is b has =
-    state_of map b (let l = base_below d now.block_size stored is.base b has in omega (arith, l, is.count)) (of_all (λ x. ¬ (IsBlockFree map x)) (list_blocks_by_head_and_size d now.block_size stored.head stored.size) is.marked b has)
+    state_of map b (let l = base_below d now.block_size stored is.base b has in omega (arith, l, is.count)) (of_all (λ x. ¬ (IsFree map x)) (list_blocks_from d now.block_size stored.head stored.size) is.marked b has)
 held_states map d now (InHand hand) is b has =
-    let list : CanEndGrowingListOverBase map d now.block_size hand.list hand.base hand.shared = subst (λ (k : Geometry). CanEndGrowingListOverBase map d k.block_size hand.list hand.base hand.shared) (sym is.geometry) is.list in
+    let list : CanEndOver map d now.block_size hand.list hand.base hand.shared = subst (λ (k : Geometry). CanEndOver map d k.block_size hand.list hand.base hand.shared) (sym is.geometry) is.list in
     ⊎_elim (own_state map d now.block_size hand.list hand.base hand.shared list b)
     (λ base. state_of map b (let l = base_below d now.block_size hand.base list.begun.list b base in omega (arith, l, list.begun.marked.count))
-    (of_all (λ x. IsUsedOrInFlightButNotUnwritten map (unwritten_block_of_list hand.list) x) (list_blocks_by_head_and_size d now.block_size hand.base.head hand.base.size) list.begun.apart b base).0)
-    (Contains-append_cases (blocks_kept d hand.list) (list_blocks_by_head_and_size d now.block_size hand.base.head hand.base.size) b has)
+    (of_all (λ x. IsTakenWritten map (unwritten_block hand.list) x) (list_blocks_from d now.block_size hand.base.head hand.base.size) list.begun.apart b base).0)
+    (Contains-append_cases (blocks_kept d hand.list) (list_blocks_from d now.block_size hand.base.head hand.base.size) b has)
 
 -- ---- the contents of a writer
 
-module _ (old new : TreeState) (path : Path) (c : WriterContents) (over : AreWriterContentsOverTreeFile old path c) (before : IsSoundTreeState old) (sound : IsSoundTreeState new) (geometry : SameGeometry old.disk new.disk) (flight : KeepsBlocksInFlightUnchanged old new)
-    (keeps : KeepsFileAtPath (kept_thread_of_tree_state old) (kept_thread_of_tree_state new) path) where
+module _ (old new : TreeState) (path : Path) (c : WriterContents) (over : OverTreeFile old path c) (before : IsSoundState old) (sound : IsSoundState new) (geometry : SameGeometry old.disk new.disk) (flight : KeepsInFlight old new)
+    (keeps : KeepsFileAt (kept_thread old) (kept_thread new) path) where
   abbrev now : Geometry
   now = over.stands.geometry
 
-  held_here : blocks_of_contents old.disk.blocks now.block_size c ≡ list_blocks_of_contents (kept_thread_of_tree_state old) c
-  held_here = ap (λ n. blocks_of_contents old.disk.blocks n c) over.stands.divided.block_size
+  held_here : contents_blocks old.disk.blocks now.block_size c ≡ contents_list_blocks (kept_thread old) c
+  held_here = ap (λ n. contents_blocks old.disk.blocks n c) over.stands.divided.block_size
 
   abbrev IsStill : ℕ → Type 0
-  IsStill b = (block_bytes_by_number new.disk.blocks b ≡ block_bytes_by_number old.disk.blocks b) × (slice_get new.map b ≡ slice_get old.map b)
+  IsStill b = (block_bytes new.disk.blocks b ≡ block_bytes old.disk.blocks b) × (slice_get new.map b ≡ slice_get old.map b)
 
-  each_still : (b : ℕ) → Contains (blocks_of_contents old.disk.blocks now.block_size c) b → IsStill b
+  each_still : (b : ℕ) → Contains (contents_blocks old.disk.blocks now.block_size c) b → IsStill b
   each_still b has = ⊎_elim
       (λ used.
       let own = over.owned.each b (subst (λ (l : List ℕ). Contains l b) held_here has) used in
-      (keeps.bytes b own, list_used (kept_thread_of_tree_state new) path sound.accepted sound.used b (subst (λ (l : List ℕ). Contains l b) (sym keeps.list) own) ∙ sym used))
+      (keeps.bytes b own, list_used (kept_thread new) path sound.accepted sound.used b (subst (λ (l : List ℕ). Contains l b) (sym keeps.list) own) ∙ sym used))
       (λ flies. (flight.bytes b flies, flight.stay b flies ∙ sym flies))
       (held_states old.map old.disk.blocks now c over.stands.stands b has)
 
-  stay : StayAs old.map old.disk.blocks (blocks_of_contents old.disk.blocks now.block_size c) new.map new.disk.blocks
+  stay : StayAs old.map old.disk.blocks (contents_blocks old.disk.blocks now.block_size c) new.map new.disk.blocks
   stay = record {
     size = sound.size ∙ geometry.count ∙ sym before.size;
     count = geometry.count;
@@ -147,10 +147,10 @@ module _ (old new : TreeState) (path : Path) (c : WriterContents) (over : AreWri
   still : StandStill old.map old.disk.blocks now c new.map new.disk.blocks
   still = stands_still old.map new.map old.disk.blocks new.disk.blocks now c stay over.stands.stands
 
-  held_now : list_blocks_of_contents (kept_thread_of_tree_state new) c ≡ blocks_of_contents old.disk.blocks now.block_size c
-  held_now = ap (λ n. blocks_of_contents new.disk.blocks n c) (geometry.block_size ∙ sym over.stands.divided.block_size) ∙ still.1.0
+  held_now : contents_list_blocks (kept_thread new) c ≡ contents_blocks old.disk.blocks now.block_size c
+  held_now = ap (λ n. contents_blocks new.disk.blocks n c) (geometry.block_size ∙ sym over.stands.divided.block_size) ∙ still.1.0
 
-  pub over_stays : AreWriterContentsOverTreeFile new path c
+  pub over_stays : OverTreeFile new path c
   over_stays = record {
     file = keeps.file;
     stands = record {
@@ -170,15 +170,15 @@ module _ (old new : TreeState) (path : Path) (c : WriterContents) (over : AreWri
     };
   }
 
-  pub bytes_held_stay : bytes_of_writer_contents (kept_thread_of_tree_state new) c ≡ bytes_of_writer_contents (kept_thread_of_tree_state old) c
-  bytes_held_stay = ap (λ n. writer_contents_bytes_in_memory_or_blocks new.disk.blocks n c) (geometry.block_size ∙ sym over.stands.divided.block_size) ∙ still.1.1 ∙ ap (λ n. writer_contents_bytes_in_memory_or_blocks old.disk.blocks n c) over.stands.divided.block_size
+  pub bytes_held_stay : writer_contents_bytes (kept_thread new) c ≡ writer_contents_bytes (kept_thread old) c
+  bytes_held_stay = ap (λ n. contents_bytes new.disk.blocks n c) (geometry.block_size ∙ sym over.stands.divided.block_size) ∙ still.1.1 ∙ ap (λ n. contents_bytes old.disk.blocks n c) over.stands.divided.block_size
 
-pub contents_stay : (old new : TreeState) (op : Operation) (path : Path) (c : WriterContents) → AreWriterContentsOverTreeFile old path c → IsSoundTreeState old → IsOperationAppliedToTree old op new → removes_or_moves_path_or_ancestor op path ≡ false
-    → AreWriterContentsOverTreeFile new path c × (bytes_of_writer_contents (kept_thread_of_tree_state new) c ≡ bytes_of_writer_contents (kept_thread_of_tree_state old) c)
+pub contents_stay : (old new : TreeState) (op : Operation) (path : Path) (c : WriterContents) → OverTreeFile old path c → IsSoundState old → IsApplied old op new → takes_away op path ≡ false
+    → OverTreeFile new path c × (writer_contents_bytes (kept_thread new) c ≡ writer_contents_bytes (kept_thread old) c)
 contents_stay old new op path c over sound k away =
     let keeps = k.keeps path over.file away in
-    (over_stays (tree_state_without_cache old) (tree_state_without_cache new) path c over sound k.sound k.geometry k.flight keeps, bytes_held_stay (tree_state_without_cache old) (tree_state_without_cache new) path c over sound k.sound k.geometry k.flight keeps)
+    (over_stays (without_cache old) (without_cache new) path c over sound k.sound k.geometry k.flight keeps, bytes_held_stay (without_cache old) (without_cache new) path c over sound k.sound k.geometry k.flight keeps)
 
 -- no more blocks are in flight than contents in that form may have
-pub flying_of : (t : TreeState) (path : Path) (c : WriterContents) → AreWriterContentsOverTreeFile t path c → in_flight_block_count t.map ≤ in_flight_block_limit_of_storage_form t.disk.block_size (storage_form_of_contents c)
-flying_of t path c over = subst (λ n. in_flight_block_count t.map ≤ in_flight_block_limit_of_storage_form n (storage_form_of_contents c)) over.stands.divided.block_size (stands_flying t.map t.disk.blocks over.stands.geometry c over.stands.stands)
+pub flying_of : (t : TreeState) (path : Path) (c : WriterContents) → OverTreeFile t path c → in_flight_count t.map ≤ form_in_flight t.disk.block_size (contents_form c)
+flying_of t path c over = subst (λ n. in_flight_count t.map ≤ form_in_flight n (contents_form c)) over.stands.divided.block_size (stands_flying t.map t.disk.blocks over.stands.geometry c over.stands.stands)

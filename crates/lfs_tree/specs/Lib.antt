@@ -5,9 +5,9 @@ pub mod TreeState
 pub mod Permissions
 pub mod RootedThreads
 pub mod SlotChanges
-pub mod Calls
+pub mod TreeCalls
 pub mod TreeChanges
-pub mod Moves
+pub mod MovedEntries
 pub mod LostLists
 pub mod Removals
 pub mod OpenContents
@@ -15,8 +15,8 @@ pub mod Openings
 pub mod Stores
 pub mod Orphans
 pub mod Recoveries
-pub mod Reads
-pub mod RenamePaths
+pub mod TreeReads
+pub mod RenameFindings
 pub mod ThreadContents
 pub mod SettledFiles
 pub mod StructChanges

@@ -1,32 +1,32 @@
 -- What a file gives a writer that opens it.
 use Rattle.std.specs.Prelude.{All, false}
-use Rattle.lfs_model.specs.BlockSets.{IsBlockFree}
-use Rattle.lfs_model.specs.Slots.{Slot, Struct}
-use Rattle.lfs_model.specs.Shown.{skip_list_blocks_of_struct}
-use Rattle.lfs_tree.specs.ThreadContents.{AreConsistentContentsWithBytesAndFormOnThread, list_blocks_of_contents}
+use Rattle.lfs_model.specs.layers.BlockSets.{IsFree}
+use Rattle.lfs_model.specs.format.Slots.{Slot, Struct}
+use Rattle.lfs_model.specs.tree.Shown.{struct_blocks}
+use Rattle.lfs_tree.specs.ThreadContents.{HasContents, contents_list_blocks}
 use Rattle.lfs_thread.specs.Kept.{KeptThread}
-use Rattle.lfs_lookup.specs.BytesAt.{IsFileSlotAtSpot}
-use Rattle.lfs_lookup.specs.FileBytes.{file_bytes_of_struct}
+use Rattle.lfs_lookup.specs.BytesAt.{IsFileAt}
+use Rattle.lfs_lookup.specs.FileBytes.{struct_file_bytes}
 use Rattle.lfs_lookup.specs.declared.entry.FileStorage.{FileStorage}
 use Rattle.lfs_lookup.specs.declared.entry.FileStorage.TheVariants as entry
 use Rattle.lfs_lookup.specs.declared.search.SlotPosition.{SlotPosition}
-use Rattle.lfs_file.specs.Contents.{HasNoBlockInFlight}
+use Rattle.lfs_file.specs.Contents.{NoneInFlight}
 use Rattle.lfs_file.specs.Form as form
-use Rattle.lfs_file.specs.Form.{ContentsStorageForm}
-use Rattle.lfs_file.specs.BlockOwners.{AreUsedBlocksOfListAmongOwnBlocks}
+use Rattle.lfs_file.specs.Form.{StorageForm}
+use Rattle.lfs_file.specs.BlockOwners.{AreOwn}
 use Rattle.lfs_file.specs.declared.contents.WriterContents.{WriterContents}
 
 -- a file's slot is there, no block is in flight, and the blocks of the file's list aren't free
-pub record CanOpenSlotFileWithNothingInFlight (t : KeptThread) (slot : SlotPosition) (contents : FileStorage) (held : Slot) : Type 0 where
-  pub file : IsFileSlotAtSpot t slot contents held
-  pub idle : HasNoBlockInFlight t.map t.disk.blocks
-  pub marked : All (λ b. ¬ (IsBlockFree t.map b)) (skip_list_blocks_of_struct t.disk held.struct)
+pub record CanOpenSlot (t : KeptThread) (slot : SlotPosition) (contents : FileStorage) (held : Slot) : Type 0 where
+  pub file : IsFileAt t slot contents held
+  pub idle : NoneInFlight t.map t.disk.blocks
+  pub marked : All (λ b. ¬ (IsFree t.map b)) (struct_blocks t.disk held.struct)
 
-abbrev pub form_of_opened_storage : FileStorage → ContentsStorageForm
-form_of_opened_storage (entry.Inline len) = form.InMemory len
-form_of_opened_storage (entry.List head size) = form.Finished size false
+abbrev pub opened_form : FileStorage → StorageForm
+opened_form (entry.Inline len) = form.InMemory len
+opened_form (entry.List head size) = form.Finished size false
 
 -- a writer has the bytes of the struct, in memory or as the file's list
-pub record AreOpenedContentsOfStruct (t : KeptThread) (struct : Struct) (shape : ContentsStorageForm) (contents : WriterContents) : Type 0 where
-  pub holds : AreConsistentContentsWithBytesAndFormOnThread t contents (file_bytes_of_struct t.disk struct) shape
-  pub owned : AreUsedBlocksOfListAmongOwnBlocks t.map (skip_list_blocks_of_struct t.disk struct) (list_blocks_of_contents t contents)
+pub record AreOpenedContents (t : KeptThread) (struct : Struct) (shape : StorageForm) (contents : WriterContents) : Type 0 where
+  pub holds : HasContents t contents (struct_file_bytes t.disk struct) shape
+  pub owned : AreOwn t.map (struct_blocks t.disk struct) (contents_list_blocks t contents)

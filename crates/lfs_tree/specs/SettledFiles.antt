@@ -1,29 +1,29 @@
 -- A list that a commit names, in place of another.
 use Rattle.std.specs.Prelude.{ℕ, ◌≡◌, ◌++◌, List, length, Contains}
-use Rattle.lfs_model.specs.Disk.{block_count}
-use Rattle.lfs_model.specs.History.{AreCallsSinceOnlyReads}
-use Rattle.lfs_model.specs.Thread.{blocks_of_pairs}
+use Rattle.lfs_model.specs.format.Disk.{block_count}
+use Rattle.lfs_model.specs.session.History.{OnlyReadsSince}
+use Rattle.lfs_model.specs.format.Thread.{blocks_of_pairs}
 use Rattle.lfs_thread.specs.Kept.{KeptThread}
-use Rattle.lfs_file.specs.Bases.{IsSkipListOnDiskUnlessEmpty, list_blocks_by_head_and_size}
-use Rattle.lfs_file.specs.SettledMaps.{MarksNewListUsedAndOldFree, AreSharedBlocksUsed}
+use Rattle.lfs_file.specs.Bases.{IsListOrEmpty, list_blocks_from}
+use Rattle.lfs_file.specs.SettledMaps.{SettlesList, AreSharedUsed}
 use Rattle.lfs_file.specs.declared.stored_list.StoredList.{StoredList}
 
-abbrev pub blocks_of_list_on_thread : KeptThread → StoredList → List ℕ
-blocks_of_list_on_thread t s = list_blocks_by_head_and_size t.disk.blocks t.disk.block_size s.head s.size
+abbrev pub thread_list_blocks : KeptThread → StoredList → List ℕ
+thread_list_blocks t s = list_blocks_from t.disk.blocks t.disk.block_size s.head s.size
 
 -- Both lists are on the disk, or have no block. No block of theirs is a pair's, and those that both have are used.
-pub record CanMarkStoredListUsedAndOldFree (t : KeptThread) (before stored : StoredList) : Type 0 where
-  pub was : IsSkipListOnDiskUnlessEmpty t.disk.blocks t.disk.block_size before.head before.size
-  pub list : IsSkipListOnDiskUnlessEmpty t.disk.blocks t.disk.block_size stored.head stored.size
+pub record CanSettleFile (t : KeptThread) (before stored : StoredList) : Type 0 where
+  pub was : IsListOrEmpty t.disk.blocks t.disk.block_size before.head before.size
+  pub list : IsListOrEmpty t.disk.blocks t.disk.block_size stored.head stored.size
   pub size : length t.map ≡ block_count t.disk
-  pub apart : (b : ℕ) → Contains (blocks_of_pairs t.pairs) b → ¬ (Contains (blocks_of_list_on_thread t before ++ blocks_of_list_on_thread t stored) b)
-  pub shared : AreSharedBlocksUsed t.map (blocks_of_list_on_thread t before) (blocks_of_list_on_thread t stored)
+  pub apart : (b : ℕ) → Contains (blocks_of_pairs t.pairs) b → ¬ (Contains (thread_list_blocks t before ++ thread_list_blocks t stored) b)
+  pub shared : AreSharedUsed t.map (thread_list_blocks t before) (thread_list_blocks t stored)
 
 -- nothing was written, and the pairs are the same
-pub record ChangesOnlyBlockMap (old new : KeptThread) : Type 0 where
+pub record ChangesOnlyMap (old new : KeptThread) : Type 0 where
   pub disk : new.disk ≡ old.disk
-  pub reads : AreCallsSinceOnlyReads old.disk.blocks old.history new.history
+  pub reads : OnlyReadsSince old.disk.blocks old.history new.history
   pub pairs : new.pairs ≡ old.pairs
 
-abbrev pub IsStoredListUsedAndOldListFree : KeptThread → StoredList → StoredList → KeptThread → Type 0
-IsStoredListUsedAndOldListFree old before stored new = MarksNewListUsedAndOldFree old.map new.map (blocks_of_list_on_thread old before) (blocks_of_list_on_thread old stored)
+abbrev pub IsListSettled : KeptThread → StoredList → StoredList → KeptThread → Type 0
+IsListSettled old before stored new = SettlesList old.map new.map (thread_list_blocks old before) (thread_list_blocks old stored)

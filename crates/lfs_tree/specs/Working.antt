@@ -1,28 +1,28 @@
 -- Threads that work, and may be asked or changed.
 use Rattle.std.specs.Prelude.{ℕ, ◌≡◌, false, true, IfErr, OnOk, Result}
 use Rattle.lfs_device.specs.declared.error.Error.{Error}
-use Rattle.lfs_model.specs.BlockSets.{in_flight_block_count}
-use Rattle.lfs_model.specs.History.{fault_count_of_history}
-use Rattle.lfs_model.specs.Shown.{tree_on_disk}
-use Rattle.lfs_model.specs.Tree.{Path}
-use Rattle.lfs_model.specs.TreeEdits.{is_file}
+use Rattle.lfs_model.specs.layers.BlockSets.{in_flight_count}
+use Rattle.lfs_model.specs.session.History.{fault_count}
+use Rattle.lfs_model.specs.tree.Shown.{tree_on_disk}
+use Rattle.lfs_model.specs.tree.Tree.{Path}
+use Rattle.lfs_model.specs.session.TreeEdits.{is_file}
 use Rattle.lfs_thread.specs.Kept.{KeptThread, ThreadView}
-use Rattle.lfs_tree.specs.RootedThreads.{IsSoundThreadWithRootAtPairNumber}
-use Rattle.lfs_tree.specs.TreeChanges.{ReportsIoWithFaultOrNoMemory}
+use Rattle.lfs_tree.specs.RootedThreads.{IsSoundWithRoot}
+use Rattle.lfs_tree.specs.TreeChanges.{ReportsFaults}
 
 -- the thread works, and what it keeps meets a condition
-pub record IsWorkingThreadWhere (t : ThreadView) (Can : KeptThread → Type 0) : Type 0 where
+pub record IsWorkingWhere (t : ThreadView) (Can : KeptThread → Type 0) : Type 0 where
   pub works : t.failed ≡ false
   pub can : Can t.kept
 
 -- At Ok the thread works, and no call of the device failed. `Io` comes with a fault of the device, and `NoMemory` without one.
 pub record WorksOrReportsFault {X : Type 0} (old new : ThreadView) (result : Result X Error) : Type 0 where
   pub works : OnOk result (new.failed ≡ false)
-  pub no_fault : OnOk result (fault_count_of_history new.kept.history ≡ fault_count_of_history old.kept.history)
-  pub errors : IfErr result (ReportsIoWithFaultOrNoMemory old.kept new.kept)
+  pub no_fault : OnOk result (fault_count new.kept.history ≡ fault_count old.kept.history)
+  pub errors : IfErr result (ReportsFaults old.kept new.kept)
 
 -- the image is sound and in the writing profile, no block is in flight, and a file is at the path
-pub record CanOpenFileAtPath (t : ThreadView) (root : ℕ) (path : Path) : Type 0 where
-  pub held : IsSoundThreadWithRootAtPairNumber t root true
-  pub idle : in_flight_block_count t.kept.map ≡ 0
+pub record CanOpenPathFile (t : ThreadView) (root : ℕ) (path : Path) : Type 0 where
+  pub held : IsSoundWithRoot t root true
+  pub idle : in_flight_count t.kept.map ≡ 0
   pub file : is_file (tree_on_disk t.kept.disk t.kept.pairs path) ≡ true

@@ -6,7 +6,7 @@ use lfs_device::{BlockDevice, Error};
 use lfs_thread::Thread;
 
 // The thread has failed where a call returned an error.
-pub(crate) fn mark_thread_failed_on_error<D: BlockDevice, X>(
+pub(crate) fn mark_failed<D: BlockDevice, X>(
     thread: &mut Thread<D>,
     answer: &Result<X, Error>,
 )

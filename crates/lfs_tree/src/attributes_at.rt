@@ -1,13 +1,13 @@
 // Attributes of entries at paths, in a thread that has nothing to recover.
 
 ghost use Rattle.std.specs.Prelude.{◌≡◌, true, false};
-ghost use Rattle.lfs_tree.specs.Permissions.{CanRemoveAttrAtPath, CanSetAttrAtPath};
-ghost use Rattle.lfs_tree.specs.Calls as call;
-ghost use Rattle.lfs_tree.specs.TreeChanges.{CanChangeRecoveredImage, AppliesCallOnThreadOrFails};
-ghost use Rattle.lfs_tree.specs.SlotChanges.{IsSpotOfFoundEntry, is_entry_found};
-ghost use Rattle.lfs_tree.specs.RootedThreads.{tree_state_of_kept_thread};
+ghost use Rattle.lfs_tree.specs.Permissions.{CanRemoveAttr, CanSetAttr};
+ghost use Rattle.lfs_tree.specs.TreeCalls as call;
+ghost use Rattle.lfs_tree.specs.TreeChanges.{CanChangeRecovered, AppliesOrFails};
+ghost use Rattle.lfs_tree.specs.SlotChanges.{IsFoundSpot, is_entry_found};
+ghost use Rattle.lfs_tree.specs.RootedThreads.{kept_state};
 
-use crate::entries_at::{find_at_path, show_block_facts_to_proof};
+use crate::entries_at::{find_at_path, lemma_block_facts};
 use lfs_device::{BlockDevice, Error};
 use lfs_lookup::{Path, PathLookup, SlotPosition};
 use lfs_operations::{remove_attribute, set_attribute};
@@ -15,9 +15,9 @@ use lfs_thread::Thread;
 use std::alloc::Global;
 
 // Returns the slot of an entry that was found.
-fn spot_of_found_entry(found: PathLookup) -> SlotPosition
+fn found_entry_spot(found: PathLookup) -> SlotPosition
     requires { is_entry_found found ≡ true }
-    ensures { IsSpotOfFoundEntry found result }
+    ensures { IsFoundSpot found result }
 {
     match found {
         PathLookup::Directory { slot, .. } | PathLookup::File { slot, .. } => slot,
@@ -36,14 +36,14 @@ pub(crate) fn set_attr_at<D: BlockDevice>(
     kind: u8,
     bytes: &[u8],
 ) -> Result<(), Error>
-    requires rests { CanChangeRecoveredImage thread.old root }
-    requires can { CanSetAttrAtPath (tree_state_of_kept_thread thread.old.kept true false) path.now kind bytes.now }
-    ensures { AppliesCallOnThreadOrFails thread.old (call.SetAttr path.now kind bytes.now) result thread.new }
+    requires rests { CanChangeRecovered thread.old root }
+    requires can { CanSetAttr (kept_state thread.old.kept true false) path.now kind bytes.now }
+    ensures { AppliesOrFails thread.old (call.SetAttr path.now kind bytes.now) result thread.new }
 {
-    path.show_path_comes_from_bytes_to_proof();
-    show_block_facts_to_proof(thread);
+    path.lemma_path_bytes();
+    lemma_block_facts(thread);
     let target = find_at_path(alloc, thread, root, path)?;
-    let slot = spot_of_found_entry(target.found);
+    let slot = found_entry_spot(target.found);
     set_attribute(alloc, thread, slot.pair, slot.id, kind, bytes)
 }
 
@@ -57,13 +57,13 @@ pub(crate) fn remove_attr_at<D: BlockDevice>(
     path: &Path<'_>,
     kind: u8,
 ) -> Result<(), Error>
-    requires rests { CanChangeRecoveredImage thread.old root }
-    requires can { CanRemoveAttrAtPath (tree_state_of_kept_thread thread.old.kept true false) path.now kind }
-    ensures { AppliesCallOnThreadOrFails thread.old (call.RemoveAttr path.now kind) result thread.new }
+    requires rests { CanChangeRecovered thread.old root }
+    requires can { CanRemoveAttr (kept_state thread.old.kept true false) path.now kind }
+    ensures { AppliesOrFails thread.old (call.RemoveAttr path.now kind) result thread.new }
 {
-    path.show_path_comes_from_bytes_to_proof();
-    show_block_facts_to_proof(thread);
+    path.lemma_path_bytes();
+    lemma_block_facts(thread);
     let target = find_at_path(alloc, thread, root, path)?;
-    let slot = spot_of_found_entry(target.found);
+    let slot = found_entry_spot(target.found);
     remove_attribute(alloc, thread, slot.pair, slot.id, kind)
 }

@@ -1,12 +1,12 @@
 // The contents of files that are open for writing, on the device of a thread of metadata pairs.
 
 ghost use Rattle.std.specs.Prelude.{◌≡◌, false, is_err, length, take, IfErr, IfOk, OnOk};
-ghost use Rattle.lfs_model.specs.Writers.{contents_after_write, bytes_padded_with_zeros};
-ghost use Rattle.lfs_tree.specs.SettledFiles.{CanMarkStoredListUsedAndOldFree, ChangesOnlyBlockMap, IsStoredListUsedAndOldListFree};
-ghost use Rattle.lfs_tree.specs.ThreadContents.{CanFinishContentsOnThread, CanTruncateContentsOnThread, CanWriteContentsOnThread, AreConsistentContentsWithBytesAndFormOnThread, LeavesPairsAndUsedBlocksUnchanged, ReportsFaultOrNoMemory, list_blocks_of_contents};
-ghost use Rattle.lfs_file.specs.Contents.{writer_contents_bytes_in_memory_or_blocks, storage_form_after_finish, storage_form_of_contents};
-ghost use Rattle.lfs_file.specs.Form.{storage_form_after_truncate, storage_form_after_write};
-ghost use Rattle.lfs_file.specs.BlockOwners.{AreUsedBlocksOfListAmongOwnBlocks};
+ghost use Rattle.lfs_model.specs.session.Writers.{written_contents, padded_with_zeros};
+ghost use Rattle.lfs_tree.specs.SettledFiles.{CanSettleFile, ChangesOnlyMap, IsListSettled};
+ghost use Rattle.lfs_tree.specs.ThreadContents.{CanFinish, CanTruncate, CanWrite, HasContents, KeepsPairs, ReportsFaultOrNoMemory, contents_list_blocks};
+ghost use Rattle.lfs_file.specs.Contents.{contents_bytes, form_after_finish, contents_form};
+ghost use Rattle.lfs_file.specs.Form.{truncated_form, written_form};
+ghost use Rattle.lfs_file.specs.BlockOwners.{AreOwn};
 
 use lfs_device::{BlockDevice, Error};
 use lfs_file::{
@@ -31,15 +31,15 @@ pub fn write_file<D: BlockDevice>(
     bytes: &[u8],
 ) -> Result<WriterContents, Error>
     requires works { thread.old.failed ≡ false }
-    requires can { CanWriteContentsOnThread thread.old.kept contents limit place (length bytes.now) }
-    ensures written { IfOk result (λ c. AreConsistentContentsWithBytesAndFormOnThread thread.new.kept c (contents_after_write (writer_contents_bytes_in_memory_or_blocks thread.old.kept.disk.blocks thread.old.kept.disk.block_size contents) place bytes.now)
-        (storage_form_after_write limit place (length bytes.now) (storage_form_of_contents contents))) }
-    ensures owned { IfOk result (λ c. AreUsedBlocksOfListAmongOwnBlocks thread.new.kept.map (list_blocks_of_contents thread.old.kept contents) (list_blocks_of_contents thread.new.kept c)) }
+    requires can { CanWrite thread.old.kept contents limit place (length bytes.now) }
+    ensures written { IfOk result (λ c. HasContents thread.new.kept c (written_contents (contents_bytes thread.old.kept.disk.blocks thread.old.kept.disk.block_size contents) place bytes.now)
+        (written_form limit place (length bytes.now) (contents_form contents))) }
+    ensures owned { IfOk result (λ c. AreOwn thread.new.kept.map (contents_list_blocks thread.old.kept contents) (contents_list_blocks thread.new.kept c)) }
     ensures works { thread.new.failed ≡ false }
-    ensures leaves { LeavesPairsAndUsedBlocksUnchanged thread.old.kept thread.new.kept }
+    ensures leaves { KeepsPairs thread.old.kept thread.new.kept }
     ensures reports { ReportsFaultOrNoMemory thread.old.kept thread.new.kept result }
 {
-    thread.run_work_on_device_and_map(|device, map| {
+    thread.run_on_device(|device, map| {
         write_contents(alloc, device, map, contents, limit, place, bytes)
     })
 }
@@ -59,15 +59,15 @@ pub fn truncate_file<D: BlockDevice>(
     size: u32,
 ) -> Result<WriterContents, Error>
     requires works { thread.old.failed ≡ false }
-    requires can { CanTruncateContentsOnThread thread.old.kept contents limit size }
-    ensures truncated { IfOk result (λ c. AreConsistentContentsWithBytesAndFormOnThread thread.new.kept c (take size (bytes_padded_with_zeros size (writer_contents_bytes_in_memory_or_blocks thread.old.kept.disk.blocks thread.old.kept.disk.block_size contents)))
-        (storage_form_after_truncate limit size (storage_form_of_contents contents))) }
-    ensures owned { IfOk result (λ c. AreUsedBlocksOfListAmongOwnBlocks thread.new.kept.map (list_blocks_of_contents thread.old.kept contents) (list_blocks_of_contents thread.new.kept c)) }
+    requires can { CanTruncate thread.old.kept contents limit size }
+    ensures truncated { IfOk result (λ c. HasContents thread.new.kept c (take size (padded_with_zeros size (contents_bytes thread.old.kept.disk.blocks thread.old.kept.disk.block_size contents)))
+        (truncated_form limit size (contents_form contents))) }
+    ensures owned { IfOk result (λ c. AreOwn thread.new.kept.map (contents_list_blocks thread.old.kept contents) (contents_list_blocks thread.new.kept c)) }
     ensures works { thread.new.failed ≡ false }
-    ensures leaves { LeavesPairsAndUsedBlocksUnchanged thread.old.kept thread.new.kept }
+    ensures leaves { KeepsPairs thread.old.kept thread.new.kept }
     ensures reports { ReportsFaultOrNoMemory thread.old.kept thread.new.kept result }
 {
-    thread.run_work_on_device_and_map(|device, map| truncate_contents(
+    thread.run_on_device(|device, map| truncate_contents(
         alloc, device, map, contents, limit, size,
     ))
 }
@@ -83,31 +83,31 @@ pub fn finish_file<D: BlockDevice>(
     contents: WriterContents,
 ) -> Result<WriterContents, Error>
     requires works { thread.old.failed ≡ false }
-    requires can { CanFinishContentsOnThread thread.old.kept contents }
-    ensures finished { IfOk result (λ c. AreConsistentContentsWithBytesAndFormOnThread thread.new.kept c (writer_contents_bytes_in_memory_or_blocks thread.old.kept.disk.blocks thread.old.kept.disk.block_size contents) (storage_form_after_finish (storage_form_of_contents contents))) }
-    ensures owned { IfOk result (λ c. AreUsedBlocksOfListAmongOwnBlocks thread.new.kept.map (list_blocks_of_contents thread.old.kept contents) (list_blocks_of_contents thread.new.kept c)) }
+    requires can { CanFinish thread.old.kept contents }
+    ensures finished { IfOk result (λ c. HasContents thread.new.kept c (contents_bytes thread.old.kept.disk.blocks thread.old.kept.disk.block_size contents) (form_after_finish (contents_form contents))) }
+    ensures owned { IfOk result (λ c. AreOwn thread.new.kept.map (contents_list_blocks thread.old.kept contents) (contents_list_blocks thread.new.kept c)) }
     ensures works { thread.new.failed ≡ false }
-    ensures leaves { LeavesPairsAndUsedBlocksUnchanged thread.old.kept thread.new.kept }
+    ensures leaves { KeepsPairs thread.old.kept thread.new.kept }
     ensures reports { ReportsFaultOrNoMemory thread.old.kept thread.new.kept result }
 {
-    thread.run_work_on_device_and_map(|device, map| finish_contents(alloc, device, map, contents))
+    thread.run_on_device(|device, map| finish_contents(alloc, device, map, contents))
 }
 
 // Settles a list in the map of a thread, which works on. After an error the map is of no use.
-fn mark_list_used_and_old_free_in_map<D: BlockDevice>(
+fn settle_in_map<D: BlockDevice>(
     thread: &mut Thread<D>,
     before: StoredList,
     stored: StoredList,
 ) -> Result<(), Error>
     requires works { thread.old.failed ≡ false }
-    requires can { CanMarkStoredListUsedAndOldFree thread.old.kept before stored }
-    ensures settled { OnOk result (IsStoredListUsedAndOldListFree thread.old.kept before stored thread.new.kept) }
+    requires can { CanSettleFile thread.old.kept before stored }
+    ensures settled { OnOk result (IsListSettled thread.old.kept before stored thread.new.kept) }
     ensures errors { IfErr result (λ e. e ≡ Error.Io) }
-    ensures only { ChangesOnlyBlockMap thread.old.kept thread.new.kept }
+    ensures only { ChangesOnlyMap thread.old.kept thread.new.kept }
     ensures works { thread.new.failed ≡ false }
     ensures reports { ReportsFaultOrNoMemory thread.old.kept thread.new.kept result }
 {
-    thread.run_work_on_device_and_map(|device, map| settle_list(device, map, before, stored))
+    thread.run_on_device(|device, map| settle_list(device, map, before, stored))
 }
 
 /// Settles a finished list after a commit that names it. Its blocks are used, and those that only
@@ -122,14 +122,14 @@ pub fn settle_file<D: BlockDevice>(
     stored: StoredList,
 ) -> Result<(), Error>
     requires works { thread.old.failed ≡ false }
-    requires can { CanMarkStoredListUsedAndOldFree thread.old.kept before stored }
-    ensures settled { OnOk result (IsStoredListUsedAndOldListFree thread.old.kept before stored thread.new.kept) }
+    requires can { CanSettleFile thread.old.kept before stored }
+    ensures settled { OnOk result (IsListSettled thread.old.kept before stored thread.new.kept) }
     ensures errors { IfErr result (λ e. e ≡ Error.Io) }
-    ensures only { ChangesOnlyBlockMap thread.old.kept thread.new.kept }
+    ensures only { ChangesOnlyMap thread.old.kept thread.new.kept }
     ensures failed { thread.new.failed ≡ is_err result }
     ensures reports { ReportsFaultOrNoMemory thread.old.kept thread.new.kept result }
 {
-    let result = mark_list_used_and_old_free_in_map(thread, before, stored);
+    let result = settle_in_map(thread, before, stored);
     if result.is_err() {
         thread.fail();
     }

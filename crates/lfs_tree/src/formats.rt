@@ -1,14 +1,14 @@
 // An empty file system on a device.
 
 ghost use Rattle.std.specs.Prelude.{◌≡◌, ◌≤◌, ◌+◌, [], false, IfErr, IfOk, OnOk};
-ghost use Rattle.lfs_device.specs.Calls.{ChangesOnlyTheseBlocks, ReportsFaults};
-ghost use Rattle.lfs_model.specs.History.{erase_count_of_history};
-ghost use Rattle.lfs_model.specs.Thread.{anchor_pair_address, blocks_of_pair_address};
+ghost use Rattle.lfs_device.specs.DeviceCalls.{ChangesOnlyTheseBlocks, ReportsFaults};
+ghost use Rattle.lfs_model.specs.session.History.{erase_count};
+ghost use Rattle.lfs_model.specs.format.Thread.{anchor_address, address_blocks};
 ghost use Rattle.lfs_pair.specs.ChangeView.{changes_view};
-ghost use Rattle.lfs_pair.specs.Fresh.{LeavesDeviceUntouchedAtNoMemory};
-ghost use Rattle.lfs_thread.specs.Kept.{disk_of_device, kept_thread_in_order};
-ghost use Rattle.lfs_thread.specs.Steps.{ThreadChangesOnlyTheseBlocks};
-ghost use Rattle.lfs_tree.specs.Formats.{FailedFormatSparesOtherBlocks, ErasesTwoBlocks, IsBlockMapAfterFormat, IsHeaderOfEmptyRoot, IsThreadOfEmptyRoot, IsFreshlyFormatted, IsWritableImageWithEmptyRoot, superblock_slot_changes};
+ghost use Rattle.lfs_pair.specs.FreshPair.{LeavesDeviceUntouchedAtNoMemory};
+ghost use Rattle.lfs_thread.specs.Kept.{disk_of_device, kept_in_order};
+ghost use Rattle.lfs_thread.specs.ThreadSteps.{ChangesThreadBlocks};
+ghost use Rattle.lfs_tree.specs.Formats.{FailedFormatSparesOtherBlocks, ErasesTwo, IsFormattedMap, IsRootHeader, IsRootThread, IsFormatted, IsEmptyWritable, superblock_slot_changes};
 
 use lfs_blocks::{BlockMap, Cache};
 use lfs_device::{BlockDevice, Error};
@@ -41,14 +41,14 @@ fn superblock_changes<'a>(structure: &'a [u8; 24]) -> [Change<'a>; 2]
 }
 
 // Writes the superblock, and nothing else, into a pair of the blocks 0 and 1.
-fn write_root_pair_with_superblock<D: BlockDevice>(
+fn write_root_pair<D: BlockDevice>(
     alloc: Global,
     device: &mut D,
 ) -> Result<Pair, Error>
-    ensures root { IfOk result (λ pair. IsHeaderOfEmptyRoot (disk_of_device D.BlockDevice device.new) (D.history device.new) pair) }
-    ensures erases { OnOk result (erase_count_of_history (D.history device.new) ≡ erase_count_of_history (D.history device.old) + 2) }
+    ensures root { IfOk result (λ pair. IsRootHeader (disk_of_device D.BlockDevice device.new) (D.history device.new) pair) }
+    ensures erases { OnOk result (erase_count (D.history device.new) ≡ erase_count (D.history device.old) + 2) }
     ensures error { IfErr result (λ e. LeavesDeviceUntouchedAtNoMemory device.old device.new e) }
-    ensures device { ChangesOnlyTheseBlocks D.BlockDevice (blocks_of_pair_address anchor_pair_address) device.old device.new }
+    ensures device { ChangesOnlyTheseBlocks D.BlockDevice (address_blocks anchor_address) device.old device.new }
     ensures faults { ReportsFaults D.BlockDevice device.old device.new result }
 {
     let geometry = device.geometry();
@@ -59,30 +59,30 @@ fn write_root_pair_with_superblock<D: BlockDevice>(
 }
 
 // Writes the superblock, and makes its pair the only one of the thread.
-fn write_thread_of_root_pair<D: BlockDevice>(
+fn write_root_thread<D: BlockDevice>(
     alloc: Global,
     device: &mut D,
     pairs: &mut Vec<Pair>,
 ) -> Result<(), Error>
     requires none { pairs.old.items ≡ [] }
-    ensures root { OnOk result (IsThreadOfEmptyRoot (disk_of_device D.BlockDevice device.new) (D.history device.new) pairs.new.items) }
-    ensures erases { OnOk result (erase_count_of_history (D.history device.new) ≡ erase_count_of_history (D.history device.old) + 2) }
+    ensures root { OnOk result (IsRootThread (disk_of_device D.BlockDevice device.new) (D.history device.new) pairs.new.items) }
+    ensures erases { OnOk result (erase_count (D.history device.new) ≡ erase_count (D.history device.old) + 2) }
     ensures error { IfErr result (λ e. LeavesDeviceUntouchedAtNoMemory device.old device.new e) }
-    ensures device { ChangesOnlyTheseBlocks D.BlockDevice (blocks_of_pair_address anchor_pair_address) device.old device.new }
+    ensures device { ChangesOnlyTheseBlocks D.BlockDevice (address_blocks anchor_address) device.old device.new }
     ensures faults { ReportsFaults D.BlockDevice device.old device.new result }
 {
     // The header's memory is taken before anything is written.
     pairs.reserve(1)?;
-    let pair = write_root_pair_with_superblock(alloc, device)?;
+    let pair = write_root_pair(alloc, device)?;
     pairs.push(pair)?;
     Ok(())
 }
 
 // Makes an empty cache, and a map of so many blocks, of which the first two are used.
-fn make_cache_and_block_map(alloc: Global, block_count: u32) -> Result<(Cache, BlockMap), Error>
+fn format_cache_map(alloc: Global, block_count: u32) -> Result<(Cache, BlockMap), Error>
     requires { 2 ≤ block_count }
     ensures empty { IfOk result (λ parts. parts.0 ≡ []) }
-    ensures map { IfOk result (λ parts. IsBlockMapAfterFormat block_count parts.1) }
+    ensures map { IfOk result (λ parts. IsFormattedMap block_count parts.1) }
     ensures error { IfErr result (λ e. e ≡ Error.NoMemory) }
 {
     let cache = Cache::new(alloc)?;
@@ -111,19 +111,19 @@ pub fn format<D: BlockDevice>(
     order: NameOrder,
 ) -> Result<Thread<D>, (D, Error)>
     ensures works { IfOk result (λ t. t.failed ≡ false) }
-    ensures formatted { IfOk result (λ t. IsFreshlyFormatted t.kept) }
-    ensures shows { IfOk result (λ t. IsWritableImageWithEmptyRoot t.kept) }
-    ensures writes { IfOk result (λ t. ThreadChangesOnlyTheseBlocks (blocks_of_pair_address anchor_pair_address) (kept_thread_in_order D.BlockDevice order device [] []) t.kept) }
-    ensures calls { IfOk result (λ t. ErasesTwoBlocks (D.history device) t.kept.history) }
-    ensures back { IfErr result (λ e. FailedFormatSparesOtherBlocks D.BlockDevice (blocks_of_pair_address anchor_pair_address) device e.0 e.1) }
+    ensures formatted { IfOk result (λ t. IsFormatted t.kept) }
+    ensures shows { IfOk result (λ t. IsEmptyWritable t.kept) }
+    ensures writes { IfOk result (λ t. ChangesThreadBlocks (address_blocks anchor_address) (kept_in_order D.BlockDevice order device [] []) t.kept) }
+    ensures calls { IfOk result (λ t. ErasesTwo (D.history device) t.kept.history) }
+    ensures back { IfErr result (λ e. FailedFormatSparesOtherBlocks D.BlockDevice (address_blocks anchor_address) device e.0 e.1) }
 {
     let block_count = device.geometry().block_count;
     let mut pairs = Vec::new(alloc);
-    let (cache, map) = match make_cache_and_block_map(alloc, block_count) {
+    let (cache, map) = match format_cache_map(alloc, block_count) {
         Ok(parts) => parts,
         Err(error) => return Err((device, error)),
     };
-    match write_thread_of_root_pair(alloc, &mut device, &mut pairs) {
+    match write_root_thread(alloc, &mut device, &mut pairs) {
         Ok(()) => Ok(Thread::from_parts(ThreadParts {
             device,
             order,

@@ -26,6 +26,6 @@ mod writers;
 
 pub use creation_paths::CreationFindings;
 pub use formats::format;
-pub use laws::{operations_leave_writer_contents_alone, operations_take_few_blocks};
+pub use laws::{lemma_contents_stay, lemma_few_blocks};
 pub use rename_paths::{RenameFindings, RenameTargets};
 pub use tree::Tree;

@@ -1,20 +1,20 @@
 // How a recovery ends what a loss of power left.
 
 ghost use Rattle.std.specs.Prelude.{◌≡◌, true, OnOk};
-ghost use Rattle.lfs_model.specs.Slots.{zero_gstate};
-ghost use Rattle.lfs_model.specs.Thread.{blocks_of_pairs, gstate_of_pairs, pair_count_before_root};
-ghost use Rattle.lfs_model.specs.Shown.{tree_on_disk};
-ghost use Rattle.lfs_operations.specs.Recovering.{CanDropUnreachedPairs, slots_of_numbered_pairs};
-ghost use Rattle.lfs_thread.specs.Steps.{ThreadChangesOnlyTheseBlocks};
-ghost use Rattle.lfs_tree.specs.TreeChanges.{HasFurtherDeviceCalls, ChangesTreeOrFails, SurvivesWithOldOrNewTree};
-ghost use Rattle.lfs_tree.specs.RootedThreads.{IsSoundThreadWithRootAtPairNumber};
-ghost use Rattle.lfs_tree.specs.LostLists.{skip_lists_named_by_slots};
-ghost use Rattle.lfs_tree.specs.Recoveries.{CanDropUnreachedDirectories, HasDroppedUnreachedDirectories, HasRecoveredFromPowerLoss};
-ghost use Rattle.lfs_tree.specs.Working.{IsWorkingThreadWhere, WorksOrReportsFault};
+ghost use Rattle.lfs_model.specs.format.Slots.{zero_gstate};
+ghost use Rattle.lfs_model.specs.format.Thread.{blocks_of_pairs, pairs_gstate, pair_count_before_root};
+ghost use Rattle.lfs_model.specs.tree.Shown.{tree_on_disk};
+ghost use Rattle.lfs_operations.specs.Recovering.{CanDropPairs, numbered_slots};
+ghost use Rattle.lfs_thread.specs.ThreadSteps.{ChangesThreadBlocks};
+ghost use Rattle.lfs_tree.specs.TreeChanges.{HasFurtherCalls, ChangesTreeOrFails, SurvivesEither};
+ghost use Rattle.lfs_tree.specs.RootedThreads.{IsSoundWithRoot};
+ghost use Rattle.lfs_tree.specs.LostLists.{lists_of_slots};
+ghost use Rattle.lfs_tree.specs.Recoveries.{CanDropUnreached, HasDroppedUnreached, HasRecovered};
+ghost use Rattle.lfs_tree.specs.Working.{IsWorkingWhere, WorksOrReportsFault};
 
-use crate::entries_at::show_block_facts_to_proof;
-use crate::lost_lists::{free_blocks_of_skip_lists, skip_lists_of_pairs};
-use crate::orphans::find_unreached_pair_numbers;
+use crate::entries_at::lemma_block_facts;
+use crate::lost_lists::{free_lists, lists_of_pairs};
+use crate::orphans::find_unreached_pairs;
 use lfs_device::{BlockDevice, Error};
 use lfs_file::StoredList;
 use lfs_operations::{drop_unreached_pairs, end_move};
@@ -25,59 +25,59 @@ use std::alloc::Global;
 // name. No move is set.
 //
 // Errors: `Io` where a call of the device failed. `NoMemory` where memory isn't granted.
-fn drop_unreached_pairs_and_lists<D: BlockDevice>(
+fn drop_with_lists<D: BlockDevice>(
     alloc: Global,
     thread: &mut Thread<D>,
     numbers: &[usize],
     lists: &[StoredList],
 ) -> Result<(), Error>
-    requires can { IsWorkingThreadWhere thread.old (λ t. CanDropUnreachedPairs t numbers.now) }
-    requires lists { lists.now ≡ skip_lists_named_by_slots (slots_of_numbered_pairs thread.old.kept.pairs numbers.now) }
-    ensures dropped { OnOk result (HasDroppedUnreachedDirectories thread.old.kept thread.new.kept) }
+    requires can { IsWorkingWhere thread.old (λ t. CanDropPairs t numbers.now) }
+    requires lists { lists.now ≡ lists_of_slots (numbered_slots thread.old.kept.pairs numbers.now) }
+    ensures dropped { OnOk result (HasDroppedUnreached thread.old.kept thread.new.kept) }
     ensures reports { WorksOrReportsFault thread.old thread.new result }
-    ensures device { ThreadChangesOnlyTheseBlocks (blocks_of_pairs thread.old.kept.pairs) thread.old.kept thread.new.kept }
-    ensures survives { SurvivesWithOldOrNewTree thread.old.kept thread.new.kept (tree_on_disk thread.old.kept.disk thread.old.kept.pairs) }
+    ensures device { ChangesThreadBlocks (blocks_of_pairs thread.old.kept.pairs) thread.old.kept thread.new.kept }
+    ensures survives { SurvivesEither thread.old.kept thread.new.kept (tree_on_disk thread.old.kept.disk thread.old.kept.pairs) }
 {
     drop_unreached_pairs(alloc, thread, numbers)?;
-    free_blocks_of_skip_lists(thread, lists)?;
+    free_lists(thread, lists)?;
     Ok(())
 }
 
 // Drops the directories that no path leads to, with their files. No move is set, and the root
 // directory begins with the pair of number `root`.
 //
-// Errors are those of `drop_unreached_pairs_and_lists`.
+// Errors are those of `drop_with_lists`.
 fn drop_unreached_directories<D: BlockDevice>(
     alloc: Global,
     thread: &mut Thread<D>,
     root: usize,
 ) -> Result<(), Error>
-    requires can { IsWorkingThreadWhere thread.old CanDropUnreachedDirectories }
+    requires can { IsWorkingWhere thread.old CanDropUnreached }
     requires root { root ≡ pair_count_before_root thread.old.kept.pairs }
-    ensures dropped { OnOk result (HasDroppedUnreachedDirectories thread.old.kept thread.new.kept) }
+    ensures dropped { OnOk result (HasDroppedUnreached thread.old.kept thread.new.kept) }
     ensures reports { WorksOrReportsFault thread.old thread.new result }
-    ensures called { HasFurtherDeviceCalls thread.old.kept thread.new.kept }
-    ensures survives { SurvivesWithOldOrNewTree thread.old.kept thread.new.kept (tree_on_disk thread.old.kept.disk thread.old.kept.pairs) }
+    ensures called { HasFurtherCalls thread.old.kept thread.new.kept }
+    ensures survives { SurvivesEither thread.old.kept thread.new.kept (tree_on_disk thread.old.kept.disk thread.old.kept.pairs) }
 {
-    show_block_facts_to_proof(thread);
-    let numbers = find_unreached_pair_numbers(alloc, thread, root)?;
+    lemma_block_facts(thread);
+    let numbers = find_unreached_pairs(alloc, thread, root)?;
     // The lists are known before anything is written.
-    let lists = skip_lists_of_pairs(alloc, thread, &numbers)?;
-    drop_unreached_pairs_and_lists(alloc, thread, &numbers, &lists)?;
+    let lists = lists_of_pairs(alloc, thread, &numbers)?;
+    drop_with_lists(alloc, thread, &numbers, &lists)?;
     Ok(())
 }
 
 // Ends what a loss of power left: a set move, and directories that no path leads to.
 //
 // Errors are those of `drop_unreached_directories`.
-pub(crate) fn end_move_and_drop_unreached_directories<D: BlockDevice>(
+pub(crate) fn end_and_drop<D: BlockDevice>(
     alloc: Global,
     thread: &mut Thread<D>,
     root: usize,
 ) -> Result<(), Error>
-    requires rooted { IsSoundThreadWithRootAtPairNumber thread.old root true }
-    requires left { gstate_of_pairs thread.old.kept.pairs ≡ zero_gstate → ⊥ }
-    ensures { ChangesTreeOrFails thread.old (HasRecoveredFromPowerLoss thread.old.kept) (tree_on_disk thread.old.kept.disk thread.old.kept.pairs) result thread.new }
+    requires rooted { IsSoundWithRoot thread.old root true }
+    requires left { pairs_gstate thread.old.kept.pairs ≡ zero_gstate → ⊥ }
+    ensures { ChangesTreeOrFails thread.old (HasRecovered thread.old.kept) (tree_on_disk thread.old.kept.disk thread.old.kept.pairs) result thread.new }
 {
     end_move(alloc, thread)?;
     drop_unreached_directories(alloc, thread, root)

@@ -1,18 +1,18 @@
 // What a tree keeps of an image that was mounted.
 
 ghost use Rattle.std.specs.Prelude.{List, ◌≡◌, ◌↔◌, IsTrue, IfErr, IfOk, false};
-ghost use Rattle.lfs_model.specs.Disk.{disk_in_order};
-ghost use Rattle.lfs_model.specs.Thread.{Pair, pair_count_before_root};
-ghost use Rattle.lfs_model.specs.View.{IsAcceptedImage};
-ghost use Rattle.lfs_model.specs.Profile.{IsWritableImage};
+ghost use Rattle.lfs_model.specs.format.Disk.{ordered_disk};
+ghost use Rattle.lfs_model.specs.format.Thread.{Pair, pair_count_before_root};
+ghost use Rattle.lfs_model.specs.tree.View.{IsAccepted};
+ghost use Rattle.lfs_model.specs.tree.Profile.{IsWritable};
 ghost use Rattle.lfs_model.specs.declared.order.NameOrder.{NameOrder};
 ghost use Rattle.lfs_model.specs.declared.order.NameOrder.TheVariants.{LongerFirst, ShorterFirst};
-ghost use Rattle.lfs_thread.specs.Device.{GivesDeviceBackOnlyReadWithError};
+ghost use Rattle.lfs_thread.specs.ThreadDevice.{GivesDeviceBackOnlyReadWithError};
 ghost use Rattle.lfs_thread.specs.Kept.{disk_of_device};
-ghost use Rattle.lfs_mount.specs.Accepted.{IsMountedThread};
-ghost use Rattle.lfs_mount.specs.Device.{IsIoCorruptOrNoMemory};
-ghost use Rattle.lfs_mount.specs.ReadImage.{HasAtMostMountReads};
-ghost use Rattle.lfs_lookup.specs.Reading.{OnlyReadsThreadAndReportsErrors};
+ghost use Rattle.lfs_mount.specs.Accepted.{IsMountedOn};
+ghost use Rattle.lfs_mount.specs.MountFaults.{IsErrorOfMount};
+ghost use Rattle.lfs_mount.specs.ReadImage.{ReadsLikeMount};
+ghost use Rattle.lfs_lookup.specs.LookupReading.{OnlyReadsThreadAndReportsErrors};
 
 use lfs_device::{BlockDevice, Error};
 use lfs_lookup::{find_profile_breach, find_root};
@@ -24,12 +24,12 @@ pub(crate) fn mount_thread<D: BlockDevice>(
     alloc: Global,
     device: D,
 ) -> Result<Thread<D>, (D, Error)>
-    ensures mounted { IfOk result (λ t. IsMountedThread (disk_in_order t.kept.disk.order (disk_of_device D.BlockDevice device)) (D.history device) t) }
-    ensures longer { IfOk result (λ t. t.kept.disk.order ≡ ShorterFirst → (ps : List Pair) → ¬ IsAcceptedImage (disk_in_order LongerFirst (disk_of_device D.BlockDevice device)) ps) }
-    ensures corrupt { IfErr result (λ e. e.1 ≡ Error.Corrupt → (order : NameOrder) (ps : List Pair) → ¬ IsAcceptedImage (disk_in_order order (disk_of_device D.BlockDevice device)) ps) }
-    ensures errors { IfErr result (λ e. IsIoCorruptOrNoMemory e.1) }
+    ensures mounted { IfOk result (λ t. IsMountedOn (ordered_disk t.kept.disk.order (disk_of_device D.BlockDevice device)) (D.history device) t) }
+    ensures longer { IfOk result (λ t. t.kept.disk.order ≡ ShorterFirst → (ps : List Pair) → ¬ IsAccepted (ordered_disk LongerFirst (disk_of_device D.BlockDevice device)) ps) }
+    ensures corrupt { IfErr result (λ e. e.1 ≡ Error.Corrupt → (order : NameOrder) (ps : List Pair) → ¬ IsAccepted (ordered_disk order (disk_of_device D.BlockDevice device)) ps) }
+    ensures errors { IfErr result (λ e. IsErrorOfMount e.1) }
     ensures back { IfErr result (λ e. GivesDeviceBackOnlyReadWithError D.BlockDevice device e.0 e.1) }
-    ensures few { IfOk result (HasAtMostMountReads (disk_of_device D.BlockDevice device) (D.history device)) }
+    ensures few { IfOk result (ReadsLikeMount (disk_of_device D.BlockDevice device) (D.history device)) }
 {
     match lfs_mount::mount(alloc, device) {
         Ok(thread) => Ok(thread),
@@ -39,14 +39,14 @@ pub(crate) fn mount_thread<D: BlockDevice>(
 
 // Returns the number of the root directory's first pair, and whether the image is in the writing
 // profile.
-pub(crate) fn find_root_and_writing_profile<D: BlockDevice>(
+pub(crate) fn root_and_profile<D: BlockDevice>(
     alloc: Global,
     thread: &mut Thread<D>,
 ) -> Result<(usize, bool), Error>
     requires works { thread.old.failed ≡ false }
-    requires accepted { IsAcceptedImage thread.old.kept.disk thread.old.kept.pairs }
+    requires accepted { IsAccepted thread.old.kept.disk thread.old.kept.pairs }
     ensures root { IfOk result (λ r. r.0 ≡ pair_count_before_root thread.old.kept.pairs) }
-    ensures writable { IfOk result (λ r. IsTrue r.1 ↔ IsWritableImage thread.old.kept.disk thread.old.kept.pairs) }
+    ensures writable { IfOk result (λ r. IsTrue r.1 ↔ IsWritable thread.old.kept.disk thread.old.kept.pairs) }
     ensures reading { OnlyReadsThreadAndReportsErrors thread.old thread.new result }
 {
     let root = find_root(alloc, thread)?;

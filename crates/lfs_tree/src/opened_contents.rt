@@ -1,30 +1,30 @@
 // The contents of files that are opened for writing.
 
 ghost use Rattle.std.specs.Prelude.{◌≡◌, [], false, length, IfErr, IfOk};
-ghost use Rattle.lfs_model.specs.TreeEdits.{file_bytes_of_node};
-ghost use Rattle.lfs_model.specs.Slots.{Inline, Slot};
-ghost use Rattle.lfs_model.specs.Shown.{tree_on_disk};
-ghost use Rattle.lfs_thread.specs.Beside.{DiskHasGeometry};
-ghost use Rattle.lfs_tree.specs.OpenContents.{IsFormOfOpenedContents, AreWriterContentsOverFileOnThread, bytes_of_writer_contents};
-ghost use Rattle.lfs_tree.specs.Openings.{CanOpenSlotFileWithNothingInFlight, AreOpenedContentsOfStruct, form_of_opened_storage};
-ghost use Rattle.lfs_lookup.specs.Reading.{OnlyReadsThreadAndReportsErrors};
+ghost use Rattle.lfs_model.specs.session.TreeEdits.{file_bytes};
+ghost use Rattle.lfs_model.specs.format.Slots.{Inline, Slot};
+ghost use Rattle.lfs_model.specs.tree.Shown.{tree_on_disk};
+ghost use Rattle.lfs_thread.specs.Beside.{HasGeometryOf};
+ghost use Rattle.lfs_tree.specs.OpenContents.{IsOpenedForm, OverThreadFile, writer_contents_bytes};
+ghost use Rattle.lfs_tree.specs.Openings.{CanOpenSlot, AreOpenedContents, opened_form};
+ghost use Rattle.lfs_lookup.specs.LookupReading.{OnlyReadsThreadAndReportsErrors};
 ghost use Rattle.lfs_lookup.specs.declared.entry.FileStorage.TheVariants as entry_contents;
 ghost use Rattle.lfs_lookup.specs.declared.search.SlotPosition.{SlotPosition as SpotSeen};
-ghost use Rattle.lfs_file.specs.Contents.{HasNoBlockInFlight, storage_form_of_contents};
-ghost use Rattle.lfs_tree.specs.Working.{CanOpenFileAtPath};
+ghost use Rattle.lfs_file.specs.Contents.{NoneInFlight, contents_form};
+ghost use Rattle.lfs_tree.specs.Working.{CanOpenPathFile};
 ghost use Rattle.lfs_file.specs.Form as form;
 
 use lfs_device::{BlockDevice, Error, Geometry};
-use lfs_file::{StoredList, WriterContents, make_contents_in_memory};
+use lfs_file::{StoredList, WriterContents, contents_in_memory};
 use lfs_lookup::{
-    Path, SlotPosition, lookup_result_at_path, read_inline_bytes_at, spot_and_storage_of_file,
+    Path, SlotPosition, look_up_path, read_inline_at, spot_of_file,
 };
 use lfs_thread::Thread;
 use std::alloc::Global;
 
 // Returns the geometry of a thread's device.
 fn geometry_of<D: BlockDevice>(thread: &Thread<D>) -> Geometry
-    ensures { DiskHasGeometry result thread.now.kept.disk }
+    ensures { HasGeometryOf result thread.now.kept.disk }
 {
     thread.device().geometry()
 }
@@ -37,18 +37,18 @@ fn open_inline_contents<D: BlockDevice>(
     len: usize,
 ) -> Result<WriterContents, Error>
     requires works { thread.old.failed ≡ false }
-    requires can { (held : Slot) × CanOpenSlotFileWithNothingInFlight thread.old.kept slot (entry_contents.Inline len) held }
-    ensures opened { (held : Slot) → CanOpenSlotFileWithNothingInFlight thread.old.kept slot (entry_contents.Inline len) held → IfOk result (AreOpenedContentsOfStruct thread.new.kept held.struct (form_of_opened_storage (entry_contents.Inline len))) }
+    requires can { (held : Slot) × CanOpenSlot thread.old.kept slot (entry_contents.Inline len) held }
+    ensures opened { (held : Slot) → CanOpenSlot thread.old.kept slot (entry_contents.Inline len) held → IfOk result (AreOpenedContents thread.new.kept held.struct (opened_form (entry_contents.Inline len))) }
     ensures reading { OnlyReadsThreadAndReportsErrors thread.old thread.new result }
 {
     let geometry = geometry_of(thread);
-    let bytes = read_inline_bytes_at(alloc, thread, slot, 0, len)?;
-    make_contents_in_memory(alloc, geometry, &bytes)
+    let bytes = read_inline_at(alloc, thread, slot, 0, len)?;
+    contents_in_memory(alloc, geometry, &bytes)
 }
 
 // Makes contents in a finished list, of a slot that names it.
 fn open_list_contents<D: BlockDevice>(thread: &Thread<D>, head: u32, size: u32) -> WriterContents
-    ensures { (slot : SpotSeen) (held : Slot) → CanOpenSlotFileWithNothingInFlight thread.now.kept slot (entry_contents.List head size) held → AreOpenedContentsOfStruct thread.now.kept held.struct (form_of_opened_storage (entry_contents.List head size)) result }
+    ensures { (slot : SpotSeen) (held : Slot) → CanOpenSlot thread.now.kept slot (entry_contents.List head size) held → AreOpenedContents thread.now.kept held.struct (opened_form (entry_contents.List head size)) result }
 {
     // The blocks are of that size, for the proof.
     let _geometry = geometry_of(thread);
@@ -67,8 +67,8 @@ fn open_contents<D: BlockDevice>(
     contents: lfs_lookup::FileStorage,
 ) -> Result<WriterContents, Error>
     requires works { thread.old.failed ≡ false }
-    requires can { (held : Slot) × CanOpenSlotFileWithNothingInFlight thread.old.kept slot contents held }
-    ensures opened { (held : Slot) → CanOpenSlotFileWithNothingInFlight thread.old.kept slot contents held → IfOk result (AreOpenedContentsOfStruct thread.new.kept held.struct (form_of_opened_storage contents)) }
+    requires can { (held : Slot) × CanOpenSlot thread.old.kept slot contents held }
+    ensures opened { (held : Slot) → CanOpenSlot thread.old.kept slot contents held → IfOk result (AreOpenedContents thread.new.kept held.struct (opened_form contents)) }
     ensures reading { OnlyReadsThreadAndReportsErrors thread.old thread.new result }
 {
     match contents {
@@ -79,20 +79,20 @@ fn open_contents<D: BlockDevice>(
 
 // Makes the contents of the file at a path: in memory where they are inline in its entry, else its
 // list.
-pub(crate) fn open_contents_at_path<D: BlockDevice>(
+pub(crate) fn open_contents_at<D: BlockDevice>(
     alloc: Global,
     thread: &mut Thread<D>,
     root: usize,
     path: &Path<'_>,
 ) -> Result<WriterContents, Error>
-    requires { CanOpenFileAtPath thread.old root path.now }
-    ensures over { IfOk result (AreWriterContentsOverFileOnThread thread.new.kept path.now) }
-    ensures bytes { IfOk result (λ c. bytes_of_writer_contents thread.new.kept c ≡ file_bytes_of_node (tree_on_disk thread.old.kept.disk thread.old.kept.pairs path.now)) }
-    ensures form { IfOk result (λ c. IsFormOfOpenedContents thread.old.kept.disk.profile thread.old.kept.disk.block_size (length (file_bytes_of_node (tree_on_disk thread.old.kept.disk thread.old.kept.pairs path.now))) (storage_form_of_contents c)) }
+    requires { CanOpenPathFile thread.old root path.now }
+    ensures over { IfOk result (OverThreadFile thread.new.kept path.now) }
+    ensures bytes { IfOk result (λ c. writer_contents_bytes thread.new.kept c ≡ file_bytes (tree_on_disk thread.old.kept.disk thread.old.kept.pairs path.now)) }
+    ensures form { IfOk result (λ c. IsOpenedForm thread.old.kept.disk.profile thread.old.kept.disk.block_size (length (file_bytes (tree_on_disk thread.old.kept.disk thread.old.kept.pairs path.now))) (contents_form c)) }
     ensures reading { OnlyReadsThreadAndReportsErrors thread.old thread.new result }
 {
-    let shown = lookup_result_at_path(alloc, thread, root, path)?;
-    let Some((slot, contents)) = spot_and_storage_of_file(shown) else {
+    let shown = look_up_path(alloc, thread, root, path)?;
+    let Some((slot, contents)) = spot_of_file(shown) else {
         unreachable!()
     };
     // By its sizes a list has as many bytes as its entry says.
@@ -101,13 +101,13 @@ pub(crate) fn open_contents_at_path<D: BlockDevice>(
 }
 
 // Makes contents of no bytes.
-pub(crate) fn contents_of_no_bytes<D: BlockDevice>(
+pub(crate) fn contents_of_nothing<D: BlockDevice>(
     alloc: Global,
     thread: &Thread<D>,
 ) -> Result<WriterContents, Error>
-    requires { HasNoBlockInFlight thread.now.kept.map thread.now.kept.disk.blocks }
-    ensures opened { IfOk result (AreOpenedContentsOfStruct thread.now.kept (Inline []) (form.InMemory 0)) }
+    requires { NoneInFlight thread.now.kept.map thread.now.kept.disk.blocks }
+    ensures opened { IfOk result (AreOpenedContents thread.now.kept (Inline []) (form.InMemory 0)) }
     ensures errors { IfErr result (λ e. e ≡ Error.NoMemory) }
 {
-    make_contents_in_memory(alloc, geometry_of(thread), &[])
+    contents_in_memory(alloc, geometry_of(thread), &[])
 }

@@ -1,37 +1,37 @@
 // The pairs of directories that no path leads to.
 
 ghost use Rattle.std.specs.Prelude.{◌≡◌, ◌<◌, ◌≤◌, ◌++◌, ◌∷◌, [], IfOk, OnOk, false, if◌then◌else◌, length, replicate, slice_index_or};
-ghost use Rattle.lfs_model.specs.Thread.{pair_count_before_root};
-ghost use Rattle.lfs_model.specs.View.{IsAcceptedImage};
-ghost use Rattle.lfs_operations.specs.Recovering.{AreUnreachedPairNumbers};
+ghost use Rattle.lfs_model.specs.format.Thread.{pair_count_before_root};
+ghost use Rattle.lfs_model.specs.tree.View.{IsAccepted};
+ghost use Rattle.lfs_operations.specs.Recovering.{AreUnreachedNumbers};
 ghost use Rattle.lfs_lookup.specs.Items.{directory_item_view, directory_items_view};
-ghost use Rattle.lfs_lookup.specs.Profile.{follows_hard_tail_at};
-ghost use Rattle.lfs_lookup.specs.Reading.{OnlyReadsThreadAndReportsErrors};
-ghost use Rattle.lfs_tree.specs.Orphans.{NamedDirectoriesBeginInThread, AreMarksOfFirstPairsReachedByPaths, MarksPairsAndAddsNewlyMarkedToPending, IsFirstPairOfStruct, IsFirstPairOfSomeStruct};
-ghost use Rattle.lfs_lookup.specs.Walk.{HasFirstPairInThreadIfDirectory};
+ghost use Rattle.lfs_lookup.specs.ProfileChecks.{follows_tail_at};
+ghost use Rattle.lfs_lookup.specs.LookupReading.{OnlyReadsThreadAndReportsErrors};
+ghost use Rattle.lfs_tree.specs.Orphans.{DirectoriesBegin, MarkReached, MarksPending, IsStructPair, IsSomeStructPair};
+ghost use Rattle.lfs_lookup.specs.TreeWalk.{HasFirstIfDirectory};
 
 use lfs_device::{BlockDevice, Error};
 use lfs_lookup::{
-    NameAndOwnedStruct, OwnedStruct, directory_items_under_gstate, is_pair_after_hard_tail,
+    NameAndOwnedStruct, OwnedStruct, directory_items, follows_hard_tail,
 };
-use lfs_thread::{Thread, pair_number_at_address};
+use lfs_thread::{Thread, number_at_address};
 use std::alloc::{AllocError, Global};
 
 // Makes so many marks that aren't set.
-fn make_unset_pair_marks(alloc: Global, count: usize) -> Result<Vec<bool>, AllocError>
+fn unset_marks(alloc: Global, count: usize) -> Result<Vec<bool>, AllocError>
     ensures { IfOk result (λ marks. marks.items ≡ replicate count false) }
 {
     vec![in alloc; false; count]
 }
 
 // Marks the pair of a number, unless it is marked. Its directory is visited later.
-fn mark_pair_as_reached(
+fn mark_reached(
     marks: &mut Vec<bool>,
     pending: &mut Vec<usize>,
     number: usize,
 ) -> Result<(), AllocError>
     requires { number < length marks.old.items }
-    ensures { OnOk result (MarksPairsAndAddsNewlyMarkedToPending (λ n. n ≡ number) marks.old.items pending.old.items marks.new.items pending.new.items) }
+    ensures { OnOk result (MarksPending (λ n. n ≡ number) marks.old.items pending.old.items marks.new.items pending.new.items) }
 {
     if !marks[number] {
         marks[number] = true;
@@ -41,68 +41,68 @@ fn mark_pair_as_reached(
 }
 
 // Marks the first pair of the directory that an entry names, if it names one.
-fn mark_first_pair_of_directory<D: BlockDevice>(
+fn mark_directory<D: BlockDevice>(
     thread: &Thread<D>,
     item: &NameAndOwnedStruct,
     marks: &mut Vec<bool>,
     pending: &mut Vec<usize>,
 ) -> Result<(), AllocError>
-    requires accepted { IsAcceptedImage thread.now.kept.disk thread.now.kept.pairs }
-    requires begins { HasFirstPairInThreadIfDirectory thread.now.kept.pairs (directory_item_view item.now).struct }
+    requires accepted { IsAccepted thread.now.kept.disk thread.now.kept.pairs }
+    requires begins { HasFirstIfDirectory thread.now.kept.pairs (directory_item_view item.now).struct }
     requires len { length marks.old.items ≡ length thread.now.kept.pairs }
-    ensures { OnOk result (MarksPairsAndAddsNewlyMarkedToPending (IsFirstPairOfStruct thread.now.kept.pairs (directory_item_view item.now).struct) marks.old.items pending.old.items marks.new.items pending.new.items) }
+    ensures { OnOk result (MarksPending (IsStructPair thread.now.kept.pairs (directory_item_view item.now).struct) marks.old.items pending.old.items marks.new.items pending.new.items) }
 {
     if let OwnedStruct::Branch(to) = item.structure {
-        let number = pair_number_at_address(thread, to).unwrap();
-        mark_pair_as_reached(marks, pending, number)?;
+        let number = number_at_address(thread, to).unwrap();
+        mark_reached(marks, pending, number)?;
     }
     Ok(())
 }
 
 // Marks the first pairs of the directories that entries name.
-fn mark_first_pairs_of_directories<D: BlockDevice>(
+fn mark_directories<D: BlockDevice>(
     thread: &Thread<D>,
     mut items: Vec<NameAndOwnedStruct>,
     marks: &mut Vec<bool>,
     pending: &mut Vec<usize>,
 ) -> Result<(), AllocError>
-    requires accepted { IsAcceptedImage thread.now.kept.disk thread.now.kept.pairs }
-    requires begin { NamedDirectoriesBeginInThread thread.now.kept.pairs (directory_items_view items.items) }
+    requires accepted { IsAccepted thread.now.kept.disk thread.now.kept.pairs }
+    requires begin { DirectoriesBegin thread.now.kept.pairs (directory_items_view items.items) }
     requires len { length marks.old.items ≡ length thread.now.kept.pairs }
-    ensures { OnOk result (MarksPairsAndAddsNewlyMarkedToPending (IsFirstPairOfSomeStruct thread.now.kept.pairs (directory_items_view items.items)) marks.old.items pending.old.items marks.new.items pending.new.items) }
+    ensures { OnOk result (MarksPending (IsSomeStructPair thread.now.kept.pairs (directory_items_view items.items)) marks.old.items pending.old.items marks.new.items pending.new.items) }
 {
     while let Some(item) = items.pop() {
-        mark_first_pair_of_directory(thread, &item, marks, pending)?;
+        mark_directory(thread, &item, marks, pending)?;
     }
     Ok(())
 }
 
 // Returns which pairs a path leads to, as the first of a directory.
-fn mark_first_pairs_of_reached_directories<D: BlockDevice>(
+fn mark_reached_directories<D: BlockDevice>(
     alloc: Global,
     thread: &mut Thread<D>,
     root: usize,
 ) -> Result<Vec<bool>, Error>
     requires works { thread.old.failed ≡ false }
-    requires accepted { IsAcceptedImage thread.old.kept.disk thread.old.kept.pairs }
+    requires accepted { IsAccepted thread.old.kept.disk thread.old.kept.pairs }
     requires root { root ≡ pair_count_before_root thread.old.kept.pairs }
-    ensures marks { IfOk result (λ marks. AreMarksOfFirstPairsReachedByPaths thread.old.kept.pairs marks.items) }
+    ensures marks { IfOk result (λ marks. MarkReached thread.old.kept.pairs marks.items) }
     ensures reading { OnlyReadsThreadAndReportsErrors thread.old thread.new result }
 {
     let state = thread.state();
-    let mut marks = make_unset_pair_marks(alloc, thread.len())?;
+    let mut marks = unset_marks(alloc, thread.len())?;
     let mut pending = Vec::new(alloc);
-    mark_pair_as_reached(&mut marks, &mut pending, root)?;
+    mark_reached(&mut marks, &mut pending, root)?;
     while let Some(first) = pending.pop() {
-        let items = directory_items_under_gstate(alloc, thread, &state, first)?;
-        mark_first_pairs_of_directories(thread, items, &mut marks, &mut pending)?;
+        let items = directory_items(alloc, thread, &state, first)?;
+        mark_directories(thread, items, &mut marks, &mut pending)?;
     }
     Ok(marks)
 }
 
 // Returns whether a path leads to the directory of a pair. Where a hard tail leads to the pair,
 // this is so of the pair before.
-fn is_pair_reached_or_continues_reached_directory<D: BlockDevice>(
+fn continues_reached<D: BlockDevice>(
     thread: &Thread<D>,
     root: usize,
     marks: &[bool],
@@ -112,9 +112,9 @@ fn is_pair_reached_or_continues_reached_directory<D: BlockDevice>(
     requires works { thread.now.failed ≡ false }
     requires below { index < length thread.now.kept.pairs }
     requires len { length marks.now ≡ length thread.now.kept.pairs }
-    ensures { result ≡ (if follows_hard_tail_at root thread.now.kept.pairs index then before else slice_index_or marks.now index false) }
+    ensures { result ≡ (if follows_tail_at root thread.now.kept.pairs index then before else slice_index_or marks.now index false) }
 {
-    if is_pair_after_hard_tail(thread, root, index) {
+    if follows_hard_tail(thread, root, index) {
         before
     } else {
         marks[index]
@@ -122,7 +122,7 @@ fn is_pair_reached_or_continues_reached_directory<D: BlockDevice>(
 }
 
 // Notes a number, unless a path leads there.
-fn push_pair_number_if_unreached(
+fn push_if_unreached(
     numbers: &mut Vec<usize>,
     index: usize,
     is_reached: bool,
@@ -136,7 +136,7 @@ fn push_pair_number_if_unreached(
 }
 
 // Returns the numbers of the pairs of directories whose first one isn't marked.
-fn pair_numbers_of_directories_not_marked_reached<D: BlockDevice>(
+fn numbers_not_reached<D: BlockDevice>(
     alloc: Global,
     thread: &Thread<D>,
     root: usize,
@@ -145,16 +145,16 @@ fn pair_numbers_of_directories_not_marked_reached<D: BlockDevice>(
     requires works { thread.now.failed ≡ false }
     requires root { root ≡ pair_count_before_root thread.now.kept.pairs }
     requires few { root ≤ length thread.now.kept.pairs }
-    requires marks { AreMarksOfFirstPairsReachedByPaths thread.now.kept.pairs marks.now }
-    ensures { IfOk result (λ numbers. AreUnreachedPairNumbers thread.now.kept.pairs numbers.items) }
+    requires marks { MarkReached thread.now.kept.pairs marks.now }
+    ensures { IfOk result (λ numbers. AreUnreachedNumbers thread.now.kept.pairs numbers.items) }
 {
     let mut numbers = Vec::new(alloc);
     let mut is_reached = true;
     for index in root..thread.len() {
-        is_reached = is_pair_reached_or_continues_reached_directory(
+        is_reached = continues_reached(
             thread, root, marks, index, is_reached,
         );
-        push_pair_number_if_unreached(&mut numbers, index, is_reached)?;
+        push_if_unreached(&mut numbers, index, is_reached)?;
     }
     Ok(numbers)
 }
@@ -163,18 +163,18 @@ fn pair_numbers_of_directories_not_marked_reached<D: BlockDevice>(
 // with the pair of number `root`.
 //
 // Errors: `Io` where a read failed. `NoMemory` where memory isn't granted.
-pub(crate) fn find_unreached_pair_numbers<D: BlockDevice>(
+pub(crate) fn find_unreached_pairs<D: BlockDevice>(
     alloc: Global,
     thread: &mut Thread<D>,
     root: usize,
 ) -> Result<Vec<usize>, Error>
     requires works { thread.old.failed ≡ false }
-    requires accepted { IsAcceptedImage thread.old.kept.disk thread.old.kept.pairs }
+    requires accepted { IsAccepted thread.old.kept.disk thread.old.kept.pairs }
     requires root { root ≡ pair_count_before_root thread.old.kept.pairs }
-    ensures unreached { IfOk result (λ numbers. AreUnreachedPairNumbers thread.old.kept.pairs numbers.items) }
+    ensures unreached { IfOk result (λ numbers. AreUnreachedNumbers thread.old.kept.pairs numbers.items) }
     ensures reading { OnlyReadsThreadAndReportsErrors thread.old thread.new result }
 {
-    let marks = mark_first_pairs_of_reached_directories(alloc, thread, root)?;
-    let numbers = pair_numbers_of_directories_not_marked_reached(alloc, thread, root, &marks)?;
+    let marks = mark_reached_directories(alloc, thread, root)?;
+    let numbers = numbers_not_reached(alloc, thread, root, &marks)?;
     Ok(numbers)
 }

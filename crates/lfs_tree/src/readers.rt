@@ -1,24 +1,24 @@
 // The contents of files that are open for reading.
 
 ghost use Rattle.std.specs.Prelude.{◌≡◌, ◌≤◌, ◌<◌, ◌+◌, ◌-◌, ◌^◌, List, ℕ, IfOk, OnOk, drop, false, length, min, take};
-ghost use Rattle.lfs_model.specs.Frame.{ancestor_paths_of_path};
-ghost use Rattle.lfs_model.specs.Shown.{skip_list_blocks_of_struct, tree_on_disk};
-ghost use Rattle.lfs_model.specs.Slots.{Ctz, Inline};
-ghost use Rattle.lfs_model.specs.Tree.{Path as ModelPath};
-ghost use Rattle.lfs_model.specs.TreeEdits.{file_bytes_of_node};
-ghost use Rattle.lfs_model.specs.View.{IsSkipListIfCtzStruct};
-ghost use Rattle.lfs_file.specs.Known.{AreKnownListBlocks, ReadsKnownList};
-ghost use Rattle.lfs_lookup.specs.Reading.{OnlyReadsThreadAndReportsErrors};
-ghost use Rattle.lfs_lookup.specs.FileContents.{AreInlineContentsShorterThanTagLength, IsInlineBytesOrSkipListOfFileAtPath, AreContentsOfFileAtPathOrNone, struct_of_file_contents};
-ghost use Rattle.lfs_lookup.specs.Finds.{IsFoundNodeAtPath};
-ghost use Rattle.lfs_tree.specs.Reads.{ReadsDirectoryPairsAtMostOnce};
-ghost use Rattle.lfs_tree.specs.TreeState.{OnlyReadsTreeOrFails, kept_thread_of_tree_state, tree_view};
+ghost use Rattle.lfs_model.specs.crash.Frame.{ancestor_paths};
+ghost use Rattle.lfs_model.specs.tree.Shown.{struct_blocks, tree_on_disk};
+ghost use Rattle.lfs_model.specs.format.Slots.{Ctz, Inline};
+ghost use Rattle.lfs_model.specs.tree.Tree.{Path as ModelPath};
+ghost use Rattle.lfs_model.specs.session.TreeEdits.{file_bytes};
+ghost use Rattle.lfs_model.specs.tree.View.{IsWellFormedCtz};
+ghost use Rattle.lfs_file.specs.Known.{AreKnownBlocks, ReadsKnownList};
+ghost use Rattle.lfs_lookup.specs.LookupReading.{OnlyReadsThreadAndReportsErrors};
+ghost use Rattle.lfs_lookup.specs.FileContents.{ContentsFitTag, IsStorageAt, AreContentsAt, contents_struct};
+ghost use Rattle.lfs_lookup.specs.Finds.{IsFoundNode};
+ghost use Rattle.lfs_tree.specs.TreeReads.{ReadsPairsOnce};
+ghost use Rattle.lfs_tree.specs.TreeState.{OnlyReadsTreeOrFails, kept_thread, tree_view};
 
-use crate::answers::mark_thread_failed_on_error;
+use crate::answers::mark_failed;
 use crate::tree::Tree;
 use lfs_device::{BlockDevice, Error};
 use lfs_file::KnownBlocks;
-use lfs_lookup::{FileContents, FoundFile, Path, find_file_contents_at_path};
+use lfs_lookup::{FileContents, FoundFile, Path, find_file_contents};
 use lfs_thread::Thread;
 use std::alloc::Global;
 
@@ -31,12 +31,12 @@ impl<D: BlockDevice> Tree<D> {
     pub fn find_file(&mut self, alloc: Global, path: &Path<'_>) -> Result<FoundFile, Error>
         requires { self.old.failed ≡ false }
         ensures asks { OnlyReadsTreeOrFails self.old result self.new }
-        ensures found { IfOk result (λ found. IsFoundNodeAtPath (tree_view self.old) path.now found.finding) }
-        ensures contents { IfOk result (λ found. AreContentsOfFileAtPathOrNone (kept_thread_of_tree_state self.old) path.now found.contents) }
-        ensures few { ReadsDirectoryPairsAtMostOnce (ancestor_paths_of_path path.now) self.old self.new.history }
+        ensures found { IfOk result (λ found. IsFoundNode (tree_view self.old) path.now found.finding) }
+        ensures contents { IfOk result (λ found. AreContentsAt (kept_thread self.old) path.now found.contents) }
+        ensures few { ReadsPairsOnce (ancestor_paths path.now) self.old self.new.history }
     {
-        let found = find_file_contents_at_path(alloc, &mut self.thread, self.root, path);
-        mark_thread_failed_on_error(&mut self.thread, &found);
+        let found = find_file_contents(alloc, &mut self.thread, self.root, path);
+        mark_failed(&mut self.thread, &found);
         found
     }
 
@@ -56,17 +56,17 @@ impl<D: BlockDevice> Tree<D> {
         buf: &mut [u8],
     ) -> Result<usize, Error>
         requires works { self.old.failed ≡ false }
-        requires there { (path : ModelPath) × IsInlineBytesOrSkipListOfFileAtPath self.old.pairs path contents.now }
-        requires blocks { AreKnownListBlocks (skip_list_blocks_of_struct self.old.disk (struct_of_file_contents contents.now)) known.old }
+        requires there { (path : ModelPath) × IsStorageAt self.old.pairs path contents.now }
+        requires blocks { AreKnownBlocks (struct_blocks self.old.disk (contents_struct contents.now)) known.old }
         ensures asks { OnlyReadsTreeOrFails self.old result self.new }
-        ensures bytes { (path : ModelPath) → IsInlineBytesOrSkipListOfFileAtPath self.old.pairs path contents.now → IfOk result (λ n. take n buf.new ≡ take (length buf.old) (drop position (file_bytes_of_node (tree_view self.old path)))) }
+        ensures bytes { (path : ModelPath) → IsStorageAt self.old.pairs path contents.now → IfOk result (λ n. take n buf.new ≡ take (length buf.old) (drop position (file_bytes (tree_view self.old path)))) }
         ensures count { IfOk result (λ n. (n ≤ length buf.old) × (position + n < 2 ^ 32) × (drop n buf.new ≡ drop n buf.old)) }
-        ensures none { (own : List ℕ) → struct_of_file_contents contents.now ≡ Inline own → self.new.history ≡ self.old.history }
-        ensures blocks { AreKnownListBlocks (skip_list_blocks_of_struct self.old.disk (struct_of_file_contents contents.now)) known.new }
-        ensures few { (head size : ℕ) → struct_of_file_contents contents.now ≡ Ctz head size → OnOk result (ReadsKnownList self.old.disk.block_size size position (length buf.old) known.old known.new self.old.history self.new.history) }
+        ensures none { (own : List ℕ) → contents_struct contents.now ≡ Inline own → self.new.history ≡ self.old.history }
+        ensures blocks { AreKnownBlocks (struct_blocks self.old.disk (contents_struct contents.now)) known.new }
+        ensures few { (head size : ℕ) → contents_struct contents.now ≡ Ctz head size → OnOk result (ReadsKnownList self.old.disk.block_size size position (length buf.old) known.old known.new self.old.history self.new.history) }
     {
         let count = read_known_contents(&mut self.thread, contents, known, position, buf);
-        mark_thread_failed_on_error(&mut self.thread, &count);
+        mark_failed(&mut self.thread, &count);
         count
     }
 
@@ -74,9 +74,9 @@ impl<D: BlockDevice> Tree<D> {
     /// device.
     pub fn size_of_contents(&self, contents: &FileContents) -> u32
         requires works { self.now.failed ≡ false }
-        requires there { (path : ModelPath) × IsInlineBytesOrSkipListOfFileAtPath self.now.pairs path contents.now }
-        ensures size { (path : ModelPath) → IsInlineBytesOrSkipListOfFileAtPath self.now.pairs path contents.now → result ≡ length (file_bytes_of_node (tree_view self.now path)) }
-        ensures list { (head size : ℕ) → struct_of_file_contents contents.now ≡ Ctz head size → result ≡ size }
+        requires there { (path : ModelPath) × IsStorageAt self.now.pairs path contents.now }
+        ensures size { (path : ModelPath) → IsStorageAt self.now.pairs path contents.now → result ≡ length (file_bytes (tree_view self.now path)) }
+        ensures list { (head size : ℕ) → contents_struct contents.now ≡ Ctz head size → result ≡ size }
     {
         let _device = self.thread.device();
         match contents {
@@ -109,15 +109,15 @@ fn read_known_contents<D: BlockDevice>(
     buf: &mut [u8],
 ) -> Result<usize, Error>
     requires works { thread.old.failed ≡ false }
-    requires fits { AreInlineContentsShorterThanTagLength contents.now }
-    requires list { IsSkipListIfCtzStruct thread.old.kept.disk (struct_of_file_contents contents.now) }
-    requires blocks { AreKnownListBlocks (skip_list_blocks_of_struct thread.old.kept.disk (struct_of_file_contents contents.now)) known.old }
-    ensures bytes { (path : ModelPath) → IsInlineBytesOrSkipListOfFileAtPath thread.old.kept.pairs path contents.now → IfOk result (λ n. take n buf.new ≡ take (length buf.old) (drop position (file_bytes_of_node (tree_on_disk thread.old.kept.disk thread.old.kept.pairs path)))) }
+    requires fits { ContentsFitTag contents.now }
+    requires list { IsWellFormedCtz thread.old.kept.disk (contents_struct contents.now) }
+    requires blocks { AreKnownBlocks (struct_blocks thread.old.kept.disk (contents_struct contents.now)) known.old }
+    ensures bytes { (path : ModelPath) → IsStorageAt thread.old.kept.pairs path contents.now → IfOk result (λ n. take n buf.new ≡ take (length buf.old) (drop position (file_bytes (tree_on_disk thread.old.kept.disk thread.old.kept.pairs path)))) }
     ensures count { IfOk result (λ n. (n ≤ length buf.old) × (position + n < 2 ^ 32) × (drop n buf.new ≡ drop n buf.old)) }
-    ensures none { (own : List ℕ) → struct_of_file_contents contents.now ≡ Inline own → thread.new ≡ thread.old }
-    ensures blocks { AreKnownListBlocks (skip_list_blocks_of_struct thread.old.kept.disk (struct_of_file_contents contents.now)) known.new }
+    ensures none { (own : List ℕ) → contents_struct contents.now ≡ Inline own → thread.new ≡ thread.old }
+    ensures blocks { AreKnownBlocks (struct_blocks thread.old.kept.disk (contents_struct contents.now)) known.new }
     ensures reading { OnlyReadsThreadAndReportsErrors thread.old thread.new result }
-    ensures few { (head size : ℕ) → struct_of_file_contents contents.now ≡ Ctz head size → OnOk result (ReadsKnownList thread.old.kept.disk.block_size size position (length buf.old) known.old known.new thread.old.kept.history thread.new.kept.history) }
+    ensures few { (head size : ℕ) → contents_struct contents.now ≡ Ctz head size → OnOk result (ReadsKnownList thread.old.kept.disk.block_size size position (length buf.old) known.old known.new thread.old.kept.history thread.new.kept.history) }
 {
     match contents {
         FileContents::Inline(bytes) => Ok(copy_from_position(bytes, position, buf)),

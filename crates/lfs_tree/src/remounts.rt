@@ -1,7 +1,7 @@
 // A device that is mounted again.
 
 ghost use Rattle.std.specs.Prelude.{◌≡◌, IfErr, OnErr, OnOk};
-ghost use Rattle.lfs_tree.specs.TreeState.{IsTreeFailedByRead, IsMountErrorWithCause, IsRemountedTree};
+ghost use Rattle.lfs_tree.specs.TreeState.{FailedByReading, IsCausedError, IsRemountedTree};
 
 use crate::tree::Tree;
 use lfs_blocks::{BlockMap, Cache};
@@ -34,8 +34,8 @@ pub(crate) fn mount_again<D: BlockDevice>(
     spare: SpareThreadParts,
 ) -> (Tree<D>, Result<(), Error>)
     ensures mounted { OnOk result.1 (IsRemountedTree tree result.0) }
-    ensures broken { OnErr result.1 (IsTreeFailedByRead tree result.0) }
-    ensures errors { IfErr result.1 (IsMountErrorWithCause tree result.0) }
+    ensures broken { OnErr result.1 (FailedByReading tree result.0) }
+    ensures errors { IfErr result.1 (IsCausedError tree result.0) }
 {
     let is_writable = tree.is_writable;
     let order = tree.order();
@@ -43,7 +43,7 @@ pub(crate) fn mount_again<D: BlockDevice>(
     match Tree::mount(alloc, tree.into_device()) {
         Ok(tree) => (tree, Ok(())),
         Err((device, error)) => {
-            let thread = Thread::failed_thread_of_parts(ThreadParts {
+            let thread = Thread::failed_thread_of(ThreadParts {
                 device,
                 order,
                 cache,

@@ -1,26 +1,26 @@
 // Entries at paths that are removed, in a thread that has nothing to recover.
 
 ghost use Rattle.std.specs.Prelude.{◌≡◌, true, false, is_err, OnOk};
-ghost use Rattle.lfs_tree.specs.SettledFiles.{ChangesOnlyBlockMap};
+ghost use Rattle.lfs_tree.specs.SettledFiles.{ChangesOnlyMap};
 ghost use Rattle.lfs_tree.specs.ThreadContents.{ReportsFaultOrNoMemory};
-ghost use Rattle.lfs_model.specs.TreeEdits.{tree_after_removal};
-ghost use Rattle.lfs_model.specs.Tree.{Path as TreePath};
-ghost use Rattle.lfs_model.specs.Shown.{tree_on_disk};
-ghost use Rattle.lfs_operations.specs.Dropping.{HasSameBlocksInFlight};
-ghost use Rattle.lfs_operations.specs.Ready.{IsImageReadyForChange};
+ghost use Rattle.lfs_model.specs.session.TreeEdits.{tree_removing};
+ghost use Rattle.lfs_model.specs.tree.Tree.{Path as TreePath};
+ghost use Rattle.lfs_model.specs.tree.Shown.{tree_on_disk};
+ghost use Rattle.lfs_operations.specs.Dropping.{SameInFlight};
+ghost use Rattle.lfs_operations.specs.Ready.{IsReadyImage};
 ghost use Rattle.lfs_operations.specs.Unlinking.{ReportsErrorsOfCommitsTakingNoBlock};
-ghost use Rattle.lfs_operations.specs.MovingSteps.{WritesOnlyThreadPairsAndFreeBlocks};
-ghost use Rattle.lfs_tree.specs.Permissions.{CanRemoveEntryAtPath};
-ghost use Rattle.lfs_tree.specs.Calls as call;
-ghost use Rattle.lfs_tree.specs.TreeChanges.{CanChangeRecoveredImage, AppliesCallOnThreadOrFails, SurvivesWithOldOrNewTree};
-ghost use Rattle.lfs_tree.specs.Removals.{CanFreeListOfFile, CanRemoveFoundEntry, CanRemoveFile, HasRemovedEntry, SparesOtherBlocksInRemoval};
-ghost use Rattle.lfs_tree.specs.RootedThreads.{tree_state_of_kept_thread};
-ghost use Rattle.lfs_tree.specs.Working.{IsWorkingThreadWhere};
+ghost use Rattle.lfs_operations.specs.MovingSteps.{WritesThreadFree};
+ghost use Rattle.lfs_tree.specs.Permissions.{CanRemoveEntry};
+ghost use Rattle.lfs_tree.specs.TreeCalls as call;
+ghost use Rattle.lfs_tree.specs.TreeChanges.{CanChangeRecovered, AppliesOrFails, SurvivesEither};
+ghost use Rattle.lfs_tree.specs.Removals.{CanFreeList, CanRemoveFound, CanRemoveFile, HasRemovedEntry, SparesInRemoval};
+ghost use Rattle.lfs_tree.specs.RootedThreads.{kept_state};
+ghost use Rattle.lfs_tree.specs.Working.{IsWorkingWhere};
 
-use crate::entries_at::{find_at_path, show_block_facts_to_proof};
+use crate::entries_at::{find_at_path, lemma_block_facts};
 use crate::files::settle_file;
 use lfs_device::{BlockDevice, Error};
-use lfs_file::{StoredList, settled_map_has_exactly_image_blocks};
+use lfs_file::{StoredList, lemma_settled_map};
 use lfs_lookup::{FileStorage, Path, PathLookup, SlotPosition};
 use lfs_operations::{remove_directory, remove_file};
 use lfs_thread::Thread;
@@ -30,18 +30,18 @@ use std::alloc::Global;
 // written.
 //
 // Errors: `Io` where a read failed. The thread has failed then.
-pub(crate) fn free_blocks_of_file_list<D: BlockDevice>(
+pub(crate) fn free_file_list<D: BlockDevice>(
     thread: &mut Thread<D>,
     contents: FileStorage,
 ) -> Result<(), Error>
-    requires { IsWorkingThreadWhere thread.old (λ t. CanFreeListOfFile t contents) }
-    ensures ready { OnOk result (IsImageReadyForChange thread.new.kept) }
-    ensures flying { OnOk result (HasSameBlocksInFlight thread.old.kept.map thread.new.kept.map) }
-    ensures only { ChangesOnlyBlockMap thread.old.kept thread.new.kept }
+    requires { IsWorkingWhere thread.old (λ t. CanFreeList t contents) }
+    ensures ready { OnOk result (IsReadyImage thread.new.kept) }
+    ensures flying { OnOk result (SameInFlight thread.old.kept.map thread.new.kept.map) }
+    ensures only { ChangesOnlyMap thread.old.kept thread.new.kept }
     ensures failed { thread.new.failed ≡ is_err result }
     ensures reports { ReportsFaultOrNoMemory thread.old.kept thread.new.kept result }
 {
-    settled_map_has_exactly_image_blocks();
+    lemma_settled_map();
     match contents {
         FileStorage::Inline { .. } => Ok(()),
         FileStorage::List { head, size } => {
@@ -61,22 +61,22 @@ pub(crate) fn free_blocks_of_file_list<D: BlockDevice>(
 }
 
 // Removes the file in a slot of the directory that begins with the pair of number `parent`.
-fn remove_file_and_list<D: BlockDevice>(
+fn remove_with_list<D: BlockDevice>(
     alloc: Global,
     thread: &mut Thread<D>,
     parent: usize,
     slot: SlotPosition,
     contents: FileStorage,
 ) -> Result<(), Error>
-    requires { IsWorkingThreadWhere thread.old (λ t. (path : TreePath) × CanRemoveFile t path parent slot contents) }
+    requires { IsWorkingWhere thread.old (λ t. (path : TreePath) × CanRemoveFile t path parent slot contents) }
     ensures gone { OnOk result ((path : TreePath) → CanRemoveFile thread.old.kept path parent slot contents → HasRemovedEntry thread.old.kept path thread.new.kept) }
-    ensures alone { OnOk result ((path : TreePath) → CanRemoveFile thread.old.kept path parent slot contents → SparesOtherBlocksInRemoval thread.old.kept path thread.new.kept) }
+    ensures alone { OnOk result ((path : TreePath) → CanRemoveFile thread.old.kept path parent slot contents → SparesInRemoval thread.old.kept path thread.new.kept) }
     ensures errors { ReportsErrorsOfCommitsTakingNoBlock thread.old thread.new result }
-    ensures device { WritesOnlyThreadPairsAndFreeBlocks thread.old.kept thread.new.kept }
-    ensures survives { (path : TreePath) → CanRemoveFile thread.old.kept path parent slot contents → SurvivesWithOldOrNewTree thread.old.kept thread.new.kept (tree_after_removal path (tree_on_disk thread.old.kept.disk thread.old.kept.pairs)) }
+    ensures device { WritesThreadFree thread.old.kept thread.new.kept }
+    ensures survives { (path : TreePath) → CanRemoveFile thread.old.kept path parent slot contents → SurvivesEither thread.old.kept thread.new.kept (tree_removing path (tree_on_disk thread.old.kept.disk thread.old.kept.pairs)) }
 {
     remove_file(alloc, thread, slot.pair, slot.id, parent)?;
-    free_blocks_of_file_list(thread, contents)
+    free_file_list(thread, contents)
 }
 
 // Removes what was found, a file or a directory without entries.
@@ -85,19 +85,19 @@ fn remove_found_entry<D: BlockDevice>(
     thread: &mut Thread<D>,
     found: PathLookup,
 ) -> Result<(), Error>
-    requires { IsWorkingThreadWhere thread.old (λ t. (path : TreePath) × CanRemoveFoundEntry t path found) }
-    ensures gone { OnOk result ((path : TreePath) → CanRemoveFoundEntry thread.old.kept path found → HasRemovedEntry thread.old.kept path thread.new.kept) }
-    ensures alone { OnOk result ((path : TreePath) → CanRemoveFoundEntry thread.old.kept path found → SparesOtherBlocksInRemoval thread.old.kept path thread.new.kept) }
+    requires { IsWorkingWhere thread.old (λ t. (path : TreePath) × CanRemoveFound t path found) }
+    ensures gone { OnOk result ((path : TreePath) → CanRemoveFound thread.old.kept path found → HasRemovedEntry thread.old.kept path thread.new.kept) }
+    ensures alone { OnOk result ((path : TreePath) → CanRemoveFound thread.old.kept path found → SparesInRemoval thread.old.kept path thread.new.kept) }
     ensures errors { ReportsErrorsOfCommitsTakingNoBlock thread.old thread.new result }
-    ensures device { WritesOnlyThreadPairsAndFreeBlocks thread.old.kept thread.new.kept }
-    ensures survives { (path : TreePath) → CanRemoveFoundEntry thread.old.kept path found → SurvivesWithOldOrNewTree thread.old.kept thread.new.kept (tree_after_removal path (tree_on_disk thread.old.kept.disk thread.old.kept.pairs)) }
+    ensures device { WritesThreadFree thread.old.kept thread.new.kept }
+    ensures survives { (path : TreePath) → CanRemoveFound thread.old.kept path found → SurvivesEither thread.old.kept thread.new.kept (tree_removing path (tree_on_disk thread.old.kept.disk thread.old.kept.pairs)) }
 {
     match found {
         PathLookup::File {
             parent,
             slot,
             contents,
-        } => remove_file_and_list(alloc, thread, parent, slot, contents),
+        } => remove_with_list(alloc, thread, parent, slot, contents),
         PathLookup::Directory {
             parent,
             slot,
@@ -116,12 +116,12 @@ pub(crate) fn remove_at<D: BlockDevice>(
     root: usize,
     path: &Path<'_>,
 ) -> Result<(), Error>
-    requires rests { CanChangeRecoveredImage thread.old root }
-    requires can { CanRemoveEntryAtPath (tree_state_of_kept_thread thread.old.kept true false) path.now }
-    ensures { AppliesCallOnThreadOrFails thread.old (call.Remove path.now) result thread.new }
+    requires rests { CanChangeRecovered thread.old root }
+    requires can { CanRemoveEntry (kept_state thread.old.kept true false) path.now }
+    ensures { AppliesOrFails thread.old (call.Remove path.now) result thread.new }
 {
-    path.show_path_comes_from_bytes_to_proof();
-    show_block_facts_to_proof(thread);
+    path.lemma_path_bytes();
+    lemma_block_facts(thread);
     let target = find_at_path(alloc, thread, root, path)?;
     remove_found_entry(alloc, thread, target.found)
 }

@@ -1,27 +1,27 @@
 // What is at the two paths of a rename, before anything is written.
 
 ghost use Rattle.std.specs.Prelude.{◌≡◌, ◌≤◌, ◌+◌, ◌++◌, true, false, IfOk, IfSome, IsSome, sum_by};
-ghost use Rattle.lfs_model.specs.Frame.{pair_count_of_directory_at, ancestor_paths_of_path};
-ghost use Rattle.lfs_model.specs.History.{read_count_of_history};
-ghost use Rattle.lfs_model.specs.Shown.{tree_on_disk};
-ghost use Rattle.lfs_model.specs.Slots.{zero_gstate};
-ghost use Rattle.lfs_model.specs.Thread.{gstate_of_pairs};
-ghost use Rattle.lfs_lookup.specs.Finds.{IsFoundNodeAtPath, has_entry_beneath_path};
-ghost use Rattle.lfs_lookup.specs.Paths.{PathLeadsToLookupResult};
-ghost use Rattle.lfs_lookup.specs.Reading.{OnlyReadsThreadAndReportsErrors};
-ghost use Rattle.lfs_tree.specs.TreeChanges.{CanChangeRecoveredImage};
-ghost use Rattle.lfs_tree.specs.RootedThreads.{IsSoundThreadWithRootAtPairNumber};
-ghost use Rattle.lfs_tree.specs.RenamePaths.{AreLookupResultsAtBothRenamePaths, AreFindingsAtBothRenamePaths, directories_searched_for_rename, visible_lookup_without_insertion_spot_and_parent};
-ghost use Rattle.lfs_tree.specs.TreeState.{OnlyReadsTreeOrFails, kept_thread_of_tree_state, tree_view};
+ghost use Rattle.lfs_model.specs.crash.Frame.{pair_count_at, ancestor_paths};
+ghost use Rattle.lfs_model.specs.session.History.{read_count};
+ghost use Rattle.lfs_model.specs.tree.Shown.{tree_on_disk};
+ghost use Rattle.lfs_model.specs.format.Slots.{zero_gstate};
+ghost use Rattle.lfs_model.specs.format.Thread.{pairs_gstate};
+ghost use Rattle.lfs_lookup.specs.Finds.{IsFoundNode, has_entry_beneath};
+ghost use Rattle.lfs_lookup.specs.LookupPaths.{LeadsToResult};
+ghost use Rattle.lfs_lookup.specs.LookupReading.{OnlyReadsThreadAndReportsErrors};
+ghost use Rattle.lfs_tree.specs.TreeChanges.{CanChangeRecovered};
+ghost use Rattle.lfs_tree.specs.RootedThreads.{IsSoundWithRoot};
+ghost use Rattle.lfs_tree.specs.RenameFindings.{AreRenameResults, AreRenameFindings, rename_directories, visible_lookup};
+ghost use Rattle.lfs_tree.specs.TreeState.{OnlyReadsTreeOrFails, kept_thread, tree_view};
 
-use crate::answers::mark_thread_failed_on_error;
+use crate::answers::mark_failed;
 use crate::entries_at::find_at_path;
 use crate::tree::Tree;
 use lfs_device::{BlockDevice, Error};
 use lfs_lookup::{
-    FoundNode, NodeAndEmptiness, Path, PathLookup, VisiblePathLookup, find_if_path_has_entries,
-    find_node_at_path, find_total_size_of_attributes_at_path, first_pair_of_lookup_result,
-    found_node_from_lookup_result, has_entries,
+    FoundNode, NodeAndEmptiness, Path, PathLookup, VisiblePathLookup, path_has_entries,
+    find_node, attributes_size_at, first_pair_found,
+    found_node, has_entries,
 };
 use lfs_thread::Thread;
 use std::alloc::Global;
@@ -49,8 +49,8 @@ pub struct RenameFindings {
 }
 
 // Returns what was found, but for where a name belongs and in which directory it is.
-pub(crate) fn found_without_insertion_spot_and_parent(found: PathLookup) -> VisiblePathLookup
-    ensures { result ≡ visible_lookup_without_insertion_spot_and_parent found }
+pub(crate) fn found_alone(found: PathLookup) -> VisiblePathLookup
+    ensures { result ≡ visible_lookup found }
 {
     match found {
         PathLookup::Root => VisiblePathLookup::Root,
@@ -70,9 +70,9 @@ fn find_rename_targets<D: BlockDevice>(
     from: &Path<'_>,
     to: &Path<'_>,
 ) -> Result<RenameTargets, Error>
-    requires { CanChangeRecoveredImage thread.old root }
-    ensures targets { IfOk result (AreLookupResultsAtBothRenamePaths thread.old.kept from.now to.now) }
-    ensures few { read_count_of_history thread.new.kept.history ≤ read_count_of_history thread.old.kept.history + sum_by (pair_count_of_directory_at thread.old.kept.pairs) (ancestor_paths_of_path from.now ++ ancestor_paths_of_path to.now) }
+    requires { CanChangeRecovered thread.old root }
+    ensures targets { IfOk result (AreRenameResults thread.old.kept from.now to.now) }
+    ensures few { read_count thread.new.kept.history ≤ read_count thread.old.kept.history + sum_by (pair_count_at thread.old.kept.pairs) (ancestor_paths from.now ++ ancestor_paths to.now) }
     ensures reading { OnlyReadsThreadAndReportsErrors thread.old thread.new result }
 {
     let entry = find_at_path(alloc, thread, root, from)?;
@@ -84,7 +84,7 @@ fn find_rename_targets<D: BlockDevice>(
 }
 
 // Returns where the two paths lead to: what is known, or else what a look-up finds.
-pub(crate) fn given_or_looked_up_rename_targets<D: BlockDevice>(
+pub(crate) fn given_or_found<D: BlockDevice>(
     alloc: Global,
     thread: &mut Thread<D>,
     root: usize,
@@ -92,9 +92,9 @@ pub(crate) fn given_or_looked_up_rename_targets<D: BlockDevice>(
     to: &Path<'_>,
     known: Option<RenameTargets>,
 ) -> Result<RenameTargets, Error>
-    requires rests { CanChangeRecoveredImage thread.old root }
-    requires known { IfSome known (AreLookupResultsAtBothRenamePaths thread.old.kept from.now to.now) }
-    ensures targets { IfOk result (AreLookupResultsAtBothRenamePaths thread.old.kept from.now to.now) }
+    requires rests { CanChangeRecovered thread.old root }
+    requires known { IfSome known (AreRenameResults thread.old.kept from.now to.now) }
+    ensures targets { IfOk result (AreRenameResults thread.old.kept from.now to.now) }
     ensures reading { OnlyReadsThreadAndReportsErrors thread.old thread.new result }
 {
     match known {
@@ -105,52 +105,52 @@ pub(crate) fn given_or_looked_up_rename_targets<D: BlockDevice>(
 
 // Returns what is at a path by what was found there, and whether it is a directory that has
 // entries.
-fn node_and_emptiness_of_lookup_result<D: BlockDevice>(
+fn node_and_emptiness<D: BlockDevice>(
     alloc: Global,
     thread: &mut Thread<D>,
     root: usize,
     _path: &Path<'_>,
     found: PathLookup,
 ) -> Result<NodeAndEmptiness, Error>
-    requires rests { CanChangeRecoveredImage thread.old root }
-    requires leads { PathLeadsToLookupResult thread.old.kept _path.now found }
-    ensures found { IfOk result (λ inside. IsFoundNodeAtPath (tree_on_disk thread.old.kept.disk thread.old.kept.pairs) _path.now inside.finding) }
-    ensures has { IfOk result (λ inside. inside.has_entries ≡ has_entry_beneath_path (tree_on_disk thread.old.kept.disk thread.old.kept.pairs) _path.now) }
-    ensures few { read_count_of_history thread.new.kept.history ≤ read_count_of_history thread.old.kept.history + pair_count_of_directory_at thread.old.kept.pairs _path.now }
+    requires rests { CanChangeRecovered thread.old root }
+    requires leads { LeadsToResult thread.old.kept _path.now found }
+    ensures found { IfOk result (λ inside. IsFoundNode (tree_on_disk thread.old.kept.disk thread.old.kept.pairs) _path.now inside.finding) }
+    ensures has { IfOk result (λ inside. inside.has_entries ≡ has_entry_beneath (tree_on_disk thread.old.kept.disk thread.old.kept.pairs) _path.now) }
+    ensures few { read_count thread.new.kept.history ≤ read_count thread.old.kept.history + pair_count_at thread.old.kept.pairs _path.now }
     ensures reading { OnlyReadsThreadAndReportsErrors thread.old thread.new result }
 {
-    let shown = found_without_insertion_spot_and_parent(found);
-    let has_entries = has_entries(alloc, thread, first_pair_of_lookup_result(root, shown))?;
+    let shown = found_alone(found);
+    let has_entries = has_entries(alloc, thread, first_pair_found(root, shown))?;
     // By the sizes of its blocks a list has as many bytes as its entry says.
     let _device = thread.device();
     Ok(NodeAndEmptiness {
-        finding: found_node_from_lookup_result(shown),
+        finding: found_node(shown),
         has_entries,
     })
 }
 
 // Looks up the two paths of a rename where nothing is to recover.
-fn look_up_rename_without_recovery<D: BlockDevice>(
+fn rename_findings<D: BlockDevice>(
     alloc: Global,
     thread: &mut Thread<D>,
     root: usize,
     from: &Path<'_>,
     to: &Path<'_>,
 ) -> Result<RenameFindings, Error>
-    requires { CanChangeRecoveredImage thread.old root }
-    ensures found { IfOk result (AreFindingsAtBothRenamePaths (tree_on_disk thread.old.kept.disk thread.old.kept.pairs) from.now to.now) }
-    ensures targets { IfOk result (λ found. IfSome found.targets (AreLookupResultsAtBothRenamePaths thread.old.kept from.now to.now)) }
+    requires { CanChangeRecovered thread.old root }
+    ensures found { IfOk result (AreRenameFindings (tree_on_disk thread.old.kept.disk thread.old.kept.pairs) from.now to.now) }
+    ensures targets { IfOk result (λ found. IfSome found.targets (AreRenameResults thread.old.kept from.now to.now)) }
     ensures handed_on { IfOk result (λ found. IsSome found.targets) }
-    ensures few { read_count_of_history thread.new.kept.history ≤ read_count_of_history thread.old.kept.history + sum_by (pair_count_of_directory_at thread.old.kept.pairs) (directories_searched_for_rename from.now to.now) }
+    ensures few { read_count thread.new.kept.history ≤ read_count thread.old.kept.history + sum_by (pair_count_at thread.old.kept.pairs) (rename_directories from.now to.now) }
     ensures reading { OnlyReadsThreadAndReportsErrors thread.old thread.new result }
 {
     let targets = find_rename_targets(alloc, thread, root, from, to)?;
-    let attributes_size = find_total_size_of_attributes_at_path(alloc, thread, root, from)?;
-    let target = node_and_emptiness_of_lookup_result(alloc, thread, root, to, targets.target)?;
+    let attributes_size = attributes_size_at(alloc, thread, root, from)?;
+    let target = node_and_emptiness(alloc, thread, root, to, targets.target)?;
     // By the sizes of its blocks a list has as many bytes as its entry says.
     let _device = thread.device();
     Ok(RenameFindings {
-        entry: found_node_from_lookup_result(found_without_insertion_spot_and_parent(
+        entry: found_node(found_alone(
             targets.entry,
         )),
         target,
@@ -160,22 +160,22 @@ fn look_up_rename_without_recovery<D: BlockDevice>(
 }
 
 // Looks up the two paths of a rename where something is to recover first.
-fn look_up_rename_before_recovery<D: BlockDevice>(
+fn rename_before_recovery<D: BlockDevice>(
     alloc: Global,
     thread: &mut Thread<D>,
     root: usize,
     from: &Path<'_>,
     to: &Path<'_>,
 ) -> Result<RenameFindings, Error>
-    requires { IsSoundThreadWithRootAtPairNumber thread.old root true }
-    ensures found { IfOk result (AreFindingsAtBothRenamePaths (tree_on_disk thread.old.kept.disk thread.old.kept.pairs) from.now to.now) }
-    ensures targets { IfOk result (λ found. IfSome found.targets (AreLookupResultsAtBothRenamePaths thread.old.kept from.now to.now)) }
-    ensures few { read_count_of_history thread.new.kept.history ≤ read_count_of_history thread.old.kept.history + sum_by (pair_count_of_directory_at thread.old.kept.pairs) (directories_searched_for_rename from.now to.now) }
+    requires { IsSoundWithRoot thread.old root true }
+    ensures found { IfOk result (AreRenameFindings (tree_on_disk thread.old.kept.disk thread.old.kept.pairs) from.now to.now) }
+    ensures targets { IfOk result (λ found. IfSome found.targets (AreRenameResults thread.old.kept from.now to.now)) }
+    ensures few { read_count thread.new.kept.history ≤ read_count thread.old.kept.history + sum_by (pair_count_at thread.old.kept.pairs) (rename_directories from.now to.now) }
     ensures reading { OnlyReadsThreadAndReportsErrors thread.old thread.new result }
 {
-    let entry = find_node_at_path(alloc, thread, root, from)?;
-    let target = find_if_path_has_entries(alloc, thread, root, to)?;
-    let attributes_size = find_total_size_of_attributes_at_path(alloc, thread, root, from)?;
+    let entry = find_node(alloc, thread, root, from)?;
+    let target = path_has_entries(alloc, thread, root, to)?;
+    let attributes_size = attributes_size_at(alloc, thread, root, from)?;
     Ok(RenameFindings {
         entry,
         target,
@@ -185,25 +185,25 @@ fn look_up_rename_before_recovery<D: BlockDevice>(
 }
 
 // Looks up the two paths of a rename.
-fn look_up_both_rename_paths<D: BlockDevice>(
+fn rename_targets<D: BlockDevice>(
     alloc: Global,
     thread: &mut Thread<D>,
     root: usize,
     from: &Path<'_>,
     to: &Path<'_>,
 ) -> Result<RenameFindings, Error>
-    requires { IsSoundThreadWithRootAtPairNumber thread.old root true }
-    ensures found { IfOk result (AreFindingsAtBothRenamePaths (tree_on_disk thread.old.kept.disk thread.old.kept.pairs) from.now to.now) }
-    ensures targets { IfOk result (λ found. IfSome found.targets (AreLookupResultsAtBothRenamePaths thread.old.kept from.now to.now)) }
-    ensures handed_on { gstate_of_pairs thread.old.kept.pairs ≡ zero_gstate → IfOk result (λ found. IsSome found.targets) }
-    ensures few { read_count_of_history thread.new.kept.history ≤ read_count_of_history thread.old.kept.history + sum_by (pair_count_of_directory_at thread.old.kept.pairs) (directories_searched_for_rename from.now to.now) }
+    requires { IsSoundWithRoot thread.old root true }
+    ensures found { IfOk result (AreRenameFindings (tree_on_disk thread.old.kept.disk thread.old.kept.pairs) from.now to.now) }
+    ensures targets { IfOk result (λ found. IfSome found.targets (AreRenameResults thread.old.kept from.now to.now)) }
+    ensures handed_on { pairs_gstate thread.old.kept.pairs ≡ zero_gstate → IfOk result (λ found. IsSome found.targets) }
+    ensures few { read_count thread.new.kept.history ≤ read_count thread.old.kept.history + sum_by (pair_count_at thread.old.kept.pairs) (rename_directories from.now to.now) }
     ensures reading { OnlyReadsThreadAndReportsErrors thread.old thread.new result }
 {
     let state = thread.state();
     if state.is_none() {
-        look_up_rename_without_recovery(alloc, thread, root, from, to)
+        rename_findings(alloc, thread, root, from, to)
     } else {
-        look_up_rename_before_recovery(alloc, thread, root, from, to)
+        rename_before_recovery(alloc, thread, root, from, to)
     }
 }
 
@@ -223,13 +223,13 @@ impl<D: BlockDevice> Tree<D> {
         requires works { self.old.failed ≡ false }
         requires writable { self.old.writable ≡ true }
         ensures asks { OnlyReadsTreeOrFails self.old result self.new }
-        ensures found { IfOk result (AreFindingsAtBothRenamePaths (tree_view self.old) from.now to.now) }
-        ensures targets { IfOk result (λ found. IfSome found.targets (AreLookupResultsAtBothRenamePaths (kept_thread_of_tree_state self.new) from.now to.now)) }
-        ensures handed_on { gstate_of_pairs self.old.pairs ≡ zero_gstate → IfOk result (λ found. IsSome found.targets) }
-        ensures few { read_count_of_history self.new.history ≤ read_count_of_history self.old.history + sum_by (pair_count_of_directory_at self.old.pairs) (directories_searched_for_rename from.now to.now) }
+        ensures found { IfOk result (AreRenameFindings (tree_view self.old) from.now to.now) }
+        ensures targets { IfOk result (λ found. IfSome found.targets (AreRenameResults (kept_thread self.new) from.now to.now)) }
+        ensures handed_on { pairs_gstate self.old.pairs ≡ zero_gstate → IfOk result (λ found. IsSome found.targets) }
+        ensures few { read_count self.new.history ≤ read_count self.old.history + sum_by (pair_count_at self.old.pairs) (rename_directories from.now to.now) }
     {
-        let found = look_up_both_rename_paths(alloc, &mut self.thread, self.root, from, to);
-        mark_thread_failed_on_error(&mut self.thread, &found);
+        let found = rename_targets(alloc, &mut self.thread, self.root, from, to);
+        mark_failed(&mut self.thread, &found);
         found
     }
 }

@@ -1,32 +1,32 @@
 // Entries at paths that get another one, in a thread that has nothing to recover.
 
 ghost use Rattle.std.specs.Prelude.{◌≡◌, ◌≢◌, false, true, IfSome, IsSome, OnOk};
-ghost use Rattle.lfs_model.specs.Slots.{zero_gstate};
-ghost use Rattle.lfs_model.specs.Thread.{gstate_of_pairs};
-ghost use Rattle.lfs_model.specs.TreeEdits.{tree_after_rename, same_path};
-ghost use Rattle.lfs_model.specs.Tree.{Path};
-ghost use Rattle.lfs_model.specs.Shown.{tree_on_disk};
-ghost use Rattle.lfs_operations.specs.MovingSteps.{WritesOnlyThreadPairsAndFreeBlocks};
+ghost use Rattle.lfs_model.specs.format.Slots.{zero_gstate};
+ghost use Rattle.lfs_model.specs.format.Thread.{pairs_gstate};
+ghost use Rattle.lfs_model.specs.session.TreeEdits.{tree_renaming, same_path};
+ghost use Rattle.lfs_model.specs.tree.Tree.{Path};
+ghost use Rattle.lfs_model.specs.tree.Shown.{tree_on_disk};
+ghost use Rattle.lfs_operations.specs.MovingSteps.{WritesThreadFree};
 ghost use Rattle.lfs_tree.specs.Permissions.{CanRenamePath};
-ghost use Rattle.lfs_tree.specs.Calls as call;
-ghost use Rattle.lfs_tree.specs.Calls.{AppliesCallOrFails};
-ghost use Rattle.lfs_tree.specs.TreeChanges.{CanChangeRecoveredImage, AppliesCallOnThreadOrFails, SurvivesWithOldOrNewTree};
+ghost use Rattle.lfs_tree.specs.TreeCalls as call;
+ghost use Rattle.lfs_tree.specs.TreeCalls.{AppliesCallOrFails};
+ghost use Rattle.lfs_tree.specs.TreeChanges.{CanChangeRecovered, AppliesOrFails, SurvivesEither};
 ghost use Rattle.lfs_tree.specs.SlotChanges.{is_entry_found};
-ghost use Rattle.lfs_tree.specs.RootedThreads.{tree_state_of_kept_thread};
-ghost use Rattle.lfs_tree.specs.Moves.{CanMoveOntoFound, CanMoveOntoFile, CanMoveOntoDirectory, HasMovedEntry, HasMovedOntoFileWithListStillUsed, IsRenameSourceOfFound, ThreadWorksOrReportsError};
-ghost use Rattle.lfs_tree.specs.RenamePaths.{AreLookupResultsAtBothRenamePaths};
-ghost use Rattle.lfs_tree.specs.TreeState.{kept_thread_of_tree_state};
+ghost use Rattle.lfs_tree.specs.RootedThreads.{kept_state};
+ghost use Rattle.lfs_tree.specs.MovedEntries.{CanMoveOntoFound, CanMoveOntoFile, CanMoveOntoDirectory, HasMovedEntry, HasMovedOnto, IsFoundSource, ThreadWorksOrReportsError};
+ghost use Rattle.lfs_tree.specs.RenameFindings.{AreRenameResults};
+ghost use Rattle.lfs_tree.specs.TreeState.{kept_thread};
 
-use crate::answers::mark_thread_failed_on_error;
-use crate::entries_at::{last_name_or_empty, show_block_facts_to_proof};
-use crate::removals_at::free_blocks_of_file_list;
-use crate::rename_paths::{RenameTargets, given_or_looked_up_rename_targets};
+use crate::answers::mark_failed;
+use crate::entries_at::{last_name_of, lemma_block_facts};
+use crate::removals_at::free_file_list;
+use crate::rename_paths::{RenameTargets, given_or_found};
 use crate::tree::Tree;
 use lfs_device::{BlockDevice, Error};
 use lfs_lookup::{FileStorage, Path, PathLookup, SlotPosition};
 use lfs_operations::{
-    rename, rename_across_pairs, rename_onto_directory, rename_onto_directory_across_pairs,
-    rename_onto_file, rename_onto_file_across_pairs,
+    rename, rename_across_pairs, rename_onto_directory, onto_directory_across,
+    rename_onto_file, onto_file_across,
 };
 use lfs_thread::Thread;
 use std::alloc::Global;
@@ -39,9 +39,9 @@ pub(crate) struct RenameSource {
 }
 
 // Returns the slot of an entry that was found.
-fn rename_source_of_found_entry(found: PathLookup) -> RenameSource
+fn found_rename_source(found: PathLookup) -> RenameSource
     requires { is_entry_found found ≡ true }
-    ensures { IsRenameSourceOfFound found result }
+    ensures { IsFoundSource found result }
 {
     match found {
         PathLookup::Directory { parent, slot, .. } | PathLookup::File { parent, slot, .. } =>
@@ -54,7 +54,7 @@ fn rename_source_of_found_entry(found: PathLookup) -> RenameSource
 }
 
 // Puts an entry in the place of a file, whose list is left in the map.
-fn replace_file_leaving_its_blocks_used<D: BlockDevice>(
+fn replace_file<D: BlockDevice>(
     alloc: Global,
     thread: &mut Thread<D>,
     source: RenameSource,
@@ -64,16 +64,16 @@ fn replace_file_leaving_its_blocks_used<D: BlockDevice>(
 ) -> Result<(), Error>
     requires works { thread.old.failed ≡ false }
     requires can { (from to : Path) × CanMoveOntoFile thread.old.kept from to source slot _contents name.now }
-    ensures shifted { OnOk result ((from to : Path) → CanMoveOntoFile thread.old.kept from to source slot _contents name.now → HasMovedOntoFileWithListStillUsed thread.old.kept from to _contents thread.new.kept) }
+    ensures shifted { OnOk result ((from to : Path) → CanMoveOntoFile thread.old.kept from to source slot _contents name.now → HasMovedOnto thread.old.kept from to _contents thread.new.kept) }
     ensures errors { ThreadWorksOrReportsError thread.old thread.new result }
-    ensures device { WritesOnlyThreadPairsAndFreeBlocks thread.old.kept thread.new.kept }
-    ensures survives { (from to : Path) → CanMoveOntoFile thread.old.kept from to source slot _contents name.now → SurvivesWithOldOrNewTree thread.old.kept thread.new.kept (tree_after_rename from to (tree_on_disk thread.old.kept.disk thread.old.kept.pairs)) }
+    ensures device { WritesThreadFree thread.old.kept thread.new.kept }
+    ensures survives { (from to : Path) → CanMoveOntoFile thread.old.kept from to source slot _contents name.now → SurvivesEither thread.old.kept thread.new.kept (tree_renaming from to (tree_on_disk thread.old.kept.disk thread.old.kept.pairs)) }
 {
     let from = source.slot;
     if from.pair == slot.pair {
         rename_onto_file(alloc, thread, from.pair, from.id, slot.id, name)
     } else {
-        rename_onto_file_across_pairs(
+        onto_file_across(
             alloc,
             thread,
             from.pair,
@@ -99,11 +99,11 @@ fn move_onto_file<D: BlockDevice>(
     requires can { (from to : Path) × CanMoveOntoFile thread.old.kept from to source slot contents name.now }
     ensures shifted { OnOk result ((from to : Path) → CanMoveOntoFile thread.old.kept from to source slot contents name.now → HasMovedEntry thread.old.kept from to thread.new.kept) }
     ensures errors { ThreadWorksOrReportsError thread.old thread.new result }
-    ensures device { WritesOnlyThreadPairsAndFreeBlocks thread.old.kept thread.new.kept }
-    ensures survives { (from to : Path) → CanMoveOntoFile thread.old.kept from to source slot contents name.now → SurvivesWithOldOrNewTree thread.old.kept thread.new.kept (tree_after_rename from to (tree_on_disk thread.old.kept.disk thread.old.kept.pairs)) }
+    ensures device { WritesThreadFree thread.old.kept thread.new.kept }
+    ensures survives { (from to : Path) → CanMoveOntoFile thread.old.kept from to source slot contents name.now → SurvivesEither thread.old.kept thread.new.kept (tree_renaming from to (tree_on_disk thread.old.kept.disk thread.old.kept.pairs)) }
 {
-    replace_file_leaving_its_blocks_used(alloc, thread, source, slot, contents, name)?;
-    free_blocks_of_file_list(thread, contents)
+    replace_file(alloc, thread, source, slot, contents, name)?;
+    free_file_list(thread, contents)
 }
 
 // Puts an entry in the place of a directory without entries, whose own pair has number `gone`.
@@ -119,14 +119,14 @@ fn move_onto_directory<D: BlockDevice>(
     requires can { (from to : Path) × CanMoveOntoDirectory thread.old.kept from to source slot gone name.now }
     ensures shifted { OnOk result ((from to : Path) → CanMoveOntoDirectory thread.old.kept from to source slot gone name.now → HasMovedEntry thread.old.kept from to thread.new.kept) }
     ensures errors { ThreadWorksOrReportsError thread.old thread.new result }
-    ensures device { WritesOnlyThreadPairsAndFreeBlocks thread.old.kept thread.new.kept }
-    ensures survives { (from to : Path) → CanMoveOntoDirectory thread.old.kept from to source slot gone name.now → SurvivesWithOldOrNewTree thread.old.kept thread.new.kept (tree_after_rename from to (tree_on_disk thread.old.kept.disk thread.old.kept.pairs)) }
+    ensures device { WritesThreadFree thread.old.kept thread.new.kept }
+    ensures survives { (from to : Path) → CanMoveOntoDirectory thread.old.kept from to source slot gone name.now → SurvivesEither thread.old.kept thread.new.kept (tree_renaming from to (tree_on_disk thread.old.kept.disk thread.old.kept.pairs)) }
 {
     let from = source.slot;
     if from.pair == slot.pair {
         rename_onto_directory(alloc, thread, from.pair, from.id, slot.id, name, gone)
     } else {
-        rename_onto_directory_across_pairs(
+        onto_directory_across(
             alloc,
             thread,
             from.pair,
@@ -141,7 +141,7 @@ fn move_onto_directory<D: BlockDevice>(
 }
 
 // Gives an entry the path at which `target` was found.
-fn move_entry_onto_found_target<D: BlockDevice>(
+fn move_onto_found<D: BlockDevice>(
     alloc: Global,
     thread: &mut Thread<D>,
     source: RenameSource,
@@ -152,8 +152,8 @@ fn move_entry_onto_found_target<D: BlockDevice>(
     requires can { (from to : Path) × CanMoveOntoFound thread.old.kept from to source found name.now }
     ensures shifted { OnOk result ((from to : Path) → CanMoveOntoFound thread.old.kept from to source found name.now → HasMovedEntry thread.old.kept from to thread.new.kept) }
     ensures errors { ThreadWorksOrReportsError thread.old thread.new result }
-    ensures device { WritesOnlyThreadPairsAndFreeBlocks thread.old.kept thread.new.kept }
-    ensures survives { (from to : Path) → CanMoveOntoFound thread.old.kept from to source found name.now → SurvivesWithOldOrNewTree thread.old.kept thread.new.kept (tree_after_rename from to (tree_on_disk thread.old.kept.disk thread.old.kept.pairs)) }
+    ensures device { WritesThreadFree thread.old.kept thread.new.kept }
+    ensures survives { (from to : Path) → CanMoveOntoFound thread.old.kept from to source found name.now → SurvivesEither thread.old.kept thread.new.kept (tree_renaming from to (tree_on_disk thread.old.kept.disk thread.old.kept.pairs)) }
 {
     match found {
         PathLookup::Nothing { place, .. } => {
@@ -188,25 +188,25 @@ pub(crate) fn rename_at<D: BlockDevice>(
     to: &Path<'_>,
     known: Option<RenameTargets>,
 ) -> Result<(), Error>
-    requires rests { CanChangeRecoveredImage thread.old root }
-    requires can { CanRenamePath (tree_state_of_kept_thread thread.old.kept true false) from.now to.now }
+    requires rests { CanChangeRecovered thread.old root }
+    requires can { CanRenamePath (kept_state thread.old.kept true false) from.now to.now }
     requires apart { same_path from.now to.now ≡ false }
-    requires known { IfSome known (AreLookupResultsAtBothRenamePaths thread.old.kept from.now to.now) }
-    ensures { AppliesCallOnThreadOrFails thread.old (call.Rename from.now to.now) result thread.new }
+    requires known { IfSome known (AreRenameResults thread.old.kept from.now to.now) }
+    ensures { AppliesOrFails thread.old (call.Rename from.now to.now) result thread.new }
 {
-    from.show_path_comes_from_bytes_to_proof();
-    to.show_path_comes_from_bytes_to_proof();
-    to.show_path_names_are_valid_to_proof();
-    show_block_facts_to_proof(thread);
+    from.lemma_path_bytes();
+    to.lemma_path_bytes();
+    to.lemma_valid_names();
+    lemma_block_facts(thread);
     let names = to.names(alloc)?;
-    let targets = given_or_looked_up_rename_targets(alloc, thread, root, from, to, known)?;
-    let source = rename_source_of_found_entry(targets.entry);
-    move_entry_onto_found_target(
+    let targets = given_or_found(alloc, thread, root, from, to, known)?;
+    let source = found_rename_source(targets.entry);
+    move_onto_found(
         alloc,
         thread,
         source,
         targets.target,
-        last_name_or_empty(&names),
+        last_name_of(&names),
     )
 }
 
@@ -229,13 +229,13 @@ impl<D: BlockDevice> Tree<D> {
     ) -> Result<(), Error>
         requires can { CanRenamePath self.old from.now to.now }
         requires apart { same_path from.now to.now ≡ false }
-        requires known { IfSome known (AreLookupResultsAtBothRenamePaths (kept_thread_of_tree_state self.old) from.now to.now) }
-        requires looked_up { gstate_of_pairs self.old.pairs ≡ zero_gstate → IsSome known }
+        requires known { IfSome known (AreRenameResults (kept_thread self.old) from.now to.now) }
+        requires looked_up { pairs_gstate self.old.pairs ≡ zero_gstate → IsSome known }
         ensures { AppliesCallOrFails self.old (call.Rename from.now to.now) result self.new }
     {
         self.recover(alloc)?;
         let renamed = rename_at(alloc, &mut self.thread, self.root, from, to, known);
-        mark_thread_failed_on_error(&mut self.thread, &renamed);
+        mark_failed(&mut self.thread, &renamed);
         renamed
     }
 }

@@ -3,48 +3,48 @@
 ghost use Rattle.std.specs.Prelude.{◌≡◌, ◌<◌, ◌==◌, ◌≤◌, ◌+◌, ◌^◌, ◌++◌, ◌∷◌, List, [], length, map, true, false, None, Some, IfOk, IfErr, IfSome, IsSome, OnErr, OnOk, sum_by};
 ghost use Rattle.std.specs.List.{list_any};
 ghost use Rattle.std.specs.Option.{option_map};
-ghost use Rattle.lfs_model.specs.History.{read_count_of_history};
-ghost use Rattle.lfs_model.specs.Frame.{pair_count_of_directory_at, ancestor_paths_of_path};
-ghost use Rattle.lfs_model.specs.TreeEdits.{attributes_of_node};
-ghost use Rattle.lfs_model.specs.Content.{attribute_bytes_of_type};
-ghost use Rattle.lfs_model.specs.Profile.{superblock_of_image};
-ghost use Rattle.lfs_model.specs.Slots.{zero_gstate};
-ghost use Rattle.lfs_model.specs.Thread.{Pair, anchor_pair_address, gstate_of_pairs, blocks_of_pair_address};
-ghost use Rattle.lfs_model.specs.View.{IsAcceptedImage};
-ghost use Rattle.lfs_model.specs.Disk.{SameGeometry, block_count, disk_in_order};
+ghost use Rattle.lfs_model.specs.session.History.{read_count};
+ghost use Rattle.lfs_model.specs.crash.Frame.{pair_count_at, ancestor_paths};
+ghost use Rattle.lfs_model.specs.session.TreeEdits.{node_attributes_of};
+ghost use Rattle.lfs_model.specs.format.Content.{attribute_bytes};
+ghost use Rattle.lfs_model.specs.tree.Profile.{image_fields};
+ghost use Rattle.lfs_model.specs.format.Slots.{zero_gstate};
+ghost use Rattle.lfs_model.specs.format.Thread.{Pair, anchor_address, pairs_gstate, address_blocks};
+ghost use Rattle.lfs_model.specs.tree.View.{IsAccepted};
+ghost use Rattle.lfs_model.specs.format.Disk.{SameGeometry, block_count, ordered_disk};
 ghost use Rattle.lfs_model.specs.declared.order.NameOrder.{NameOrder};
 ghost use Rattle.lfs_model.specs.declared.order.NameOrder.TheVariants.{LongerFirst, ShorterFirst};
-ghost use Rattle.lfs_model.specs.Effects.{directory_items_at_path};
-ghost use Rattle.lfs_mount.specs.Device.{IsIoCorruptOrNoMemory};
+ghost use Rattle.lfs_model.specs.session.Effects.{items_at};
+ghost use Rattle.lfs_mount.specs.MountFaults.{IsErrorOfMount};
 ghost use Rattle.lfs_tag.specs.FieldsView.{move_view, superblock_view};
-ghost use Rattle.lfs_thread.specs.Device.{GivesDeviceBackOnlyReadWithError};
-ghost use Rattle.lfs_thread.specs.Kept.{disk_of_device, kept_thread_in_order};
-ghost use Rattle.lfs_tree.specs.Permissions.{CanCreateFileAtPath, CanMakeDirectoryAtPath, CanRemoveEntryAtPath, CanRemoveAttrAtPath, CanSetAttrAtPath};
-ghost use Rattle.lfs_lookup.specs.CachedPairs.{AreFewDirectoriesOfOnePairEach};
-ghost use Rattle.lfs_tree.specs.CreationPaths.{IsLookupResultAtCreationPath};
-ghost use Rattle.lfs_tree.specs.Calls as call;
-ghost use Rattle.lfs_tree.specs.Calls.{AppliesCallOrFails};
-ghost use Rattle.lfs_tree.specs.Reads.{HasCachedDirectories, ReadsAtMostSixTimes, ReadsDirectoryPairsAtMostOnce};
-ghost use Rattle.lfs_tree.specs.Recoveries.{HasRecoveredFromPowerLoss};
+ghost use Rattle.lfs_thread.specs.ThreadDevice.{GivesDeviceBackOnlyReadWithError};
+ghost use Rattle.lfs_thread.specs.Kept.{disk_of_device, kept_in_order};
+ghost use Rattle.lfs_tree.specs.Permissions.{CanCreateFile, CanMakeDirectory, CanRemoveEntry, CanRemoveAttr, CanSetAttr};
+ghost use Rattle.lfs_lookup.specs.CachedPairs.{AreFewSmall};
+ghost use Rattle.lfs_tree.specs.CreationPaths.{IsCreationResult};
+ghost use Rattle.lfs_tree.specs.TreeCalls as call;
+ghost use Rattle.lfs_tree.specs.TreeCalls.{AppliesCallOrFails};
+ghost use Rattle.lfs_tree.specs.TreeReads.{HasCachedDirectories, ReadsSixAtMost, ReadsPairsOnce};
+ghost use Rattle.lfs_tree.specs.Recoveries.{HasRecovered};
 ghost use Rattle.lfs_lookup.specs.AttributeAt.{IsAttributesSize};
-ghost use Rattle.lfs_lookup.specs.Finds.{IsFoundNodeAtPath, has_entry_beneath_path, list_item_view};
-ghost use Rattle.lfs_tree.specs.Formats.{FailedFormatSparesOtherBlocks, IsFreshlyFormatted, WritesFirstTwoBlocks};
-ghost use Rattle.lfs_tree.specs.TreeState.{OnlyReadsTreeOrFails, IsTreeFailedByRead, IsMountErrorWithCause, IsMountedTree, IsRemountedTree, IsSoundTreeState, disk_summary_of_tree, kept_thread_of_tree_state, tree_view};
+ghost use Rattle.lfs_lookup.specs.Finds.{IsFoundNode, has_entry_beneath, listed_item_view};
+ghost use Rattle.lfs_tree.specs.Formats.{FailedFormatSparesOtherBlocks, IsFormatted, WritesFirstTwo};
+ghost use Rattle.lfs_tree.specs.TreeState.{OnlyReadsTreeOrFails, FailedByReading, IsCausedError, IsMountedTree, IsRemountedTree, IsSoundState, tree_summary, kept_thread, tree_view};
 
-use crate::answers::mark_thread_failed_on_error;
+use crate::answers::mark_failed;
 use crate::attributes_at::{remove_attr_at, set_attr_at};
-use crate::entries_at::{create_empty_file_at, make_directory_at};
+use crate::entries_at::{create_empty_file, make_directory_at};
 use crate::formats::format;
-use crate::lost_recovery::end_move_and_drop_unreached_directories;
-use crate::mounted_tree::{find_root_and_writing_profile, mount_thread};
+use crate::lost_recovery::end_and_drop;
+use crate::mounted_tree::{root_and_profile, mount_thread};
 use crate::remounts::{SpareThreadParts, mount_again};
 use crate::removals_at::remove_at;
 use core::mem::replace_with;
 use lfs_device::{BlockDevice, Error, Geometry};
 use lfs_lookup::{
-    FoundAttribute, FoundNode, Listing, NodeAndEmptiness, Path, PathLookup, find_attribute_at_path,
-    find_if_path_has_entries, find_node_at_path, find_total_size_of_attributes_at_path,
-    list_directory_at_path,
+    FoundAttribute, FoundNode, Listing, NodeAndEmptiness, Path, PathLookup, find_attribute,
+    path_has_entries, find_node, attributes_size_at,
+    list_directory,
 };
 use lfs_model::NameOrder;
 use lfs_tag::{MoveState, Superblock};
@@ -66,14 +66,14 @@ pub struct Tree<D: BlockDevice> {
 }
 
 impl<D: BlockDevice> Model for Tree<D> {
-    ghost use Rattle.lfs_tree.specs.RootedThreads.{IsSoundThreadUnlessFailed, tree_state_of_thread};
+    ghost use Rattle.lfs_tree.specs.RootedThreads.{SoundUnlessFailed, thread_state};
     ghost use Rattle.lfs_tree.specs.TreeState.{TreeState};
 
     ghost Value = { TreeState };
 
-    ghost view = { λ t. tree_state_of_thread t.thread t.is_writable };
+    ghost view = { λ t. thread_state t.thread t.is_writable };
 
-    ghost invariant = { λ t. IsSoundThreadUnlessFailed t.thread t.root t.is_writable };
+    ghost invariant = { λ t. SoundUnlessFailed t.thread t.root t.is_writable };
 }
 
 impl<D: BlockDevice> Tree<D> {
@@ -83,14 +83,14 @@ impl<D: BlockDevice> Tree<D> {
     /// Errors: `Corrupt` exactly where the device has no accepted image in either order. `Io` where
     /// a read failed. `NoMemory` where memory isn't granted. An error comes with the device.
     pub fn mount(alloc: Global, device: D) -> Result<Tree<D>, (D, Error)>
-        ensures mounted { IfOk result (λ t. IsMountedTree (disk_in_order t.disk.order (disk_of_device D.BlockDevice device)) (D.history device) t) }
-        ensures longer { IfOk result (λ t. t.disk.order ≡ ShorterFirst → (ps : List Pair) → ¬ IsAcceptedImage (disk_in_order LongerFirst (disk_of_device D.BlockDevice device)) ps) }
-        ensures corrupt { IfErr result (λ e. e.1 ≡ Error.Corrupt → (order : NameOrder) (ps : List Pair) → ¬ IsAcceptedImage (disk_in_order order (disk_of_device D.BlockDevice device)) ps) }
-        ensures errors { IfErr result (λ e. IsIoCorruptOrNoMemory e.1) }
+        ensures mounted { IfOk result (λ t. IsMountedTree (ordered_disk t.disk.order (disk_of_device D.BlockDevice device)) (D.history device) t) }
+        ensures longer { IfOk result (λ t. t.disk.order ≡ ShorterFirst → (ps : List Pair) → ¬ IsAccepted (ordered_disk LongerFirst (disk_of_device D.BlockDevice device)) ps) }
+        ensures corrupt { IfErr result (λ e. e.1 ≡ Error.Corrupt → (order : NameOrder) (ps : List Pair) → ¬ IsAccepted (ordered_disk order (disk_of_device D.BlockDevice device)) ps) }
+        ensures errors { IfErr result (λ e. IsErrorOfMount e.1) }
         ensures back { IfErr result (λ e. GivesDeviceBackOnlyReadWithError D.BlockDevice device e.0 e.1) }
     {
         let mut thread = mount_thread(alloc, device)?;
-        match find_root_and_writing_profile(alloc, &mut thread) {
+        match root_and_profile(alloc, &mut thread) {
             Ok((root, is_writable)) => Ok(Tree {
                 thread,
                 root,
@@ -105,11 +105,11 @@ impl<D: BlockDevice> Tree<D> {
     /// Errors are those of that call.
     pub fn format(alloc: Global, device: D, order: NameOrder) -> Result<Tree<D>, (D, Error)>
         ensures works { IfOk result (λ t. (t.failed ≡ false) × (t.writable ≡ true)) }
-        ensures sound { IfOk result IsSoundTreeState }
-        ensures formatted { IfOk result (λ t. IsFreshlyFormatted (kept_thread_of_tree_state t)) }
-        ensures geometry { IfOk result (λ t. SameGeometry (disk_in_order order (disk_of_device D.BlockDevice device)) t.disk) }
-        ensures calls { IfOk result (λ t. WritesFirstTwoBlocks (kept_thread_in_order D.BlockDevice order device [] []) (kept_thread_of_tree_state t)) }
-        ensures back { IfErr result (λ e. FailedFormatSparesOtherBlocks D.BlockDevice (blocks_of_pair_address anchor_pair_address) device e.0 e.1) }
+        ensures sound { IfOk result IsSoundState }
+        ensures formatted { IfOk result (λ t. IsFormatted (kept_thread t)) }
+        ensures geometry { IfOk result (λ t. SameGeometry (ordered_disk order (disk_of_device D.BlockDevice device)) t.disk) }
+        ensures calls { IfOk result (λ t. WritesFirstTwo (kept_in_order D.BlockDevice order device [] []) (kept_thread t)) }
+        ensures back { IfErr result (λ e. FailedFormatSparesOtherBlocks D.BlockDevice (address_blocks anchor_address) device e.0 e.1) }
     {
         match format(alloc, device, order) {
             Ok(thread) => Ok(Tree {
@@ -127,8 +127,8 @@ impl<D: BlockDevice> Tree<D> {
     /// Errors are those of [`mount`](Tree::mount). The tree has failed after any.
     pub fn remount(&mut self, alloc: Global) -> Result<(), Error>
         ensures mounted { OnOk result (IsRemountedTree self.old self.new) }
-        ensures broken { OnErr result (IsTreeFailedByRead self.old self.new) }
-        ensures errors { IfErr result (IsMountErrorWithCause self.old self.new) }
+        ensures broken { OnErr result (FailedByReading self.old self.new) }
+        ensures errors { IfErr result (IsCausedError self.old self.new) }
     {
         match SpareThreadParts::new(alloc) {
             Ok(spare) => replace_with(self, spare, mount_again),
@@ -141,7 +141,7 @@ impl<D: BlockDevice> Tree<D> {
 
     /// Borrows the device, as the last call left it, after an error too.
     pub fn device(&self) -> &D
-        ensures disk { disk_in_order self.now.disk.order (disk_of_device D.BlockDevice result.now) ≡ self.now.disk }
+        ensures disk { ordered_disk self.now.disk.order (disk_of_device D.BlockDevice result.now) ≡ self.now.disk }
         ensures history { D.history result.now ≡ self.now.history }
     {
         self.thread.device()
@@ -149,7 +149,7 @@ impl<D: BlockDevice> Tree<D> {
 
     /// Returns the device, as the last call left it, also from a tree that has failed.
     pub fn into_device(self) -> D
-        ensures disk { disk_in_order self.disk.order (disk_of_device D.BlockDevice result) ≡ self.disk }
+        ensures disk { ordered_disk self.disk.order (disk_of_device D.BlockDevice result) ≡ self.disk }
         ensures history { D.history result ≡ self.history }
     {
         self.thread.into_device()
@@ -196,7 +196,7 @@ impl<D: BlockDevice> Tree<D> {
     /// Returns how many blocks the image uses.
     pub fn used_count(&self) -> u32
         requires { self.now.failed ≡ false }
-        ensures { result ≡ length (disk_summary_of_tree self.now).used }
+        ensures { result ≡ length (tree_summary self.now).used }
     {
         self.thread.used_count()
     }
@@ -205,7 +205,7 @@ impl<D: BlockDevice> Tree<D> {
     pub fn is_used(&self, block: u32) -> bool
         requires works { self.now.failed ≡ false }
         requires below { block < block_count self.now.disk }
-        ensures { result ≡ list_any (λ b. b == block) (disk_summary_of_tree self.now).used }
+        ensures { result ≡ list_any (λ b. b == block) (tree_summary self.now).used }
     {
         self.thread.is_used(block)
     }
@@ -213,7 +213,7 @@ impl<D: BlockDevice> Tree<D> {
     /// Returns the global state (DESIGN.md of littlefs, "The move problem").
     pub fn gstate(&self) -> MoveState
         requires { self.now.failed ≡ false }
-        ensures { move_view result ≡ (disk_summary_of_tree self.now).gstate }
+        ensures { move_view result ≡ (tree_summary self.now).gstate }
     {
         self.thread.state()
     }
@@ -225,11 +225,11 @@ impl<D: BlockDevice> Tree<D> {
     pub fn superblock(&mut self, alloc: Global) -> Result<Superblock, Error>
         requires { self.old.failed ≡ false }
         ensures asks { OnlyReadsTreeOrFails self.old result self.new }
-        ensures is { IfOk result (λ f. superblock_of_image self.old.pairs ≡ Some (superblock_view f)) }
-        ensures few { read_count_of_history self.new.history ≤ read_count_of_history self.old.history + 1 }
+        ensures is { IfOk result (λ f. image_fields self.old.pairs ≡ Some (superblock_view f)) }
+        ensures few { read_count self.new.history ≤ read_count self.old.history + 1 }
     {
         let superblock = lfs_lookup::superblock(alloc, &mut self.thread, self.root);
-        mark_thread_failed_on_error(&mut self.thread, &superblock);
+        mark_failed(&mut self.thread, &superblock);
         superblock
     }
 
@@ -241,12 +241,12 @@ impl<D: BlockDevice> Tree<D> {
     pub fn look_up(&mut self, alloc: Global, path: &Path<'_>) -> Result<FoundNode, Error>
         requires { self.old.failed ≡ false }
         ensures asks { OnlyReadsTreeOrFails self.old result self.new }
-        ensures found { IfOk result (IsFoundNodeAtPath (tree_view self.old) path.now) }
-        ensures few { ReadsDirectoryPairsAtMostOnce (ancestor_paths_of_path path.now) self.old self.new.history }
-        ensures hand { AreFewDirectoriesOfOnePairEach self.old.pairs (ancestor_paths_of_path path.now) → IfOk result (λ found. found.fault ≡ None → HasCachedDirectories self.new (ancestor_paths_of_path path.now)) }
+        ensures found { IfOk result (IsFoundNode (tree_view self.old) path.now) }
+        ensures few { ReadsPairsOnce (ancestor_paths path.now) self.old self.new.history }
+        ensures hand { AreFewSmall self.old.pairs (ancestor_paths path.now) → IfOk result (λ found. found.fault ≡ None → HasCachedDirectories self.new (ancestor_paths path.now)) }
     {
-        let found = find_node_at_path(alloc, &mut self.thread, self.root, path);
-        mark_thread_failed_on_error(&mut self.thread, &found);
+        let found = find_node(alloc, &mut self.thread, self.root, path);
+        mark_failed(&mut self.thread, &found);
         found
     }
 
@@ -255,19 +255,19 @@ impl<D: BlockDevice> Tree<D> {
     ///
     /// Errors: `Io` where a read failed. `NoMemory` where memory isn't granted. The tree has failed
     /// after either.
-    pub fn look_up_node_and_emptiness(
+    pub fn look_up_node(
         &mut self,
         alloc: Global,
         path: &Path<'_>,
     ) -> Result<NodeAndEmptiness, Error>
         requires { self.old.failed ≡ false }
         ensures asks { OnlyReadsTreeOrFails self.old result self.new }
-        ensures found { IfOk result (λ inside. IsFoundNodeAtPath (tree_view self.old) path.now inside.finding) }
-        ensures has { IfOk result (λ inside. inside.has_entries ≡ has_entry_beneath_path (tree_view self.old) path.now) }
-        ensures few { read_count_of_history self.new.history ≤ read_count_of_history self.old.history + sum_by (pair_count_of_directory_at self.old.pairs) (ancestor_paths_of_path path.now ++ path.now ∷ []) }
+        ensures found { IfOk result (λ inside. IsFoundNode (tree_view self.old) path.now inside.finding) }
+        ensures has { IfOk result (λ inside. inside.has_entries ≡ has_entry_beneath (tree_view self.old) path.now) }
+        ensures few { read_count self.new.history ≤ read_count self.old.history + sum_by (pair_count_at self.old.pairs) (ancestor_paths path.now ++ path.now ∷ []) }
     {
-        let inside = find_if_path_has_entries(alloc, &mut self.thread, self.root, path);
-        mark_thread_failed_on_error(&mut self.thread, &inside);
+        let inside = path_has_entries(alloc, &mut self.thread, self.root, path);
+        mark_failed(&mut self.thread, &inside);
         inside
     }
 
@@ -285,12 +285,12 @@ impl<D: BlockDevice> Tree<D> {
     ) -> Result<FoundAttribute, Error>
         requires { self.old.failed ≡ false }
         ensures asks { OnlyReadsTreeOrFails self.old result self.new }
-        ensures found { IfOk result (λ found. IsFoundNodeAtPath (tree_view self.old) path.now found.finding) }
-        ensures bytes { IfOk result (λ found. (option_map (λ v. v.items) found.bytes ≡ attribute_bytes_of_type kind (attributes_of_node (tree_view self.old path.now))) × IfSome found.bytes (λ v. length v.items ≤ 1022)) }
-        ensures few { ReadsDirectoryPairsAtMostOnce (ancestor_paths_of_path path.now) self.old self.new.history }
+        ensures found { IfOk result (λ found. IsFoundNode (tree_view self.old) path.now found.finding) }
+        ensures bytes { IfOk result (λ found. (option_map (λ v. v.items) found.bytes ≡ attribute_bytes kind (node_attributes_of (tree_view self.old path.now))) × IfSome found.bytes (λ v. length v.items ≤ 1022)) }
+        ensures few { ReadsPairsOnce (ancestor_paths path.now) self.old self.new.history }
     {
-        let found = find_attribute_at_path(alloc, &mut self.thread, self.root, path, kind);
-        mark_thread_failed_on_error(&mut self.thread, &found);
+        let found = find_attribute(alloc, &mut self.thread, self.root, path, kind);
+        mark_failed(&mut self.thread, &found);
         found
     }
 
@@ -303,11 +303,11 @@ impl<D: BlockDevice> Tree<D> {
     pub fn attributes_size(&mut self, alloc: Global, path: &Path<'_>) -> Result<usize, Error>
         requires { self.old.failed ≡ false }
         ensures asks { OnlyReadsTreeOrFails self.old result self.new }
-        ensures size { IfOk result (IsAttributesSize (attributes_of_node (tree_view self.old path.now))) }
-        ensures few { ReadsDirectoryPairsAtMostOnce (ancestor_paths_of_path path.now) self.old self.new.history }
+        ensures size { IfOk result (IsAttributesSize (node_attributes_of (tree_view self.old path.now))) }
+        ensures few { ReadsPairsOnce (ancestor_paths path.now) self.old self.new.history }
     {
-        let size = find_total_size_of_attributes_at_path(alloc, &mut self.thread, self.root, path);
-        mark_thread_failed_on_error(&mut self.thread, &size);
+        let size = attributes_size_at(alloc, &mut self.thread, self.root, path);
+        mark_failed(&mut self.thread, &size);
         size
     }
 
@@ -320,12 +320,12 @@ impl<D: BlockDevice> Tree<D> {
     pub fn list(&mut self, alloc: Global, path: &Path<'_>) -> Result<Listing, Error>
         requires { self.old.failed ≡ false }
         ensures asks { OnlyReadsTreeOrFails self.old result self.new }
-        ensures found { IfOk result (λ listing. IsFoundNodeAtPath (tree_view self.old) path.now listing.finding) }
-        ensures items { IfOk result (λ listing. map list_item_view listing.items.items ≡ directory_items_at_path (tree_view self.old) path.now) }
-        ensures few { ReadsDirectoryPairsAtMostOnce (ancestor_paths_of_path path.now ++ path.now ∷ []) self.old self.new.history }
+        ensures found { IfOk result (λ listing. IsFoundNode (tree_view self.old) path.now listing.finding) }
+        ensures items { IfOk result (λ listing. map listed_item_view listing.items.items ≡ items_at (tree_view self.old) path.now) }
+        ensures few { ReadsPairsOnce (ancestor_paths path.now ++ path.now ∷ []) self.old self.new.history }
     {
-        let listing = list_directory_at_path(alloc, &mut self.thread, self.root, path);
-        mark_thread_failed_on_error(&mut self.thread, &listing);
+        let listing = list_directory(alloc, &mut self.thread, self.root, path);
+        mark_failed(&mut self.thread, &listing);
         listing
     }
 
@@ -336,12 +336,12 @@ impl<D: BlockDevice> Tree<D> {
     /// Errors: `Io` where a call of the device failed. `NoMemory` where memory isn't granted. The
     /// tree has failed after either.
     pub fn mkdir(&mut self, alloc: Global, path: &Path<'_>) -> Result<(), Error>
-        requires { CanMakeDirectoryAtPath self.old path.now }
+        requires { CanMakeDirectory self.old path.now }
         ensures { AppliesCallOrFails self.old (call.Mkdir path.now) result self.new }
     {
         self.recover(alloc)?;
         let made = make_directory_at(alloc, &mut self.thread, self.root, path);
-        mark_thread_failed_on_error(&mut self.thread, &made);
+        mark_failed(&mut self.thread, &made);
         made
     }
 
@@ -360,15 +360,15 @@ impl<D: BlockDevice> Tree<D> {
         path: &Path<'_>,
         known: Option<PathLookup>,
     ) -> Result<(), Error>
-        requires can { CanCreateFileAtPath self.old path.now }
-        requires known { IfSome known (IsLookupResultAtCreationPath (kept_thread_of_tree_state self.old) path.now) }
-        requires looked_up { gstate_of_pairs self.old.pairs ≡ zero_gstate → IsSome known }
+        requires can { CanCreateFile self.old path.now }
+        requires known { IfSome known (IsCreationResult (kept_thread self.old) path.now) }
+        requires looked_up { pairs_gstate self.old.pairs ≡ zero_gstate → IsSome known }
         ensures does { AppliesCallOrFails self.old (call.Create path.now) result self.new }
-        ensures few { ReadsAtMostSixTimes self.old self.new.history }
+        ensures few { ReadsSixAtMost self.old self.new.history }
     {
         self.recover(alloc)?;
-        let created = create_empty_file_at(alloc, &mut self.thread, self.root, path, known);
-        mark_thread_failed_on_error(&mut self.thread, &created);
+        let created = create_empty_file(alloc, &mut self.thread, self.root, path, known);
+        mark_failed(&mut self.thread, &created);
         created
     }
 
@@ -379,12 +379,12 @@ impl<D: BlockDevice> Tree<D> {
     /// Errors: `Io` where a call of the device failed. `NoMemory` where memory isn't granted. The
     /// tree has failed after either.
     pub fn remove(&mut self, alloc: Global, path: &Path<'_>) -> Result<(), Error>
-        requires { CanRemoveEntryAtPath self.old path.now }
+        requires { CanRemoveEntry self.old path.now }
         ensures { AppliesCallOrFails self.old (call.Remove path.now) result self.new }
     {
         self.recover(alloc)?;
         let removed = remove_at(alloc, &mut self.thread, self.root, path);
-        mark_thread_failed_on_error(&mut self.thread, &removed);
+        mark_failed(&mut self.thread, &removed);
         removed
     }
 
@@ -401,12 +401,12 @@ impl<D: BlockDevice> Tree<D> {
         kind: u8,
         bytes: &[u8],
     ) -> Result<(), Error>
-        requires { CanSetAttrAtPath self.old path.now kind bytes.now }
+        requires { CanSetAttr self.old path.now kind bytes.now }
         ensures { AppliesCallOrFails self.old (call.SetAttr path.now kind bytes.now) result self.new }
     {
         self.recover(alloc)?;
         let set = set_attr_at(alloc, &mut self.thread, self.root, path, kind, bytes);
-        mark_thread_failed_on_error(&mut self.thread, &set);
+        mark_failed(&mut self.thread, &set);
         set
     }
 
@@ -420,14 +420,14 @@ impl<D: BlockDevice> Tree<D> {
         requires works { self.old.failed ≡ false }
         requires writable { self.old.writable ≡ true }
         ensures does { AppliesCallOrFails self.old call.Recover result self.new }
-        ensures settled { OnOk result (HasRecoveredFromPowerLoss (kept_thread_of_tree_state self.old) (kept_thread_of_tree_state self.new)) }
-        ensures idle { gstate_of_pairs self.old.pairs ≡ zero_gstate → self.new ≡ self.old }
+        ensures settled { OnOk result (HasRecovered (kept_thread self.old) (kept_thread self.new)) }
+        ensures idle { pairs_gstate self.old.pairs ≡ zero_gstate → self.new ≡ self.old }
     {
         if self.gstate().is_none() {
             return Ok(());
         }
-        let recovered = end_move_and_drop_unreached_directories(alloc, &mut self.thread, self.root);
-        mark_thread_failed_on_error(&mut self.thread, &recovered);
+        let recovered = end_and_drop(alloc, &mut self.thread, self.root);
+        mark_failed(&mut self.thread, &recovered);
         recovered
     }
 
@@ -438,12 +438,12 @@ impl<D: BlockDevice> Tree<D> {
     /// Errors: `Io` where a call of the device failed. `NoMemory` where memory isn't granted. The
     /// tree has failed after either.
     pub fn remove_attr(&mut self, alloc: Global, path: &Path<'_>, kind: u8) -> Result<(), Error>
-        requires { CanRemoveAttrAtPath self.old path.now kind }
+        requires { CanRemoveAttr self.old path.now kind }
         ensures { AppliesCallOrFails self.old (call.RemoveAttr path.now kind) result self.new }
     {
         self.recover(alloc)?;
         let removed = remove_attr_at(alloc, &mut self.thread, self.root, path, kind);
-        mark_thread_failed_on_error(&mut self.thread, &removed);
+        mark_failed(&mut self.thread, &removed);
         removed
     }
 }

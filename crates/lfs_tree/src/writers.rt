@@ -1,22 +1,22 @@
 // The contents of files that are open for writing.
 
 ghost use Rattle.std.specs.Prelude.{◌≡◌, [], false, true, length, take, IfErr, IfOk, OnErr, OnOk};
-ghost use Rattle.lfs_model.specs.TreeEdits.{file_bytes_of_node, tree_after_change_of_node, is_file};
-ghost use Rattle.lfs_model.specs.BlockSets.{in_flight_block_count};
-ghost use Rattle.lfs_model.specs.Disk.{inline_limit};
-ghost use Rattle.lfs_model.specs.Writers.{contents_after_write, bytes_padded_with_zeros};
-ghost use Rattle.lfs_model.specs.Effects.{node_with_bytes};
-ghost use Rattle.lfs_model.specs.Tree.{Path as ModelPath};
-ghost use Rattle.lfs_tree.specs.OpenContents.{CanOpenFileWriterWithNothingInFlight, CanStoreContentsAt, CanTruncateWriterContents, CanWriteWriterContents, HasWriterBytesInForm, IsFormOfOpenedContents, AreWriterContentsOverTreeFile, StoresBytesKeepingOtherFilesAtPath, WritesOnlyUnusedBlocksOrFails, bytes_of_writer_contents, kept_thread_of_tree_state};
-ghost use Rattle.lfs_tree.specs.TreeState.{OnlyReadsTreeOrFails, IsFailedTree, IsTreeFailedByRead, IsIoWithFaultOrNoMemory, SurvivesStopsInTreeCall, tree_view};
-ghost use Rattle.lfs_file.specs.Contents.{storage_form_of_contents};
+ghost use Rattle.lfs_model.specs.session.TreeEdits.{file_bytes, tree_with_change, is_file};
+ghost use Rattle.lfs_model.specs.layers.BlockSets.{in_flight_count};
+ghost use Rattle.lfs_model.specs.format.Disk.{inline_limit};
+ghost use Rattle.lfs_model.specs.session.Writers.{written_contents, padded_with_zeros};
+ghost use Rattle.lfs_model.specs.session.Effects.{file_with_bytes};
+ghost use Rattle.lfs_model.specs.tree.Tree.{Path as ModelPath};
+ghost use Rattle.lfs_tree.specs.OpenContents.{CanOpenWriterOf, CanStoreAt, CanTruncateWriterContents, CanWriteWriterContents, HasFormBytes, IsOpenedForm, OverTreeFile, StoresBytesAt, WritesOnlyUnusedBlocksOrFails, writer_contents_bytes, kept_thread};
+ghost use Rattle.lfs_tree.specs.TreeState.{OnlyReadsTreeOrFails, IsFailedTree, FailedByReading, HasErrorCause, SurvivesStops, tree_view};
+ghost use Rattle.lfs_file.specs.Contents.{contents_form};
 ghost use Rattle.lfs_file.specs.Form as form;
-ghost use Rattle.lfs_file.specs.Form.{storage_form_after_truncate, storage_form_after_write};
+ghost use Rattle.lfs_file.specs.Form.{truncated_form, written_form};
 
-use crate::answers::mark_thread_failed_on_error;
-use crate::contents_at::store_contents_at_path;
+use crate::answers::mark_failed;
+use crate::contents_at::store_contents_at;
 use crate::files::{truncate_file, write_file};
-use crate::opened_contents::{contents_of_no_bytes, open_contents_at_path};
+use crate::opened_contents::{contents_of_nothing, open_contents_at};
 use crate::tree::Tree;
 use lfs_device::{BlockDevice, Error};
 use lfs_file::WriterContents;
@@ -34,14 +34,14 @@ impl<D: BlockDevice> Tree<D> {
         alloc: Global,
         path: &Path<'_>,
     ) -> Result<WriterContents, Error>
-        requires { CanOpenFileWriterWithNothingInFlight self.old path.now }
+        requires { CanOpenWriterOf self.old path.now }
         ensures asks { OnlyReadsTreeOrFails self.old result self.new }
-        ensures over { IfOk result (AreWriterContentsOverTreeFile self.new path.now) }
-        ensures bytes { IfOk result (λ c. bytes_of_writer_contents (kept_thread_of_tree_state self.new) c ≡ file_bytes_of_node (tree_view self.old path.now)) }
-        ensures form { IfOk result (λ c. IsFormOfOpenedContents self.old.disk.profile self.old.disk.block_size (length (file_bytes_of_node (tree_view self.old path.now))) (storage_form_of_contents c)) }
+        ensures over { IfOk result (OverTreeFile self.new path.now) }
+        ensures bytes { IfOk result (λ c. writer_contents_bytes (kept_thread self.new) c ≡ file_bytes (tree_view self.old path.now)) }
+        ensures form { IfOk result (λ c. IsOpenedForm self.old.disk.profile self.old.disk.block_size (length (file_bytes (tree_view self.old path.now))) (contents_form c)) }
     {
-        let contents = open_contents_at_path(alloc, &mut self.thread, self.root, path);
-        mark_thread_failed_on_error(&mut self.thread, &contents);
+        let contents = open_contents_at(alloc, &mut self.thread, self.root, path);
+        mark_failed(&mut self.thread, &contents);
         contents
     }
 
@@ -50,16 +50,16 @@ impl<D: BlockDevice> Tree<D> {
     /// Errors: `NoMemory` where memory isn't granted. The tree has failed then.
     pub fn empty_contents(&mut self, alloc: Global) -> Result<WriterContents, Error>
         requires works { self.old.failed ≡ false }
-        requires idle { in_flight_block_count self.old.map ≡ 0 }
+        requires idle { in_flight_count self.old.map ≡ 0 }
         ensures same { OnOk result (self.new ≡ self.old) }
-        ensures over { (path : ModelPath) → is_file (tree_view self.old path) ≡ true → IfOk result (AreWriterContentsOverTreeFile self.new path) }
-        ensures bytes { IfOk result (λ c. bytes_of_writer_contents (kept_thread_of_tree_state self.new) c ≡ []) }
-        ensures form { IfOk result (λ c. storage_form_of_contents c ≡ form.InMemory 0) }
-        ensures broken { OnErr result (IsTreeFailedByRead self.old self.new) }
-        ensures errors { IfErr result (IsIoWithFaultOrNoMemory self.old self.new) }
+        ensures over { (path : ModelPath) → is_file (tree_view self.old path) ≡ true → IfOk result (OverTreeFile self.new path) }
+        ensures bytes { IfOk result (λ c. writer_contents_bytes (kept_thread self.new) c ≡ []) }
+        ensures form { IfOk result (λ c. contents_form c ≡ form.InMemory 0) }
+        ensures broken { OnErr result (FailedByReading self.old self.new) }
+        ensures errors { IfErr result (HasErrorCause self.old self.new) }
     {
-        let contents = contents_of_no_bytes(alloc, &self.thread);
-        mark_thread_failed_on_error(&mut self.thread, &contents);
+        let contents = contents_of_nothing(alloc, &self.thread);
+        mark_failed(&mut self.thread, &contents);
         contents
     }
 
@@ -76,14 +76,14 @@ impl<D: BlockDevice> Tree<D> {
         bytes: &[u8],
     ) -> Result<WriterContents, Error>
         requires { CanWriteWriterContents self.old contents place (length bytes.now) }
-        ensures over { (path : ModelPath) → AreWriterContentsOverTreeFile self.old path contents → IfOk result (AreWriterContentsOverTreeFile self.new path) }
-        ensures written { IfOk result (HasWriterBytesInForm self.new (contents_after_write (bytes_of_writer_contents (kept_thread_of_tree_state self.old) contents) place bytes.now)
-            (storage_form_after_write (inline_limit self.old.disk.profile self.old.disk.block_size) place (length bytes.now) (storage_form_of_contents contents))) }
+        ensures over { (path : ModelPath) → OverTreeFile self.old path contents → IfOk result (OverTreeFile self.new path) }
+        ensures written { IfOk result (HasFormBytes self.new (written_contents (writer_contents_bytes (kept_thread self.old) contents) place bytes.now)
+            (written_form (inline_limit self.old.disk.profile self.old.disk.block_size) place (length bytes.now) (contents_form contents))) }
         ensures writes { WritesOnlyUnusedBlocksOrFails self.old result self.new }
     {
         let limit = self.geometry().inline_limit();
         let written = write_file(alloc, &mut self.thread, contents, limit, place, bytes);
-        mark_thread_failed_on_error(&mut self.thread, &written);
+        mark_failed(&mut self.thread, &written);
         written
     }
 
@@ -97,14 +97,14 @@ impl<D: BlockDevice> Tree<D> {
         size: u32,
     ) -> Result<WriterContents, Error>
         requires { CanTruncateWriterContents self.old contents size }
-        ensures over { (path : ModelPath) → AreWriterContentsOverTreeFile self.old path contents → IfOk result (AreWriterContentsOverTreeFile self.new path) }
-        ensures truncated { IfOk result (HasWriterBytesInForm self.new (take size (bytes_padded_with_zeros size (bytes_of_writer_contents (kept_thread_of_tree_state self.old) contents)))
-            (storage_form_after_truncate (inline_limit self.old.disk.profile self.old.disk.block_size) size (storage_form_of_contents contents))) }
+        ensures over { (path : ModelPath) → OverTreeFile self.old path contents → IfOk result (OverTreeFile self.new path) }
+        ensures truncated { IfOk result (HasFormBytes self.new (take size (padded_with_zeros size (writer_contents_bytes (kept_thread self.old) contents)))
+            (truncated_form (inline_limit self.old.disk.profile self.old.disk.block_size) size (contents_form contents))) }
         ensures writes { WritesOnlyUnusedBlocksOrFails self.old result self.new }
     {
         let limit = self.geometry().inline_limit();
         let truncated = truncate_file(alloc, &mut self.thread, contents, limit, size);
-        mark_thread_failed_on_error(&mut self.thread, &truncated);
+        mark_failed(&mut self.thread, &truncated);
         truncated
     }
 
@@ -117,14 +117,14 @@ impl<D: BlockDevice> Tree<D> {
         path: &Path<'_>,
         contents: WriterContents,
     ) -> Result<(), Error>
-        requires { CanStoreContentsAt self.old path.now contents }
-        ensures stored { OnOk result (StoresBytesKeepingOtherFilesAtPath self.old path.now (bytes_of_writer_contents (kept_thread_of_tree_state self.old) contents) self.new) }
+        requires { CanStoreAt self.old path.now contents }
+        ensures stored { OnOk result (StoresBytesAt self.old path.now (writer_contents_bytes (kept_thread self.old) contents) self.new) }
         ensures broken { OnErr result (IsFailedTree self.old self.new) }
-        ensures errors { IfErr result (IsIoWithFaultOrNoMemory self.old self.new) }
-        ensures survives { SurvivesStopsInTreeCall self.old self.new (tree_after_change_of_node path.now (node_with_bytes (bytes_of_writer_contents (kept_thread_of_tree_state self.old) contents)) (tree_view self.old)) }
+        ensures errors { IfErr result (HasErrorCause self.old self.new) }
+        ensures survives { SurvivesStops self.old self.new (tree_with_change path.now (file_with_bytes (writer_contents_bytes (kept_thread self.old) contents)) (tree_view self.old)) }
     {
-        let stored = store_contents_at_path(alloc, &mut self.thread, self.root, path, contents);
-        mark_thread_failed_on_error(&mut self.thread, &stored);
+        let stored = store_contents_at(alloc, &mut self.thread, self.root, path, contents);
+        mark_failed(&mut self.thread, &stored);
         stored
     }
 }

@@ -1,14 +1,14 @@
 -- What the numbers of a configuration mean.
 use Rattle.std.specs.Prelude.{◌≤◌, ◌==◌, if◌then◌else◌}
-use Rattle.lfs_model.specs.Disk.{IsValidProfile}
+use Rattle.lfs_model.specs.format.Disk.{AreValidLimits}
 use Rattle.lfs_model.specs.declared.limits.AcceptedVersions.TheVariants.{AlsoTwoOne, OnlyTwoZero}
 use Rattle.lfs_model.specs.declared.limits.Profile.{Profile}
 use Rattle.lfs_model.specs.declared.order.NameOrder.{NameOrder}
 use Rattle.lfs_model.specs.declared.order.NameOrder.TheVariants.{LongerFirst, ShorterFirst}
 use Rattle.littlefs_c.specs.declared.config.Config.{Config}
 
-abbrev pub profile_of_config : Config → Profile
-profile_of_config config = record {
+abbrev pub config_profile : Config → Profile
+config_profile config = record {
   versions = if config.versions == 0 then OnlyTwoZero else AlsoTwoOne;
   name_max = config.name_max;
   file_max = config.file_max;
@@ -17,11 +17,11 @@ profile_of_config config = record {
   pair_cycles = 0;
 }
 
-abbrev pub name_order_of_config : Config → NameOrder
-name_order_of_config config = if config.order == 0 then LongerFirst else ShorterFirst
+abbrev pub config_order : Config → NameOrder
+config_order config = if config.order == 0 then LongerFirst else ShorterFirst
 
 -- Order and versions are 0 or 1, and no limit is 0 or above its default.
 pub record IsValidConfig (config : Config) : Type 0 where
   pub order : config.order ≤ 1
   pub versions : config.versions ≤ 1
-  pub limits : IsValidProfile (profile_of_config config)
+  pub limits : AreValidLimits (config_profile config)

@@ -1,11 +1,11 @@
 -- What C gets of a change.
 use Rattle.std.specs.Prelude.{ℕ, ℤ, ◌≡◌, ◌≤◌, pos, ◌-ℤ◌, IfSome, List, length, Option, None, Some, slice_get}
-use Rattle.lfs_model.specs.History.{DeviceCall}
-use Rattle.lfs_model.specs.History.DeviceCall.{Read, Program, Erase, Blank}
+use Rattle.lfs_model.specs.session.History.{DeviceCall}
+use Rattle.lfs_model.specs.session.History.DeviceCall.{Read, Program, Erase, Blank}
 use Rattle.lfs_fs.specs.SessionView.{SessionView}
-use Rattle.littlefs_c.specs.Buffers.{buffer_with_bytes_if_they_fit}
-use Rattle.littlefs_c.specs.Changes.{writes_of_history}
-use Rattle.littlefs_c.specs.Sessions.{AnswersWithCode}
+use Rattle.littlefs_c.specs.Buffers.{buffer_if_fitting}
+use Rattle.littlefs_c.specs.ChangeLog.{history_writes}
+use Rattle.littlefs_c.specs.Sessions.{WithCode}
 use Rattle.littlefs_c.specs.declared.changes.Fetched.{Fetched}
 use Rattle.littlefs_c.specs.declared.changes.Fetched.TheVariants as fetched
 use Rattle.littlefs_c.specs.declared.changes.ShownChange.{ShownChange}
@@ -22,7 +22,7 @@ IsShownChange (Blank block off len) shown = ⊥
 -- a buffer with the bytes of a program, if they fit
 abbrev pub buffer_after_change : DeviceCall → List ℕ → List ℕ
 buffer_after_change (Read block off len) buffer = buffer
-buffer_after_change (Program block off bytes) buffer = buffer_with_bytes_if_they_fit bytes buffer
+buffer_after_change (Program block off bytes) buffer = buffer_if_fitting bytes buffer
 buffer_after_change (Erase block) buffer = buffer
 buffer_after_change (Blank block off len) buffer = buffer
 
@@ -46,22 +46,22 @@ IsNextChange calls number = IfSome number (λ n. n ≡ length calls)
 -- ---- answers
 
 -- minus 202, where a change isn't kept
-abbrev pub code_of_lost_change : ℤ
-code_of_lost_change = pos 0 -ℤ pos 202
+abbrev pub lost_change_code : ℤ
+lost_change_code = pos 0 -ℤ pos 202
 
 abbrev pub code_of_fetched : Fetched → ℤ
 code_of_fetched fetched.Change = pos 1
 code_of_fetched fetched.NoneYet = pos 0
-code_of_fetched fetched.NotKept = code_of_lost_change
+code_of_fetched fetched.NotKept = lost_change_code
 
-abbrev pub code_of_change_number : Option ℕ → ℤ
-code_of_change_number (Some n) = pos n
-code_of_change_number None = code_of_lost_change
+abbrev pub change_code : Option ℕ → ℤ
+change_code (Some n) = pos n
+change_code None = lost_change_code
 
 -- a fetch of a session's change
 abbrev pub IsFetchAnswer : ℕ → ShownChange → ShownChange → List ℕ → List ℕ → ℤ → SessionView → SessionView → Type 0
-IsFetchAnswer number shown after buffer filled code old new = AnswersWithCode {X = Fetched} code_of_fetched (λ s answer. FetchesChange (writes_of_history s.tree.history) number answer shown after buffer filled) code old new
+IsFetchAnswer number shown after buffer filled code old new = WithCode {X = Fetched} code_of_fetched (λ s answer. FetchesChange (history_writes s.tree.history) number answer shown after buffer filled) code old new
 
 -- the number of a session's next change
 abbrev pub IsNoteAnswer : ℤ → SessionView → SessionView → Type 0
-IsNoteAnswer code old new = AnswersWithCode {X = Option ℕ} code_of_change_number (λ s number. IsNextChange (writes_of_history s.tree.history) number) code old new
+IsNoteAnswer code old new = WithCode {X = Option ℕ} change_code (λ s number. IsNextChange (history_writes s.tree.history) number) code old new

@@ -1,12 +1,12 @@
-pub mod Calls
+pub mod ImageCalls
 pub mod Buffers
 pub mod Codes
 pub mod Starts
 pub mod FirstRefusals
 pub mod Files
 pub mod Configs
-pub mod Slots
+pub mod HandleSlots
 pub mod Sessions
 pub mod Mounts
-pub mod Changes
+pub mod ChangeLog
 pub mod Fetches

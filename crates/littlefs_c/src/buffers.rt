@@ -1,19 +1,19 @@
 // What a buffer gets.
 
 ghost use Rattle.std.specs.Prelude.{◌≡◌, ◌<◌, ◌^◌, drop, length, take};
-ghost use Rattle.lfs_model.specs.Blocks.{bytes_after_overwrite_at};
-ghost use Rattle.littlefs_c.specs.Buffers.{buffer_with_bytes_if_they_fit};
-ghost use Rattle.littlefs_c.specs.Codes.{code_of_result};
-ghost use Rattle.littlefs_c.specs.Sessions.{buffer_after_bytes};
+ghost use Rattle.lfs_model.specs.format.Blocks.{overwritten_at};
+ghost use Rattle.littlefs_c.specs.Buffers.{buffer_if_fitting};
+ghost use Rattle.littlefs_c.specs.Codes.{result_code};
+ghost use Rattle.littlefs_c.specs.Sessions.{filled_buffer};
 
-use crate::codes::return_code_of_needed_buffer_room;
+use crate::codes::room_code;
 use lfs_device::Error;
 
 // Puts bytes at the beginning of a buffer, if all of them fit. Returns how many they are.
-pub(crate) fn copy_to_buffer_if_bytes_fit(bytes: &[u8], buffer: &mut [u8]) -> usize
+pub(crate) fn copy_if_fitting(bytes: &[u8], buffer: &mut [u8]) -> usize
     ensures room { result ≡ length bytes.now }
     ensures small { result < 2 ^ 63 }
-    ensures buffer { buffer.new ≡ buffer_with_bytes_if_they_fit bytes.now buffer.old }
+    ensures buffer { buffer.new ≡ buffer_if_fitting bytes.now buffer.old }
 {
     if bytes.len() <= buffer.len() {
         buffer[..bytes.len()].copy_from_slice(bytes);
@@ -26,7 +26,7 @@ pub(crate) fn copy_to_buffer_if_bytes_fit(bytes: &[u8], buffer: &mut [u8]) -> us
 pub(crate) fn copy_part(bytes: &[u8], offset: usize, buffer: &mut [u8]) -> usize
     ensures count { result ≡ length (take (length buffer.old) (drop offset bytes.now)) }
     ensures small { result < 2 ^ 63 }
-    ensures copied { buffer.new ≡ bytes_after_overwrite_at buffer.old 0 (take (length buffer.old) (drop offset bytes.now)) }
+    ensures copied { buffer.new ≡ overwritten_at buffer.old 0 (take (length buffer.old) (drop offset bytes.now)) }
 {
     let rest = &bytes[offset.min(bytes.len())..];
     let count = rest.len().min(buffer.len());
@@ -37,13 +37,13 @@ pub(crate) fn copy_part(bytes: &[u8], offset: usize, buffer: &mut [u8]) -> usize
 // Puts the bytes of an answer at the beginning of a buffer, if all of them fit. Returns how many
 // they are, or minus the error's number.
 pub(crate) fn fill_with_bytes(answer: Result<Vec<u8>, Error>, buffer: &mut [u8]) -> i64
-    ensures code { result ≡ code_of_result (λ v. length v.items) answer }
-    ensures buffer { buffer.new ≡ buffer_after_bytes answer buffer.old }
+    ensures code { result ≡ result_code (λ v. length v.items) answer }
+    ensures buffer { buffer.new ≡ filled_buffer answer buffer.old }
 {
     match answer {
-        Ok(bytes) => return_code_of_needed_buffer_room(Ok(copy_to_buffer_if_bytes_fit(
+        Ok(bytes) => room_code(Ok(copy_if_fitting(
             &bytes, buffer,
         ))),
-        Err(error) => return_code_of_needed_buffer_room(Err(error)),
+        Err(error) => room_code(Err(error)),
     }
 }

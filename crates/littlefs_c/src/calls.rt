@@ -1,20 +1,20 @@
 // The calls over an image, with results as Rust has them.
 
 ghost use Rattle.std.specs.Prelude.{◌≡◌, ◌∷◌, ◌<◌, ◌^◌, ◌-◌, [], min, length, IfOk};
-ghost use Rattle.lfs_model.specs.Operations as ops;
+ghost use Rattle.lfs_model.specs.session.Operations as ops;
 ghost use Rattle.lfs_fs.specs.FlagsView.{flags_view};
-ghost use Rattle.littlefs_c.specs.Buffers.{FillsBufferIfReplyFitsOrRefusesOperations};
-ghost use Rattle.littlefs_c.specs.Codes.{name_order_of_number};
-ghost use Rattle.littlefs_c.specs.Calls.{ChangesImageOrRefuses, AcceptsImageOrReportsCause};
-ghost use Rattle.littlefs_c.specs.Files.{operations_to_open_seek_and_read_file, open_flags_of_replaced_file, operations_to_write_file};
-ghost use Rattle.littlefs_c.specs.Starts.{FormatsImageOrRefuses};
+ghost use Rattle.littlefs_c.specs.Buffers.{FillsOrRefuses};
+ghost use Rattle.littlefs_c.specs.Codes.{order_of_number};
+ghost use Rattle.littlefs_c.specs.ImageCalls.{ChangesOrRefuses, AcceptsOrReports};
+ghost use Rattle.littlefs_c.specs.Files.{reading_operations, replaced_file_flags, writing_operations};
+ghost use Rattle.littlefs_c.specs.Starts.{FormatsOrRefuses};
 
-use crate::buffers::copy_to_buffer_if_bytes_fit;
-use crate::image::{device, mount_copy_of_image};
+use crate::buffers::copy_if_fitting;
+use crate::image::{device, mount_copy};
 use crate::lines::lines_of_items;
-use crate::operation_runs::apply_operations_to_image;
+use crate::operation_runs::apply_operations;
 use crate::reads::{
-    attribute_bytes_at_path_in_image, directory_items_of_image, read_part_of_file_in_image,
+    attribute_in, image_items, read_image_part,
 };
 use bitflags::Flags;
 use lfs_device::Error;
@@ -24,8 +24,8 @@ use std::alloc::Global;
 
 // Returns the order of names that a number stands for: 0 for the longer names first, 1 for the
 // shorter ones. `Invalid` for another number.
-fn name_order_from_number(number: u32) -> Result<NameOrder, Error>
-    ensures { name_order_of_number number ≡ result }
+fn order_from_number(number: u32) -> Result<NameOrder, Error>
+    ensures { order_of_number number ≡ result }
 {
     match number {
         0 => Ok(NameOrder::LongerFirst),
@@ -42,9 +42,9 @@ pub(crate) fn format_new_image(
     page: u32,
     order: u32,
 ) -> Result<(), Error>
-    ensures { FormatsImageOrRefuses block_size page order image.old result image.new }
+    ensures { FormatsOrRefuses block_size page order image.old result image.new }
 {
-    let order = name_order_from_number(order)?;
+    let order = order_from_number(order)?;
     let device = device(alloc, image, block_size, page)?;
     match format_ordered(alloc, device, order) {
         Ok(session) => {
@@ -57,20 +57,20 @@ pub(crate) fn format_new_image(
 }
 
 // Checks that an image is accepted.
-pub(crate) fn check_image_is_accepted(
+pub(crate) fn check_accepted(
     alloc: Global,
     image: &[u8],
     block_size: u32,
     page: u32,
 ) -> Result<(), Error>
-    ensures { AcceptsImageOrReportsCause block_size page image.now result }
+    ensures { AcceptsOrReports block_size page image.now result }
 {
-    mount_copy_of_image(alloc, image, block_size, page)?;
+    mount_copy(alloc, image, block_size, page)?;
     Ok(())
 }
 
 // Puts the lines of a directory's entries into a buffer.
-pub(crate) fn list_directory_in_image(
+pub(crate) fn list_in(
     alloc: Global,
     image: &[u8],
     block_size: u32,
@@ -78,16 +78,16 @@ pub(crate) fn list_directory_in_image(
     path: &[u8],
     buffer: &mut [u8],
 ) -> Result<usize, Error>
-    ensures reported { FillsBufferIfReplyFitsOrRefusesOperations block_size page image.now (ops.ListAll path.now ∷ []) result buffer.old buffer.new }
+    ensures reported { FillsOrRefuses block_size page image.now (ops.ListAll path.now ∷ []) result buffer.old buffer.new }
     ensures small { IfOk result (λ n. n < 2 ^ 63) }
 {
-    let items = directory_items_of_image(alloc, image, block_size, page, path)?;
+    let items = image_items(alloc, image, block_size, page, path)?;
     let text = lines_of_items(alloc, &items)?;
-    Ok(copy_to_buffer_if_bytes_fit(&text, buffer))
+    Ok(copy_if_fitting(&text, buffer))
 }
 
 // Puts the bytes of a file from a position on into a buffer, as many as there is room for.
-pub(crate) fn read_part_of_image_file_into_buffer(
+pub(crate) fn read_part_in(
     alloc: Global,
     image: &[u8],
     block_size: u32,
@@ -96,16 +96,16 @@ pub(crate) fn read_part_of_image_file_into_buffer(
     position: u32,
     buffer: &mut [u8],
 ) -> Result<usize, Error>
-    ensures reported { FillsBufferIfReplyFitsOrRefusesOperations block_size page image.now (operations_to_open_seek_and_read_file path.now position (min (length buffer.old) (2 ^ 32 - 1))) result buffer.old buffer.new }
+    ensures reported { FillsOrRefuses block_size page image.now (reading_operations path.now position (min (length buffer.old) (2 ^ 32 - 1))) result buffer.old buffer.new }
     ensures small { IfOk result (λ n. n < 2 ^ 63) }
 {
     let count = buffer.len().min(4_294_967_295) as u32;
-    let bytes = read_part_of_file_in_image(alloc, image, block_size, page, path, position, count)?;
-    Ok(copy_to_buffer_if_bytes_fit(&bytes, buffer))
+    let bytes = read_image_part(alloc, image, block_size, page, path, position, count)?;
+    Ok(copy_if_fitting(&bytes, buffer))
 }
 
 // Puts the bytes of an entry's attribute into a buffer.
-pub(crate) fn get_attribute_in_image(
+pub(crate) fn get_attr_in(
     alloc: Global,
     image: &[u8],
     block_size: u32,
@@ -114,16 +114,16 @@ pub(crate) fn get_attribute_in_image(
     kind: u8,
     buffer: &mut [u8],
 ) -> Result<usize, Error>
-    ensures reported { FillsBufferIfReplyFitsOrRefusesOperations block_size page image.now (ops.GetAttr path.now kind ∷ []) result buffer.old buffer.new }
+    ensures reported { FillsOrRefuses block_size page image.now (ops.GetAttr path.now kind ∷ []) result buffer.old buffer.new }
     ensures small { IfOk result (λ n. n < 2 ^ 63) }
 {
-    let bytes = attribute_bytes_at_path_in_image(alloc, image, block_size, page, path, kind)?;
-    Ok(copy_to_buffer_if_bytes_fit(&bytes, buffer))
+    let bytes = attribute_in(alloc, image, block_size, page, path, kind)?;
+    Ok(copy_if_fitting(&bytes, buffer))
 }
 
 // Returns the flags of an open that makes a file, or makes it empty.
-fn flags_to_replace_file() -> OpenFlags
-    ensures { flags_view result ≡ open_flags_of_replaced_file }
+fn replacing_flags() -> OpenFlags
+    ensures { flags_view result ≡ replaced_file_flags }
 {
     let mut flags = OpenFlags::WRITE;
     flags.insert(OpenFlags::CREATE);
@@ -132,7 +132,7 @@ fn flags_to_replace_file() -> OpenFlags
 }
 
 // Writes a file with these bytes, in place of the file at the path, if there is one.
-pub(crate) fn write_file_in_image<'a>(
+pub(crate) fn write_file_in<'a>(
     alloc: Global,
     image: &mut [u8],
     block_size: u32,
@@ -140,44 +140,44 @@ pub(crate) fn write_file_in_image<'a>(
     path: &'a [u8],
     bytes: &'a [u8],
 ) -> Result<(), Error>
-    ensures { ChangesImageOrRefuses block_size page image.old (operations_to_write_file path.now bytes.now) result image.new }
+    ensures { ChangesOrRefuses block_size page image.old (writing_operations path.now bytes.now) result image.new }
 {
     let ops = [
-        Op::Open(path, flags_to_replace_file()),
+        Op::Open(path, replacing_flags()),
         Op::Write(0, bytes),
         Op::Close(0),
     ];
-    apply_operations_to_image(alloc, image, block_size, page, &ops)
+    apply_operations(alloc, image, block_size, page, &ops)
 }
 
 // Makes an empty directory.
-pub(crate) fn make_directory_in_image(
+pub(crate) fn mkdir_in(
     alloc: Global,
     image: &mut [u8],
     block_size: u32,
     page: u32,
     path: &[u8],
 ) -> Result<(), Error>
-    ensures { ChangesImageOrRefuses block_size page image.old (ops.Mkdir path.now ∷ []) result image.new }
+    ensures { ChangesOrRefuses block_size page image.old (ops.Mkdir path.now ∷ []) result image.new }
 {
-    apply_operations_to_image(alloc, image, block_size, page, &[Op::Mkdir(path)])
+    apply_operations(alloc, image, block_size, page, &[Op::Mkdir(path)])
 }
 
 // Removes a file, or a directory without entries.
-pub(crate) fn remove_entry_in_image(
+pub(crate) fn remove_in(
     alloc: Global,
     image: &mut [u8],
     block_size: u32,
     page: u32,
     path: &[u8],
 ) -> Result<(), Error>
-    ensures { ChangesImageOrRefuses block_size page image.old (ops.Remove path.now ∷ []) result image.new }
+    ensures { ChangesOrRefuses block_size page image.old (ops.Remove path.now ∷ []) result image.new }
 {
-    apply_operations_to_image(alloc, image, block_size, page, &[Op::Remove(path)])
+    apply_operations(alloc, image, block_size, page, &[Op::Remove(path)])
 }
 
 // Renames an entry.
-pub(crate) fn rename_entry_in_image<'a>(
+pub(crate) fn rename_in<'a>(
     alloc: Global,
     image: &mut [u8],
     block_size: u32,
@@ -185,13 +185,13 @@ pub(crate) fn rename_entry_in_image<'a>(
     from: &'a [u8],
     to: &'a [u8],
 ) -> Result<(), Error>
-    ensures { ChangesImageOrRefuses block_size page image.old (ops.Rename from.now to.now ∷ []) result image.new }
+    ensures { ChangesOrRefuses block_size page image.old (ops.Rename from.now to.now ∷ []) result image.new }
 {
-    apply_operations_to_image(alloc, image, block_size, page, &[Op::Rename(from, to)])
+    apply_operations(alloc, image, block_size, page, &[Op::Rename(from, to)])
 }
 
 // Sets an attribute of an entry.
-pub(crate) fn set_attribute_in_image<'a>(
+pub(crate) fn set_attr_in<'a>(
     alloc: Global,
     image: &mut [u8],
     block_size: u32,
@@ -200,9 +200,9 @@ pub(crate) fn set_attribute_in_image<'a>(
     kind: u8,
     bytes: &'a [u8],
 ) -> Result<(), Error>
-    ensures { ChangesImageOrRefuses block_size page image.old (ops.SetAttr path.now kind bytes.now ∷ []) result image.new }
+    ensures { ChangesOrRefuses block_size page image.old (ops.SetAttr path.now kind bytes.now ∷ []) result image.new }
 {
-    apply_operations_to_image(
+    apply_operations(
         alloc,
         image,
         block_size,
@@ -212,7 +212,7 @@ pub(crate) fn set_attribute_in_image<'a>(
 }
 
 // Removes an attribute of an entry.
-pub(crate) fn remove_attribute_in_image(
+pub(crate) fn remove_attr_in(
     alloc: Global,
     image: &mut [u8],
     block_size: u32,
@@ -220,9 +220,9 @@ pub(crate) fn remove_attribute_in_image(
     path: &[u8],
     kind: u8,
 ) -> Result<(), Error>
-    ensures { ChangesImageOrRefuses block_size page image.old (ops.RemoveAttr path.now kind ∷ []) result image.new }
+    ensures { ChangesOrRefuses block_size page image.old (ops.RemoveAttr path.now kind ∷ []) result image.new }
 {
-    apply_operations_to_image(
+    apply_operations(
         alloc,
         image,
         block_size,

@@ -1,12 +1,12 @@
 // The changes of a session's image, for C to make the same ones on a flash of its own.
 
 ghost use Rattle.std.specs.Prelude.{◌≡◌, ◌<◌, ◌^◌, IfSome, List};
-ghost use Rattle.lfs_model.specs.History.{DeviceCall};
-ghost use Rattle.littlefs_c.specs.Changes.{AreNoted, call_of_change, writes_of_history};
-ghost use Rattle.littlefs_c.specs.Fetches.{FetchesChange, IsFetchAnswer, IsNoteAnswer, IsNextChange, IsShownChange, buffer_after_change, code_of_change_number, code_of_fetched};
+ghost use Rattle.lfs_model.specs.session.History.{DeviceCall};
+ghost use Rattle.littlefs_c.specs.ChangeLog.{AreNoted, change_call, history_writes};
+ghost use Rattle.littlefs_c.specs.Fetches.{FetchesChange, IsFetchAnswer, IsNoteAnswer, IsNextChange, IsShownChange, buffer_after_change, change_code, code_of_fetched};
 ghost use Rattle.littlefs_c.specs.Sessions.{CallsSession};
 
-use crate::buffers::copy_to_buffer_if_bytes_fit;
+use crate::buffers::copy_if_fitting;
 use crate::handle::{CLOSED, Handle, put_session, take_session};
 use crate::noted::HeldDevice;
 use crate::notes::{Change, Notes};
@@ -46,7 +46,7 @@ fn fetched_code(fetched: Fetched) -> i64
 
 fn change_number_code(number: Option<u64>) -> i64
     requires { IfSome number (λ n. n < 2 ^ 63) }
-    ensures { result ≡ code_of_change_number number }
+    ensures { result ≡ change_code number }
 {
     match number {
         Some(number) => number as i64,
@@ -56,8 +56,8 @@ fn change_number_code(number: Option<u64>) -> i64
 
 // Shows a change, and puts its bytes into a buffer, if all of them fit.
 fn show_change(change: &Change, shown: &mut ShownChange, buffer: &mut [u8])
-    ensures shown { IsShownChange (call_of_change change.now) shown.new }
-    ensures buffer { buffer.new ≡ buffer_after_change (call_of_change change.now) buffer.old }
+    ensures shown { IsShownChange (change_call change.now) shown.new }
+    ensures buffer { buffer.new ≡ buffer_after_change (change_call change.now) buffer.old }
 {
     match change {
         Change::Program(block, offset, bytes) => {
@@ -67,7 +67,7 @@ fn show_change(change: &Change, shown: &mut ShownChange, buffer: &mut [u8])
                 offset: *offset,
                 len: bytes.len(),
             };
-            let _ = copy_to_buffer_if_bytes_fit(bytes, buffer);
+            let _ = copy_if_fitting(bytes, buffer);
         }
         Change::Erase(block) => {
             *shown = ShownChange {
@@ -104,14 +104,14 @@ fn fetch_session_change(
     shown: &mut ShownChange,
     buffer: &mut [u8],
 ) -> Fetched
-    ensures { FetchesChange (writes_of_history session.now.tree.history) number result shown.old shown.new buffer.old buffer.new }
+    ensures { FetchesChange (history_writes session.now.tree.history) number result shown.old shown.new buffer.old buffer.new }
 {
     fetch_change(session.device().inner().notes(), number, shown, buffer)
 }
 
 // Keeps the changes of a session's image from the next one on. Returns its number.
 fn next_change_number(session: &Session<HeldDevice>) -> Option<u64>
-    ensures number { IsNextChange (writes_of_history session.now.tree.history) result }
+    ensures number { IsNextChange (history_writes session.now.tree.history) result }
     ensures small { IfSome result (λ n. n < 2 ^ 63) }
 {
     session.device().inner().notes().begin()

@@ -1,7 +1,7 @@
 // What C says of an image: numbers, of which a profile is made.
 
 ghost use Rattle.std.specs.Prelude.{◌≡◌, ◌↔◌, IsTrue};
-ghost use Rattle.littlefs_c.specs.Configs.{IsValidConfig, name_order_of_config, profile_of_config};
+ghost use Rattle.littlefs_c.specs.Configs.{IsValidConfig, config_order, config_profile};
 
 use lfs_device::{AcceptedVersions, Profile};
 use lfs_model::NameOrder;
@@ -24,7 +24,7 @@ pub struct Config {
 impl Config {
     // Returns the profile that the numbers give.
     pub(crate) fn profile(&self) -> Profile
-        ensures { result ≡ profile_of_config self.now }
+        ensures { result ≡ config_profile self.now }
     {
         let versions = match self.versions {
             0 => AcceptedVersions::OnlyTwoZero,
@@ -42,7 +42,7 @@ impl Config {
 
     // Returns the order of names that the numbers give.
     pub(crate) fn name_order(&self) -> NameOrder
-        ensures { result ≡ name_order_of_config self.now }
+        ensures { result ≡ config_order self.now }
     {
         match self.order {
             0 => NameOrder::LongerFirst,

@@ -1,11 +1,11 @@
 // The calls about what is at a path of a session.
 
 ghost use Rattle.std.specs.Prelude.{◌^◌, ◌<◌, IfOk};
-ghost use Rattle.lfs_model.specs.Operations as ops;
-ghost use Rattle.littlefs_c.specs.Sessions.{CallsSession, FillsBufferWithLines, IsBytesCall, IsListCall, IsStatCall, IsUnitCall};
+ghost use Rattle.lfs_model.specs.session.Operations as ops;
+ghost use Rattle.littlefs_c.specs.Sessions.{CallsSession, FillsWithLines, IsBytesCall, IsListCall, IsStatCall, IsUnitCall};
 
-use crate::buffers::{copy_to_buffer_if_bytes_fit, fill_with_bytes};
-use crate::codes::{return_code_of_needed_buffer_room, return_code_of_size, return_code_of_unit};
+use crate::buffers::{copy_if_fitting, fill_with_bytes};
+use crate::codes::{room_code, size_code, unit_code};
 use crate::handle::{CLOSED, Handle, put_session, take_session};
 use crate::lines::lines_of_items;
 use lfs_device::Error;
@@ -26,7 +26,7 @@ pub extern "C" fn lfs_c_stat_at(alloc: Global, session: &mut Handle, path: &[u8]
     };
     let answer = inner.stat(alloc, path);
     put_session(session, inner);
-    return_code_of_size(answer)
+    size_code(answer)
 }
 
 // Puts the lines of a listing into a buffer, if they fit. Returns the room that they take.
@@ -35,12 +35,12 @@ fn fill_with_lines(
     answer: Result<Vec<Item>, Error>,
     buffer: &mut [u8],
 ) -> Result<usize, Error>
-    ensures lines { FillsBufferWithLines answer result buffer.old buffer.new }
+    ensures lines { FillsWithLines answer result buffer.old buffer.new }
     ensures small { IfOk result (λ n. n < 2 ^ 63) }
 {
     let items = answer?;
     let text = lines_of_items(alloc, &items)?;
-    Ok(copy_to_buffer_if_bytes_fit(&text, buffer))
+    Ok(copy_if_fitting(&text, buffer))
 }
 
 /// Puts a line for each entry of a directory into the buffer, if all lines fit, and returns how
@@ -65,7 +65,7 @@ pub extern "C" fn lfs_c_list_at(
     };
     let answer = inner.list(alloc, path);
     put_session(session, inner);
-    return_code_of_needed_buffer_room(fill_with_lines(alloc, answer, buffer))
+    room_code(fill_with_lines(alloc, answer, buffer))
 }
 
 /// Makes an empty directory. Returns 0.
@@ -82,7 +82,7 @@ pub extern "C" fn lfs_c_mkdir_at(alloc: Global, session: &mut Handle, path: &[u8
     };
     let answer = inner.mkdir(alloc, path);
     put_session(session, inner);
-    return_code_of_unit(answer)
+    unit_code(answer)
 }
 
 /// Removes a file, or a directory without entries. Returns 0.
@@ -99,7 +99,7 @@ pub extern "C" fn lfs_c_remove_at(alloc: Global, session: &mut Handle, path: &[u
     };
     let answer = inner.remove(alloc, path);
     put_session(session, inner);
-    return_code_of_unit(answer)
+    unit_code(answer)
 }
 
 /// Renames an entry. A file at the new path is replaced by a file, and a directory without entries
@@ -122,7 +122,7 @@ pub extern "C" fn lfs_c_rename_at(
     };
     let answer = inner.rename(alloc, from, to);
     put_session(session, inner);
-    return_code_of_unit(answer)
+    unit_code(answer)
 }
 
 /// Puts the bytes of an entry's attribute of type `kind` into the buffer, if all of them fit, and
@@ -171,7 +171,7 @@ pub extern "C" fn lfs_c_set_attr_at(
     };
     let answer = inner.set_attr(alloc, path, kind, bytes);
     put_session(session, inner);
-    return_code_of_unit(answer)
+    unit_code(answer)
 }
 
 /// Removes an entry's attribute of type `kind`. Returns 0.
@@ -194,5 +194,5 @@ pub extern "C" fn lfs_c_remove_attr_at(
     };
     let answer = inner.remove_attr(alloc, path, kind);
     put_session(session, inner);
-    return_code_of_unit(answer)
+    unit_code(answer)
 }

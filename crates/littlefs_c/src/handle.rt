@@ -1,7 +1,7 @@
 // A session as C holds it.
 
 ghost use Rattle.std.specs.Prelude.{◌≡◌, Option, None, Some, option_map};
-ghost use Rattle.littlefs_c.specs.Slots.{open_number};
+ghost use Rattle.littlefs_c.specs.HandleSlots.{open_number};
 
 use crate::noted::HeldDevice;
 use crate::parts::Parts;

@@ -1,9 +1,9 @@
 // A device that notes its programs and erases, and the device of a session that C holds.
 
 ghost use Rattle.std.specs.Prelude.{◌≡◌, []};
-ghost use Rattle.lfs_device.specs.RamDevice.{history_of_ram_device};
+ghost use Rattle.lfs_device.specs.RamDevice.{ram_history};
 ghost use Rattle.lfs_device.specs.declared.geometry.Geometry.{Geometry};
-ghost use Rattle.littlefs_c.specs.Changes.{AreNoted, writes_of_history};
+ghost use Rattle.littlefs_c.specs.ChangeLog.{AreNoted, history_writes};
 
 use crate::notes::Notes;
 use lfs_device::{BlockDevice, Error, Geometry, Profile, Profiled, RamDevice};
@@ -15,7 +15,7 @@ use std::alloc::Global;
 pub struct Noted<D: BlockDevice> {
     inner: D,
     notes: Notes,
-    ghost noted: { AreNoted notes.first notes.changes.items (writes_of_history (D.history inner)) },
+    ghost noted: { AreNoted notes.first notes.changes.items (history_writes (D.history inner)) },
 }
 
 impl<D: BlockDevice> Noted<D> {
@@ -39,7 +39,7 @@ impl<D: BlockDevice> Noted<D> {
 
     /// Borrows the notes.
     pub fn notes(&self) -> &Notes
-        ensures { AreNoted result.now.first result.now.changes.items (writes_of_history (D.history self.now.inner)) }
+        ensures { AreNoted result.now.first result.now.changes.items (history_writes (D.history self.now.inner)) }
     {
         &self.notes
     }
@@ -87,7 +87,7 @@ pub type HeldDevice = Profiled<Noted<RamDevice>>;
 
 // Makes such a device of one in memory that has had no call.
 pub(crate) fn held_device(alloc: Global, ram: RamDevice, profile: Profile) -> HeldDevice
-    requires { history_of_ram_device ram ≡ [] }
+    requires { ram_history ram ≡ [] }
     ensures ram { result.inner.inner ≡ ram }
     ensures profile { result.profile ≡ profile }
 {

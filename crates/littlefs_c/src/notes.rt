@@ -1,9 +1,9 @@
 // The programs and erases of a device that are kept for C.
 
 ghost use Rattle.std.specs.Prelude.{◌≡◌, ◌≤◌, ◌<◌, ◌+◌, ◌^◌, ◌∷◌, ◌++◌, [], List, IfSome, length, slice_get, Some, true};
-ghost use Rattle.lfs_model.specs.History.{DeviceCall};
-ghost use Rattle.lfs_model.specs.History.DeviceCall.{Program, Erase};
-ghost use Rattle.littlefs_c.specs.Changes.{AreNoted, call_of_change};
+ghost use Rattle.lfs_model.specs.session.History.{DeviceCall};
+ghost use Rattle.lfs_model.specs.session.History.DeviceCall.{Program, Erase};
+ghost use Rattle.littlefs_c.specs.ChangeLog.{AreNoted, change_call};
 
 use std::alloc::Global;
 use std::cell::Cell;
@@ -76,7 +76,7 @@ impl Notes {
 
     // Keeps a change. All are let go where memory isn't granted.
     fn keep_change(&mut self, change: Change)
-        ensures { (before : List DeviceCall) → AreNoted self.old.first self.old.changes.items before → AreNoted self.new.first self.new.changes.items (before ++ call_of_change change ∷ []) }
+        ensures { (before : List DeviceCall) → AreNoted self.old.first self.old.changes.items before → AreNoted self.new.first self.new.changes.items (before ++ change_call change ∷ []) }
     {
         self.let_go();
         if self.changes.push(change).is_err() {
@@ -139,7 +139,7 @@ impl Notes {
 
     /// Borrows the change of that number; None where it isn't kept.
     pub fn change(&self, number: u64) -> Option<&Change>
-        ensures { IfSome result (λ c. (calls : List DeviceCall) → AreNoted self.now.first self.now.changes.items calls → slice_get calls number ≡ Some (call_of_change c.now)) }
+        ensures { IfSome result (λ c. (calls : List DeviceCall) → AreNoted self.now.first self.now.changes.items calls → slice_get calls number ≡ Some (change_call c.now)) }
     {
         if self.first >= NUMBERS || number < self.first {
             return None;

@@ -1,10 +1,10 @@
 // The calls about an open file of a session.
 
-ghost use Rattle.lfs_model.specs.Operations as ops;
-ghost use Rattle.lfs_fs.specs.FileAnswers.{AnswersOfOpenFile, position_of_open_file, size_of_open_file};
-ghost use Rattle.littlefs_c.specs.Sessions.{CallsSession, IsCountCall, IsFileAnswer, IsReadCall, IsUnitCall, open_flags_of_number};
+ghost use Rattle.lfs_model.specs.session.Operations as ops;
+ghost use Rattle.lfs_fs.specs.FileAnswers.{FileAnswersOf, file_position, file_size};
+ghost use Rattle.littlefs_c.specs.Sessions.{CallsSession, IsCountCall, IsFileAnswer, IsReadCall, IsUnitCall, flags_of_number};
 
-use crate::codes::{return_code_of_count, return_code_of_needed_buffer_room, return_code_of_unit};
+use crate::codes::{count_code, room_code, unit_code};
 use crate::handle::{CLOSED, Handle, put_session, take_session};
 use bitflags::Flags;
 use lfs_fs::OpenFlags;
@@ -18,14 +18,14 @@ use std::alloc::Global;
 /// 77 where there is no session, and the refusals of a session's `open` (docs/OPERATIONS.md).
 #[unsafe(no_mangle)]
 pub extern "C" fn lfs_c_open(alloc: Global, session: &mut Handle, path: &[u8], flags: u32) -> i64
-    ensures { CallsSession (IsCountCall (ops.Open path.now (open_flags_of_number flags)) ops.Opened result) result session.old.slot.session session.new.slot.session }
+    ensures { CallsSession (IsCountCall (ops.Open path.now (flags_of_number flags)) ops.Opened result) result session.old.slot.session session.new.slot.session }
 {
     let Some(mut inner) = take_session(alloc, session) else {
         return CLOSED;
     };
     let answer = inner.open(alloc, path, OpenFlags::from_bits_retain(flags));
     put_session(session, inner);
-    return_code_of_count(answer)
+    count_code(answer)
 }
 
 /// Reads an open file from its position on into the buffer, and returns how many bytes it read.
@@ -50,7 +50,7 @@ pub extern "C" fn lfs_c_file_read(
     };
     let answer = inner.read_into(file, buffer);
     put_session(session, inner);
-    return_code_of_needed_buffer_room(answer)
+    room_code(answer)
 }
 
 /// Writes bytes at the position of a file that is open for writing, or at its end where it appends.
@@ -73,7 +73,7 @@ pub extern "C" fn lfs_c_file_write(
     };
     let answer = inner.write(alloc, file, bytes);
     put_session(session, inner);
-    return_code_of_count(answer)
+    count_code(answer)
 }
 
 /// Sets the position of an open file, in bytes from its beginning. Returns 0.
@@ -95,7 +95,7 @@ pub extern "C" fn lfs_c_file_seek(
     };
     let answer = inner.seek(file, position);
     put_session(session, inner);
-    return_code_of_unit(answer)
+    unit_code(answer)
 }
 
 /// Returns the position of an open file, in bytes from its beginning.
@@ -106,14 +106,14 @@ pub extern "C" fn lfs_c_file_seek(
 /// under the number.
 #[unsafe(no_mangle)]
 pub extern "C" fn lfs_c_file_tell(alloc: Global, session: &mut Handle, file: u32) -> i64
-    ensures { CallsSession (IsFileAnswer (λ s r. AnswersOfOpenFile position_of_open_file s file r) result) result session.old.slot.session session.new.slot.session }
+    ensures { CallsSession (IsFileAnswer (λ s r. FileAnswersOf file_position s file r) result) result session.old.slot.session session.new.slot.session }
 {
     let Some(inner) = take_session(alloc, session) else {
         return CLOSED;
     };
     let answer = inner.position(file);
     put_session(session, inner);
-    return_code_of_count(answer)
+    count_code(answer)
 }
 
 /// Returns the size of an open file in bytes. Of a file that is open for writing it is the size with
@@ -125,14 +125,14 @@ pub extern "C" fn lfs_c_file_tell(alloc: Global, session: &mut Handle, file: u32
 /// under the number.
 #[unsafe(no_mangle)]
 pub extern "C" fn lfs_c_file_size(alloc: Global, session: &mut Handle, file: u32) -> i64
-    ensures { CallsSession (IsFileAnswer (λ s r. AnswersOfOpenFile size_of_open_file s file r) result) result session.old.slot.session session.new.slot.session }
+    ensures { CallsSession (IsFileAnswer (λ s r. FileAnswersOf file_size s file r) result) result session.old.slot.session session.new.slot.session }
 {
     let Some(inner) = take_session(alloc, session) else {
         return CLOSED;
     };
     let answer = inner.size(file);
     put_session(session, inner);
-    return_code_of_count(answer)
+    count_code(answer)
 }
 
 /// Gives a file that is open for writing that many bytes: it is cut, or zeros fill it up. The
@@ -155,7 +155,7 @@ pub extern "C" fn lfs_c_file_truncate(
     };
     let answer = inner.truncate(alloc, file, size);
     put_session(session, inner);
-    return_code_of_unit(answer)
+    unit_code(answer)
 }
 
 /// Commits the changes of an open file to the tree. Returns 0.
@@ -172,7 +172,7 @@ pub extern "C" fn lfs_c_file_sync(alloc: Global, session: &mut Handle, file: u32
     };
     let answer = inner.sync(alloc, file);
     put_session(session, inner);
-    return_code_of_unit(answer)
+    unit_code(answer)
 }
 
 /// Closes an open file, and commits its changes to the tree. Its number is free then. Returns 0.
@@ -189,5 +189,5 @@ pub extern "C" fn lfs_c_file_close(alloc: Global, session: &mut Handle, file: u3
     };
     let answer = inner.close(alloc, file);
     put_session(session, inner);
-    return_code_of_unit(answer)
+    unit_code(answer)
 }

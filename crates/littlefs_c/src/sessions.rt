@@ -1,11 +1,11 @@
 // The calls about a whole session, and its image.
 
 ghost use Rattle.std.specs.Prelude.{◌^◌, ◌<◌};
-ghost use Rattle.lfs_model.specs.Operations as ops;
-ghost use Rattle.littlefs_c.specs.Sessions.{AnswersFromSession, CallsSession, CopiesImage, CopiesImagePart, IsCountCall, IsImageOfDisk, IsUnitCall};
+ghost use Rattle.lfs_model.specs.session.Operations as ops;
+ghost use Rattle.littlefs_c.specs.Sessions.{FromSession, CallsSession, CopiesImage, CopiesPart, IsCountCall, IsDiskImage, IsUnitCall};
 
-use crate::buffers::{copy_part, copy_to_buffer_if_bytes_fit};
-use crate::codes::{return_code_of_count, return_code_of_unit};
+use crate::buffers::{copy_part, copy_if_fitting};
+use crate::codes::{count_code, unit_code};
 use crate::handle::{CLOSED, Handle, put_session, take_session};
 use crate::noted::HeldDevice;
 use lfs_fs::Session;
@@ -26,7 +26,7 @@ pub extern "C" fn lfs_c_remount(alloc: Global, session: &mut Handle) -> i64
     };
     let answer = inner.remount(alloc);
     put_session(session, inner);
-    return_code_of_unit(answer)
+    unit_code(answer)
 }
 
 /// Ends what a loss of power left in the image. The tree stays. Returns 0.
@@ -43,7 +43,7 @@ pub extern "C" fn lfs_c_recover(alloc: Global, session: &mut Handle) -> i64
     };
     let answer = inner.recover(alloc);
     put_session(session, inner);
-    return_code_of_unit(answer)
+    unit_code(answer)
 }
 
 /// Returns how many blocks the image uses.
@@ -60,12 +60,12 @@ pub extern "C" fn lfs_c_used_blocks(alloc: Global, session: &mut Handle) -> i64
     };
     let answer = inner.used_count();
     put_session(session, inner);
-    return_code_of_count(answer)
+    count_code(answer)
 }
 
 // Borrows the bytes of a session's image.
 fn image_of_session(session: &Session<HeldDevice>) -> &[u8]
-    ensures { IsImageOfDisk session.now.tree.disk result.now }
+    ensures { IsDiskImage session.now.tree.disk result.now }
 {
     session.device().inner().inner().bytes()
 }
@@ -75,7 +75,7 @@ fn copy_image(session: &Session<HeldDevice>, buffer: &mut [u8]) -> usize
     ensures copied { CopiesImage session.now result buffer.old buffer.new }
     ensures small { result < 2 ^ 63 }
 {
-    copy_to_buffer_if_bytes_fit(image_of_session(session), buffer)
+    copy_if_fitting(image_of_session(session), buffer)
 }
 
 /// Puts the bytes of the image into the buffer, if all of them fit, and returns how many they are.
@@ -86,7 +86,7 @@ fn copy_image(session: &Session<HeldDevice>, buffer: &mut [u8]) -> usize
 /// 77 where there is no session.
 #[unsafe(no_mangle)]
 pub extern "C" fn lfs_c_image(alloc: Global, session: &mut Handle, buffer: &mut [u8]) -> i64
-    ensures { CallsSession (AnswersFromSession (λ s room. CopiesImage s room buffer.old buffer.new) result) result session.old.slot.session session.new.slot.session }
+    ensures { CallsSession (FromSession (λ s room. CopiesImage s room buffer.old buffer.new) result) result session.old.slot.session session.new.slot.session }
 {
     let Some(inner) = take_session(alloc, session) else {
         return CLOSED;
@@ -98,7 +98,7 @@ pub extern "C" fn lfs_c_image(alloc: Global, session: &mut Handle, buffer: &mut 
 
 // Puts a part of a session's image into a buffer. Returns how many bytes it has.
 fn copy_image_part(session: &Session<HeldDevice>, offset: usize, buffer: &mut [u8]) -> usize
-    ensures copied { CopiesImagePart session.now offset result buffer.old buffer.new }
+    ensures copied { CopiesPart session.now offset result buffer.old buffer.new }
     ensures small { result < 2 ^ 63 }
 {
     copy_part(image_of_session(session), offset, buffer)
@@ -117,7 +117,7 @@ pub extern "C" fn lfs_c_image_part(
     offset: usize,
     buffer: &mut [u8],
 ) -> i64
-    ensures { CallsSession (AnswersFromSession (λ s count. CopiesImagePart s offset count buffer.old buffer.new) result) result session.old.slot.session session.new.slot.session }
+    ensures { CallsSession (FromSession (λ s count. CopiesPart s offset count buffer.old buffer.new) result) result session.old.slot.session session.new.slot.session }
 {
     let Some(inner) = take_session(alloc, session) else {
         return CLOSED;

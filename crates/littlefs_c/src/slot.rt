@@ -2,7 +2,7 @@
 
 ghost use Rattle.std.specs.Prelude.{◌≡◌, Option, None, Some, IsSome};
 ghost use Rattle.lfs_fs.specs.SessionView.{SessionView};
-ghost use Rattle.littlefs_c.specs.Slots.{slot_owns};
+ghost use Rattle.littlefs_c.specs.HandleSlots.{slot_owns};
 
 use crate::noted::HeldDevice;
 use crate::parts::Parts;

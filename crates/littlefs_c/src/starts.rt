@@ -1,12 +1,12 @@
 // How sessions begin and end in a handle.
 
 ghost use Rattle.std.specs.Prelude.{◌≡◌, pos, None, IfOk, IfErr};
-ghost use Rattle.lfs_fs.specs.SessionView.{system_state_of_session_view};
-ghost use Rattle.littlefs_c.specs.Calls.{IsUncalledDeviceWithImage};
-ghost use Rattle.littlefs_c.specs.Configs.{IsValidConfig, profile_of_config};
-ghost use Rattle.littlefs_c.specs.Mounts.{BeginsInHandle, IsBlankDevice, IsCodeOfBeginning, IsFormattedByConfig, IsMountedByConfig, IsMountedWithLimits, PreventsFormat, PreventsMount};
+ghost use Rattle.lfs_fs.specs.SessionView.{system_state};
+ghost use Rattle.littlefs_c.specs.ImageCalls.{IsFreshDevice};
+ghost use Rattle.littlefs_c.specs.Configs.{IsValidConfig, config_profile};
+ghost use Rattle.littlefs_c.specs.Mounts.{BeginsInHandle, IsBlankDevice, IsBeginningCode, IsFormattedBy, IsMountedBy, IsMountedWithin, PreventsFormat, PreventsMount};
 
-use crate::codes::return_code_of_unit;
+use crate::codes::unit_code;
 use crate::config::Config;
 use crate::handle::{Handle, put_session, take_session};
 use crate::image::device_by_profile;
@@ -31,7 +31,7 @@ fn box_session(
 
 // Makes a device in memory that has a copy of an image, by a configuration.
 fn copy_of_image(alloc: Global, config: &Config, image: &[u8]) -> Result<RamDevice, Error>
-    ensures ok { IfOk result (λ d. IsValidConfig config.now × IsUncalledDeviceWithImage config.now.block_size config.now.page (profile_of_config config.now) image.now d) }
+    ensures ok { IfOk result (λ d. IsValidConfig config.now × IsFreshDevice config.now.block_size config.now.page (config_profile config.now) image.now d) }
     ensures err { IfErr result (PreventsMount config.now image.now) }
 {
     if !config.is_valid() {
@@ -43,7 +43,7 @@ fn copy_of_image(alloc: Global, config: &Config, image: &[u8]) -> Result<RamDevi
 
 // Mounts a session over a copy of an image, by a configuration.
 fn mount_session(alloc: Global, config: &Config, image: &[u8]) -> Result<Session<HeldDevice>, Error>
-    ensures ok { IfOk result (λ s. IsMountedByConfig config.now image.now (system_state_of_session_view s)) }
+    ensures ok { IfOk result (λ s. IsMountedBy config.now image.now (system_state s)) }
     ensures err { IfErr result (PreventsMount config.now image.now) }
 {
     let ram = copy_of_image(alloc, config, image)?;
@@ -60,7 +60,7 @@ fn mount_by_limits(
     config: &Config,
     image: &[u8],
 ) -> Result<Session<HeldDevice>, Error>
-    ensures ok { IfOk result (λ s. IsMountedWithLimits config.now image.now (system_state_of_session_view s)) }
+    ensures ok { IfOk result (λ s. IsMountedWithin config.now image.now (system_state s)) }
     ensures err { IfErr result (PreventsMount config.now image.now) }
 {
     let ram = copy_of_image(alloc, config, image)?;
@@ -78,7 +78,7 @@ fn mount_into_handle(
     config: &Config,
     image: &[u8],
 ) -> Result<(), Error>
-    ensures { BeginsInHandle (λ s. IsMountedByConfig config.now image.now (system_state_of_session_view s)) (PreventsMount config.now image.now) result session.old.slot.session session.new.slot.session }
+    ensures { BeginsInHandle (λ s. IsMountedBy config.now image.now (system_state s)) (PreventsMount config.now image.now) result session.old.slot.session session.new.slot.session }
 {
     if let Some(open) = take_session(alloc, session) {
         put_session(session, open);
@@ -105,9 +105,9 @@ pub extern "C" fn lfs_c_mount(
     config: &Config,
     image: &[u8],
 ) -> i64
-    ensures { IsCodeOfBeginning (λ s. IsMountedByConfig config.now image.now (system_state_of_session_view s)) (PreventsMount config.now image.now) result session.old.slot.session session.new.slot.session }
+    ensures { IsBeginningCode (λ s. IsMountedBy config.now image.now (system_state s)) (PreventsMount config.now image.now) result session.old.slot.session session.new.slot.session }
 {
-    return_code_of_unit(mount_into_handle(alloc, session, config, image))
+    unit_code(mount_into_handle(alloc, session, config, image))
 }
 
 // Begins a session over a copy of an image by its own limits, where the handle has none.
@@ -117,7 +117,7 @@ fn begin_by_limits(
     config: &Config,
     image: &[u8],
 ) -> Result<(), Error>
-    ensures { BeginsInHandle (λ s. IsMountedWithLimits config.now image.now (system_state_of_session_view s)) (PreventsMount config.now image.now) result session.old.slot.session session.new.slot.session }
+    ensures { BeginsInHandle (λ s. IsMountedWithin config.now image.now (system_state s)) (PreventsMount config.now image.now) result session.old.slot.session session.new.slot.session }
 {
     if let Some(open) = take_session(alloc, session) {
         put_session(session, open);
@@ -143,9 +143,9 @@ pub extern "C" fn lfs_c_mount_with_limits(
     config: &Config,
     image: &[u8],
 ) -> i64
-    ensures { IsCodeOfBeginning (λ s. IsMountedWithLimits config.now image.now (system_state_of_session_view s)) (PreventsMount config.now image.now) result session.old.slot.session session.new.slot.session }
+    ensures { IsBeginningCode (λ s. IsMountedWithin config.now image.now (system_state s)) (PreventsMount config.now image.now) result session.old.slot.session session.new.slot.session }
 {
-    return_code_of_unit(begin_by_limits(alloc, session, config, image))
+    unit_code(begin_by_limits(alloc, session, config, image))
 }
 
 // Makes a device in memory of so many blocks by a configuration, whose bytes are 255.
@@ -166,7 +166,7 @@ fn format_session(
     config: &Config,
     block_count: u32,
 ) -> Result<Session<HeldDevice>, Error>
-    ensures ok { IfOk result (IsFormattedByConfig config.now block_count) }
+    ensures ok { IfOk result (IsFormattedBy config.now block_count) }
     ensures err { IfErr result (PreventsFormat config.now block_count) }
 {
     let ram = blank_device(alloc, config, block_count)?;
@@ -185,7 +185,7 @@ fn format_into_handle(
     config: &Config,
     block_count: u32,
 ) -> Result<(), Error>
-    ensures { BeginsInHandle (IsFormattedByConfig config.now block_count) (PreventsFormat config.now block_count) result session.old.slot.session session.new.slot.session }
+    ensures { BeginsInHandle (IsFormattedBy config.now block_count) (PreventsFormat config.now block_count) result session.old.slot.session session.new.slot.session }
 {
     if let Some(open) = take_session(alloc, session) {
         put_session(session, open);
@@ -211,9 +211,9 @@ pub extern "C" fn lfs_c_mkfs(
     config: &Config,
     block_count: u32,
 ) -> i64
-    ensures { IsCodeOfBeginning (IsFormattedByConfig config.now block_count) (PreventsFormat config.now block_count) result session.old.slot.session session.new.slot.session }
+    ensures { IsBeginningCode (IsFormattedBy config.now block_count) (PreventsFormat config.now block_count) result session.old.slot.session session.new.slot.session }
 {
-    return_code_of_unit(format_into_handle(alloc, session, config, block_count))
+    unit_code(format_into_handle(alloc, session, config, block_count))
 }
 
 /// Ends a session, and frees its memory. Nothing is written: what an open file hasn't synced is

@@ -4,7 +4,7 @@ use crate::files::Host;
 use crate::run::{folder_of_line, geometry_of_line, refusing_file_limit};
 use crate::times::keep_times;
 use lfs_device::{Error, Geometry, RamDevice};
-use lfs_tool::{Extras, FollowsProgress, Line, Mode, ToolError, new_image_of_entries};
+use lfs_tool::{Extras, FollowsProgress, Line, Mode, ToolError, new_image};
 use lfs_tool_folders::{Folder, SourceEntry, SourceError, read_tree};
 
 /// The most bytes that an image has.
@@ -29,7 +29,7 @@ pub(crate) fn read_folder(
 
 /// Reads all that the folder of a line has, for an image of any size. The line comes with the limit of files by which
 /// such an image is refused.
-pub(crate) fn read_folder_of_line<'a>(
+pub(crate) fn read_line_folder<'a>(
     host: Host<'_>,
     line: &Line<'a>,
     folder: &str,
@@ -49,7 +49,7 @@ pub(crate) fn image_of_entries<F: FollowsProgress>(
     entries: &[SourceEntry],
     progress: &mut F,
 ) -> Result<RamDevice, ToolError> {
-    let image = new_image_of_entries(host.alloc(), geometry, line.order, entries, progress)?;
+    let image = new_image(host.alloc(), geometry, line.order, entries, progress)?;
     match line.mode {
         Mode::Create(folder) if host.times => keep_times(host, folder, image),
         _ => Ok(image),
@@ -142,7 +142,7 @@ pub(crate) fn fit_size(
     }
     line.size = most_blocks(line.block_size).saturating_mul(line.block_size);
     geometry_of_line(line)?;
-    let (entries, refusing) = read_folder_of_line(host, line, folder)?;
+    let (entries, refusing) = read_line_folder(host, line, folder)?;
     match enough_blocks(host, &refusing, entries.as_slice(), 2)? {
         Some(count) => {
             let count = count.saturating_add(extras.spare);

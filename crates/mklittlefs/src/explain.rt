@@ -1,6 +1,6 @@
 // Why a command line wasn't carried out: the lines of --explain.
 
-use crate::blocks::{IMAGE_MAX, enough_blocks, read_folder, read_folder_of_line};
+use crate::blocks::{IMAGE_MAX, enough_blocks, read_folder, read_line_folder};
 use crate::files::{Host, is_standard_stream};
 use crate::parts::{ImagePart, open_part};
 use crate::path_words::words_of_refusal;
@@ -8,7 +8,7 @@ use crate::run::{folder_of_line, geometry_of_line};
 use lfs_device::Error;
 use lfs_tool::{
     CheckResult, Fault, Line, Mode, RefusalReason, ToolError, ToolOutput, WrongNumber,
-    check_result_of_image, lines_of_check_result, push_escaped_path, report, write_bytes_and_flush,
+    result_of_image, check_result_lines, push_escaped_path, report, write_and_flush,
 };
 use lfs_tool_folders::{Folder, SourceEntry};
 use lfs_tool_line::Sizes;
@@ -79,7 +79,7 @@ fn size_rule_line(host: Host<'_>, line: &Line<'_>) -> Result<Vec<u8>, ToolError>
     let sizes = sizes_of_image(host, line)?;
     let mut text = Vec::new(host.alloc());
     match sizes.broken_rule() {
-        Some(rule) => sizes.push_broken_rule_line(&mut text, rule)?,
+        Some(rule) => sizes.push_rule_line(&mut text, rule)?,
         None => return path_in_image_line(host, line, Error::Invalid),
     }
     Ok(text)
@@ -100,8 +100,8 @@ fn wrong_number_of_check_result(checked: &CheckResult) -> Option<WrongNumber> {
 // What a check says of the image. For version 2.1 it says which option reads it.
 fn check_lines(host: Host<'_>, line: &Line<'_>) -> Result<Vec<u8>, ToolError> {
     let ImagePart { mut stream, layout } = open_part_again(host, line)?;
-    let checked = check_result_of_image(host.alloc(), &mut stream, layout)?;
-    let mut text = lines_of_check_result(host.alloc(), &checked)?;
+    let checked = result_of_image(host.alloc(), &mut stream, layout)?;
+    let mut text = check_result_lines(host.alloc(), &checked)?;
     if wrong_number_of_check_result(&checked) == Some(WrongNumber::Version(LATER_VERSION)) {
         let _end = text.pop();
         text.extend_from_slice(b"; --also-2.1 reads it\n")?;
@@ -123,7 +123,7 @@ fn length_of_file(entry: &SourceEntry, source: &Folder<'_, HostRuntime>) -> u64 
         None => 0,
     };
     if len > u64::from(IMAGE_MAX) {
-        return source.first_too_long_file().unwrap_or(len);
+        return source.first_long_file().unwrap_or(len);
     }
     len
 }
@@ -164,7 +164,7 @@ fn passed_limit_line(
 // How many blocks the image of a folder takes.
 fn needed_blocks_line(host: Host<'_>, line: &Line<'_>, folder: &str) -> Result<Vec<u8>, ToolError> {
     let blocks = geometry_of_line(line)?.block_count;
-    let (entries, line) = read_folder_of_line(host, line, folder)?;
+    let (entries, line) = read_line_folder(host, line, folder)?;
     let alloc = host.alloc();
     let text = match enough_blocks(host, &line, entries.as_slice(), blocks) {
         Ok(Some(count)) if count > blocks => {
@@ -237,10 +237,10 @@ pub(crate) fn write_explanation<O: ToolOutput, E: ToolOutput>(
 ) {
     match explanation_lines(host, line, error) {
         Ok(text) => {
-            let _ = write_bytes_and_flush(err, text.as_slice());
+            let _ = write_and_flush(err, text.as_slice());
         }
         Err(error) => {
-            let _ = write_bytes_and_flush(err, b"not explained: ");
+            let _ = write_and_flush(err, b"not explained: ");
             let _ = report(&Fault::Tool(error), out, err);
         }
     }

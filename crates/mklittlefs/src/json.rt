@@ -3,7 +3,7 @@
 use crate::files::Host;
 use crate::run::check_image;
 use lfs_device::Error;
-use lfs_tool::{Line, ToolError, ToolOutput, WatchedStream, write_bytes_and_flush};
+use lfs_tool::{Line, ToolError, ToolOutput, WatchedStream, write_and_flush};
 use std::alloc::{AllocError, Global};
 use std::io::Write;
 
@@ -185,6 +185,6 @@ pub(crate) fn check_as_json<W: ToolOutput>(
     let mut lines = WatchedStream::new(Vec::new(host.alloc()));
     let accepted = memory_answer(check_image(host, line, &mut lines))?;
     let text = json_of_check(host.alloc(), lines.inner().as_slice())?;
-    write_bytes_and_flush(out, text.as_slice())?;
+    write_and_flush(out, text.as_slice())?;
     Ok(accepted)
 }

@@ -5,10 +5,10 @@ use crate::json::memory_answer;
 use crate::parts::{ImagePart, open_part};
 use lfs_device::{BlockDevice, Error};
 use lfs_file::blocks_for;
-use lfs_tag::{Content, Log, Struct, is_revision_later_than};
+use lfs_tag::{Content, Log, Struct, is_later_than};
 use lfs_tool::{
-    ImageLayout, Line, SparseDevice, ToolError, WatchedStream, list, listing_lines_of_device,
-    sparse_device_of_image,
+    ImageLayout, Line, SparseDevice, ToolError, WatchedStream, list, lines_of_device,
+    sparse_device_of,
 };
 use std::alloc::{AllocError, Global};
 use std::fs::File;
@@ -59,7 +59,7 @@ struct NamedBlocks {
 }
 
 // Returns what the log of a block names, if it has one.
-fn blocks_named_in_log(alloc: Global, block: &[u8]) -> Result<Option<NamedBlocks>, AllocError> {
+fn blocks_in_log(alloc: Global, block: &[u8]) -> Result<Option<NamedBlocks>, AllocError> {
     let log = Log::read(block);
     if !log.has_commit() {
         return Ok(None);
@@ -124,19 +124,19 @@ fn load_pair(
     let [first, second] = pair;
     let one = image.read_block(first, 4)?;
     let two = image.read_block(second, 4)?;
-    let (later, other, rest) = if is_revision_later_than(first_word(&one), first_word(&two)) {
+    let (later, other, rest) = if is_later_than(first_word(&one), first_word(&two)) {
         (second, first, one)
     } else {
         (first, second, two)
     };
     let bytes = image.read_block(later, image.block_size)?;
-    let named = blocks_named_in_log(alloc, &bytes)?;
+    let named = blocks_in_log(alloc, &bytes)?;
     let device = device.load(later, bytes);
     if named.is_some() {
         return Ok((device.load(other, rest), named));
     }
     let bytes = image.read_block(other, image.block_size)?;
-    let named = blocks_named_in_log(alloc, &bytes)?;
+    let named = blocks_in_log(alloc, &bytes)?;
     Ok((device.load(other, bytes), named))
 }
 
@@ -196,7 +196,7 @@ fn open_image_file<'a>(
 
 // Returns the lines of an image in a file. A read that misses what isn't loaded is made good, and all begins again. After
 // too many there are no lines.
-fn list_lines_of_file(
+fn file_list_lines(
     image: &mut ImageFile<'_>,
     layout: ImageLayout,
     len: u64,
@@ -205,10 +205,10 @@ fn list_lines_of_file(
     let Ok(len) = u32::try_from(len) else {
         return Err(ToolError::Fs(Error::Invalid));
     };
-    let blank = sparse_device_of_image(alloc, len, layout)?;
+    let blank = sparse_device_of(alloc, len, layout)?;
     let mut device = load_thread(image, blank)?;
     for _ in 0..MISSES_MAX {
-        let (back, error) = match listing_lines_of_device(alloc, device) {
+        let (back, error) = match lines_of_device(alloc, device) {
             Ok(lines) => return Ok(Some(lines)),
             Err(failed) => failed,
         };
@@ -229,7 +229,7 @@ fn list_lines_of_file(
 pub(crate) fn list_lines(host: Host<'_>, line: &Line<'_>) -> Result<Vec<u8>, ToolError> {
     let ImagePart { mut stream, layout } = open_part(host, line)?;
     if let Some((mut image, len)) = open_image_file(host, line, layout, stream.inner().limit()) {
-        if let Some(lines) = list_lines_of_file(&mut image, layout, len)? {
+        if let Some(lines) = file_list_lines(&mut image, layout, len)? {
             return Ok(lines);
         }
     }

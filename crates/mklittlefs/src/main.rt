@@ -20,7 +20,7 @@ mod session;
 mod times;
 
 use crate::files::{Host, Lines};
-use crate::run::run_words_and_return_exit_status;
+use crate::run::run_words;
 use lfs_tool::WatchedStream;
 use lfs_tool_folders::{FaultLog, FolderRules};
 use std::cell::Cell;
@@ -58,5 +58,5 @@ fn main(rt: HostRuntime) -> ExitCode {
     });
     let mut err = WatchedStream::new(rt.stderr());
     let words = read_command_line_words(&rt);
-    ExitCode::from(run_words_and_return_exit_status(host, words, &mut out, &mut err))
+    ExitCode::from(run_words(host, words, &mut out, &mut err))
 }

@@ -3,7 +3,7 @@
 use crate::files::{Host, OpenFile, open_file};
 use crate::run::layout_of_line;
 use lfs_device::Error;
-use lfs_tool::{ImageLayout, Line, ToolError, WatchedStream, superblock_in_image};
+use lfs_tool::{ImageLayout, Line, ToolError, WatchedStream, image_superblock_at};
 use std::io::{Chain, Cursor, ErrorKind, Read, Take};
 use std::{fmt, io};
 
@@ -48,7 +48,7 @@ pub(crate) fn open_part<'a>(host: Host<'a>, line: &Line<'a>) -> Result<ImagePart
         if let Err(error) = file.by_ref().take(HEAD).read_to_end(&mut head) {
             return Err(tool_error_of_read(&error));
         }
-        if let Some(superblock) = superblock_in_image(head.as_slice()) {
+        if let Some(superblock) = image_superblock_at(head.as_slice()) {
             layout.block_size = superblock.block_size;
             layout.page = layout.page.min(superblock.block_size / 8);
             size = u64::from(superblock.block_size).saturating_mul(u64::from(

@@ -12,8 +12,8 @@ use crate::times::set_times;
 use lfs_device::{Error, Geometry};
 use lfs_tool::{
     Extras, Fault, ImageInput, ImageLayout, Line, LineError, Mode, Request, ToolError, ToolOutput,
-    WatchedStream, check, create, geometry_of_image_sizes, ram_device_of_image, read_image,
-    read_request, report, unpack, write_bytes_and_flush,
+    WatchedStream, check, create, geometry_of_sizes, ram_device_of, read_image,
+    read_request, report, unpack, write_and_flush,
 };
 use lfs_tool_folders::{Folder, FolderRules, Links, Target, TargetError, TargetFolder};
 use std::io;
@@ -26,7 +26,7 @@ pub(crate) fn layout_of_line(line: &Line<'_>) -> ImageLayout {
 
 /// The geometry of the image that a line makes.
 pub(crate) fn geometry_of_line(line: &Line<'_>) -> Result<Geometry, ToolError> {
-    let geometry = geometry_of_image_sizes(line.size, line.block_size, line.page)?;
+    let geometry = geometry_of_sizes(line.size, line.block_size, line.page)?;
     Ok(geometry.with_profile(line.profile))
 }
 
@@ -36,14 +36,14 @@ pub(crate) fn folder_of_line<'a>(
     path: &str,
     size: u32,
 ) -> Result<Folder<'a, HostRuntime>, ToolError> {
-    let folder = Folder::for_image_of_size(host.rt, host.log, path, u64::from(size))?;
+    let folder = Folder::for_image_size(host.rt, host.log, path, u64::from(size))?;
     Ok(folder.with_rules(host.rules))
 }
 
 /// The limit of files by which a folder is refused as by the given one. It was read for an image of at most so many
 /// bytes, and one zero more stands for a file that is longer.
 pub(crate) fn refusing_file_limit(folder: &Folder<'_, HostRuntime>, size: u32, limit: u32) -> u32 {
-    match folder.first_too_long_file() {
+    match folder.first_long_file() {
         Some(len) if len > u64::from(limit) => size.min(limit),
         _ => limit,
     }
@@ -61,7 +61,7 @@ fn write_image(
     if host.times {
         let entries = read_folder(host, source)?;
         let made = image_of_entries(host, line, geometry, entries.as_slice(), &mut progress)?;
-        return write_bytes_and_flush(image, made.bytes());
+        return write_and_flush(image, made.bytes());
     }
     create(
         host.alloc(),
@@ -118,7 +118,7 @@ fn unpack_image(host: Host<'_>, line: &Line<'_>, folder: &str) -> Result<(), Too
     let bytes = read_image(host.alloc(), &mut stream)?;
     let mut image = WatchedStream::new(bytes.as_slice());
     unpack_stream(host, &mut image, layout, folder)?;
-    set_times(host, folder, ram_device_of_image(bytes, layout)?)
+    set_times(host, folder, ram_device_of(bytes, layout)?)
 }
 
 /// Checks the image. With `-b auto` it is said how many bytes are behind it.
@@ -151,7 +151,7 @@ fn run_mode<W: ToolOutput>(
             if json {
                 lines = json_of_list(host.alloc(), lines.as_slice())?;
             }
-            write_bytes_and_flush(out, lines.as_slice())?;
+            write_and_flush(out, lines.as_slice())?;
         }
         Mode::Check if json => return check_as_json(host, line, out),
         Mode::Check => return check_image(host, line, out),
@@ -191,7 +191,7 @@ fn folder_rules<'a>(extras: &'a Extras<'_>) -> FolderRules<'a> {
 }
 
 // Does what is requested, and returns the status. An error is shown, with its cause where that is requested.
-fn run_request_and_return_exit_status<O: ToolOutput, E: ToolOutput>(
+fn run_request<O: ToolOutput, E: ToolOutput>(
     host: Host<'_>,
     request: &Request<'_>,
     out: &mut O,
@@ -232,7 +232,7 @@ fn fault_of_words(error: &io::Error) -> Fault {
 
 /// Runs the program on the words of its command line, or on the cause for which there are none. Returns the status with
 /// which it ends.
-pub(crate) fn run_words_and_return_exit_status<O: ToolOutput, E: ToolOutput>(
+pub(crate) fn run_words<O: ToolOutput, E: ToolOutput>(
     host: Host<'_>,
     words: io::Result<Vec<String>>,
     out: &mut O,
@@ -243,7 +243,7 @@ pub(crate) fn run_words_and_return_exit_status<O: ToolOutput, E: ToolOutput>(
         Err(error) => return report(&fault_of_words(&error), out, err),
     };
     match read_request(host.alloc(), words.as_slice()) {
-        Ok(request) => run_request_and_return_exit_status(host, &request, out, err),
+        Ok(request) => run_request(host, &request, out, err),
         Err(error) => match report(&Fault::Line(error), out, err) {
             0 if host.fault_of_lines.get().is_some() => report_unwritten_lines(host, out, err),
             status => status,

@@ -1,7 +1,7 @@
 // Runs over real files. `bench/program_lines.py` has more.
 
 use crate::files::Host;
-use crate::run::run_words_and_return_exit_status;
+use crate::run::run_words;
 use lfs_device::{Geometry, RamDevice};
 use lfs_fs::mount;
 use lfs_tool::WatchedStream;
@@ -220,7 +220,7 @@ fn push_run(
         times: false,
         fault_of_lines: &fault,
     };
-    let status = run_words_and_return_exit_status(host, words, &mut out, &mut err);
+    let status = run_words(host, words, &mut out, &mut err);
     for lines in [out.into_inner(), err.into_inner()] {
         text.extend_from_slice(lines.as_slice())?;
         if lines.last().is_some_and(|byte| *byte != b'\n') {

@@ -5,8 +5,8 @@ use crate::parts::{ImagePart, open_part};
 use lfs_device::{Error, RamDevice};
 use lfs_fs::{OpenFlags, Session, mount};
 use lfs_tool::{
-    Line, Mode, ToolError, ToolOutput, WatchedStream, ram_device_of_image, read_image,
-    write_bytes_and_flush,
+    Line, Mode, ToolError, ToolOutput, WatchedStream, ram_device_of, read_image,
+    write_and_flush,
 };
 
 /// Mounts an image in memory.
@@ -24,7 +24,7 @@ pub(crate) fn mount_image(
 fn session_of_line(host: Host<'_>, line: &Line<'_>) -> Result<Session<RamDevice>, ToolError> {
     let ImagePart { mut stream, layout } = open_part(host, line)?;
     let bytes = read_image(host.alloc(), &mut stream)?;
-    mount_image(host, ram_device_of_image(bytes, layout)?)
+    mount_image(host, ram_device_of(bytes, layout)?)
 }
 
 fn bytes_of_file(
@@ -46,7 +46,7 @@ pub(crate) fn cat_file<W: ToolOutput>(
 ) -> Result<(), ToolError> {
     let mut session = session_of_line(host, line)?;
     let bytes = bytes_of_file(host, &mut session, path)?;
-    write_bytes_and_flush(out, bytes.as_slice())
+    write_and_flush(out, bytes.as_slice())
 }
 
 // Puts a file of these bytes at a path in the image, in place of one that is there.
@@ -87,6 +87,6 @@ pub(crate) fn change_image(host: Host<'_>, line: &Line<'_>) -> Result<(), ToolEr
     change_in_session(host, line, &mut session)?;
     let bytes = session.unmount().to_bytes();
     let mut image = WatchedStream::new(NotedWriter::new(host, line.image)?);
-    write_bytes_and_flush(&mut image, bytes.as_slice())?;
+    write_and_flush(&mut image, bytes.as_slice())?;
     image.into_inner().place()
 }

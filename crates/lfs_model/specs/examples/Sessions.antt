@@ -1,29 +1,29 @@
 -- Sessions for contracts that show their replies.
 use Rattle.std.specs.Prelude.{ℕ, true, false, List, [], ◌∷◌, map, replicate}
-use Rattle.lfs_model.specs.Disk.{default_profile}
-use Rattle.lfs_model.specs.Slots.{zero_gstate}
-use Rattle.lfs_model.specs.Operations.{Operation, Reply, FlagsOfOpen}
-use Rattle.lfs_model.specs.Session.{Session, DiskSummary}
-use Rattle.lfs_model.specs.Effects.{refusal_or_effect_of_operation}
-use Rattle.lfs_model.specs.State.{session_after_mount}
-use Rattle.lfs_model.specs.Fresh.{empty_tree}
+use Rattle.lfs_model.specs.format.Disk.{default_profile}
+use Rattle.lfs_model.specs.format.Slots.{zero_gstate}
+use Rattle.lfs_model.specs.session.Operations.{Operation, Reply, FlagsOfOpen}
+use Rattle.lfs_model.specs.session.Session.{Session, DiskSummary}
+use Rattle.lfs_model.specs.session.Effects.{operation_result}
+use Rattle.lfs_model.specs.session.State.{mounted_session}
+use Rattle.lfs_model.specs.tree.Fresh.{empty_tree}
 
 -- a disk of this geometry in the writing profile, with so many blocks in use
-abbrev pub writable_disk_summary : ℕ → ℕ → ℕ → ℕ → DiskSummary
-writable_disk_summary block_size page block_count used = record { writable = true; profile = default_profile; block_size = block_size; page = page; block_count = block_count; used = replicate used 0; gstate = zero_gstate }
+abbrev pub writable_summary : ℕ → ℕ → ℕ → ℕ → DiskSummary
+writable_summary block_size page block_count used = record { writable = true; profile = default_profile; block_size = block_size; page = page; block_count = block_count; used = replicate used 0; gstate = zero_gstate }
 
 -- the replies to operations, each with the number of blocks in use before it
-abbrev pub replies_to_operations : (ℕ → DiskSummary) → Session → List (ℕ × Operation) → List Reply
-replies_to_operations disk s [] = []
-replies_to_operations disk s (step ∷ steps) = (refusal_or_effect_of_operation (disk step.0) s step.1).0 ∷ replies_to_operations disk (refusal_or_effect_of_operation (disk step.0) s step.1).1 steps
+abbrev pub all_replies : (ℕ → DiskSummary) → Session → List (ℕ × Operation) → List Reply
+all_replies disk s [] = []
+all_replies disk s (step ∷ steps) = (operation_result (disk step.0) s step.1).0 ∷ all_replies disk (operation_result (disk step.0) s step.1).1 steps
 
 -- the same from a fresh disk
-abbrev pub replies_from_fresh_disk : ℕ → ℕ → ℕ → List (ℕ × Operation) → List Reply
-replies_from_fresh_disk block_size page block_count = replies_to_operations (writable_disk_summary block_size page block_count) (session_after_mount empty_tree)
+abbrev pub fresh_replies : ℕ → ℕ → ℕ → List (ℕ × Operation) → List Reply
+fresh_replies block_size page block_count = all_replies (writable_summary block_size page block_count) (mounted_session empty_tree)
 
 -- all with as many blocks in use
-abbrev pub operations_each_paired_with_used_block_count : ℕ → List Operation → List (ℕ × Operation)
-operations_each_paired_with_used_block_count used ops = map (λ op. (used, op)) ops
+abbrev pub with_used_count : ℕ → List Operation → List (ℕ × Operation)
+with_used_count used ops = map (λ op. (used, op)) ops
 
 -- ---- flags
 
@@ -36,5 +36,5 @@ read_flags = record no_flags { read = true }
 abbrev pub write_flags : FlagsOfOpen
 write_flags = record no_flags { write = true }
 
-abbrev pub flags_to_open_new_file : FlagsOfOpen
-flags_to_open_new_file = record write_flags { create = true }
+abbrev pub creating_flags : FlagsOfOpen
+creating_flags = record write_flags { create = true }

@@ -2,7 +2,7 @@ use Rattle.std.proofs.Common.{◌≡◌, ◌+◌, ◌-◌, ◌%◌, length, take
 use Rattle.std.specs.Prelude.{slice_range}
 use Rattle.std.proofs.lemmas.List.{length-take-le, take_min}
 use Rattle.std.proofs.lemmas.Result.{on_ok_weaker}
-use Rattle.lfs_model.specs.Blocks.{Blocks, programmed}
+use Rattle.lfs_model.specs.format.Blocks.{Blocks, programmed}
 use Rattle.lfs_model.proofs.Overwrites.{programmed_next}
 use Rattle.lfs_device.proofs.Partials.{ChangesOnlyPartOfBlock-trans, ChangesOnlyPartOfBlock-wider, ChangesOnlyPartOfBlock-program, take-append-slice_range, page_room}
 use Rattle.lfs_device.proofs.partial.program_first_bytes.Goals as goal
@@ -41,7 +41,7 @@ returns-clause-part g c =
     (ChangesOnlyPartOfBlock-program g.D.BlockDevice c.prog.result (omega (arith, shape.count, c.requires.in_device)) (omega (arith, shape.sizes c.args.block c.requires.in_device, c.requires.in_block))
     c.prog.ensures.ok c.prog.ensures.err c.prog.ensures.others c.prog.ensures.geometry c.prog.ensures.history)
     (omega arith) (omega (arith, first)))
-    (ChangesOnlyPartOfBlock-wider g.D.BlockDevice c.args.off (c.args.off + length c.args.bytes.now) c.program_beginning_of_page.ensures.part (omega arith) (omega (arith, then, room)))
+    (ChangesOnlyPartOfBlock-wider g.D.BlockDevice c.args.off (c.args.off + length c.args.bytes.now) c.program_page_part.ensures.part (omega arith) (omega (arith, then, room)))
 
 pub returns-clause-ok : goal.returns-clause-ok
 returns-clause-ok g c =
@@ -53,8 +53,8 @@ returns-clause-ok g c =
     let both : take whole bytes ++ rest ≡ take c.min-stored.result bytes = take-append-slice_range bytes whole c.min-stored.result (omega arith) in
     let size : length (take whole bytes) + length rest ≡ c.min-stored.result = sym (length-append (take whole bytes) rest) ∙ ap length both ∙ length-take-le c.min-stored.result bytes (omega arith) in
     let shape = g.met.D.BlockDevice.shape c.args.device.now in
-    on_ok_weaker c.program_beginning_of_page.result (λ is. is
+    on_ok_weaker c.program_page_part.result (λ is. is
     ∙ ap (λ (d : Blocks). programmed d c.args.block (c.args.off + whole) rest) c.in_ok-prog.ensures.ok
     ∙ ap (λ n. programmed (programmed old c.args.block c.args.off (take whole bytes)) c.args.block (c.args.off + n) rest) (sym first)
     ∙ programmed_next old c.args.block c.args.off (take whole bytes) rest (omega (arith, shape.count, c.requires.in_device)) (omega (arith, size, shape.sizes c.args.block c.requires.in_device, c.requires.in_block))
-    ∙ ap (λ (l : List ℕ). programmed old c.args.block c.args.off l) (both ∙ ap (λ n. take n bytes) c.min-stored.ensures ∙ take_min c.args.k bytes)) c.program_beginning_of_page.ensures.ok
+    ∙ ap (λ (l : List ℕ). programmed old c.args.block c.args.off l) (both ∙ ap (λ n. take n bytes) c.min-stored.ensures ∙ take_min c.args.k bytes)) c.program_page_part.ensures.ok

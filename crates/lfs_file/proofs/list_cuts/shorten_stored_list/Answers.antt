@@ -2,13 +2,13 @@ use Rattle.std.proofs.Common.{ℕ, [], ◌≡◌, take, refl, sym, ap, ◌∙◌
 use Rattle.std.specs.Prelude.{Contains, List}
 use Rattle.std.proofs.lemmas.Result.{err_from_is_err_and}
 use Rattle.lfs_device.specs.declared.geometry.Geometry.{Geometry}
-use Rattle.lfs_model.specs.Blocks.{Blocks}
-use Rattle.lfs_model.specs.SkipLists.{list_block_count_for_size, bytes_of_skip_list}
-use Rattle.lfs_model.proofs.ListSizes.{list_block_count_for_size-more}
-use Rattle.lfs_model.proofs.Overwrites.{AreBlocksEqualExceptThese-refl}
-use Rattle.lfs_file.specs.Bases.{list_blocks_by_head_and_size}
-use Rattle.lfs_file.specs.Hand.{IsFinishedListConsistentWithMapAndDisk}
-use Rattle.lfs_file.specs.Releases.{ReleasesBlocksInFlight}
+use Rattle.lfs_model.specs.format.Blocks.{Blocks}
+use Rattle.lfs_model.specs.format.SkipLists.{block_count_for, list_bytes}
+use Rattle.lfs_model.proofs.ListSizes.{block_count_for-more}
+use Rattle.lfs_model.proofs.Overwrites.{SameExceptThese-refl}
+use Rattle.lfs_file.specs.Bases.{list_blocks_from}
+use Rattle.lfs_file.specs.Hand.{FinishedListOnDisk}
+use Rattle.lfs_file.specs.Releases.{ReleasesInFlight}
 use Rattle.lfs_file.proofs.Hands.{Contains-take}
 use Rattle.lfs_file.proofs.ContentsCalled.{quiet, read_on, reported_as, reported_on}
 use Rattle.lfs_file.proofs.Copies.{base_list}
@@ -16,19 +16,19 @@ use Rattle.lfs_file.proofs.Cuts.{cuts}
 use Rattle.lfs_file.proofs.Ends.{gone_of}
 use Rattle.lfs_file.proofs.list_cuts.shorten_stored_list.Goals as goal
 
-pub release_base_list_blocks_from_index-requires-clause-within : goal.release_base_list_blocks_from_index-requires-clause-within
-release_base_list_blocks_from_index-requires-clause-within g c =
-    let n : ℕ = (g.D.BlockDevice.geometry c.list_head_for_first_bytes.new.dev).block_size in
-    let more = list_block_count_for_size-more n c.args.keep c.args.stored.size c.requires.length.1 in
-    let same = c.blocks_for-count.ensures ∙ ap (λ (k : Geometry). list_block_count_for_size k.block_size c.args.keep) c.geometry.ensures in
+pub release_base_from-requires-clause-within : goal.release_base_from-requires-clause-within
+release_base_from-requires-clause-within g c =
+    let n : ℕ = (g.D.BlockDevice.geometry c.head_of_front.new.dev).block_size in
+    let more = block_count_for-more n c.args.keep c.args.stored.size c.requires.length.1 in
+    let same = c.blocks_for-count.ensures ∙ ap (λ (k : Geometry). block_count_for k.block_size c.args.keep) c.geometry.ensures in
     omega arith
 
-pub returns-in_err-release_base_list_blocks_from_index-clause-reading : goal.returns-in_err-release_base_list_blocks_from_index-clause-reading
-returns-in_err-release_base_list_blocks_from_index-clause-reading g c =
-    let p = err_from_is_err_and c.from_residual-in_err-release_base_list_blocks_from_index.result c.from_residual-in_err-release_base_list_blocks_from_index.ensures.1 in
-    let read = c.in_err-release_base_list_blocks_from_index.ensures.reading in
+pub returns-in_err-release_base_from-clause-reading : goal.returns-in_err-release_base_from-clause-reading
+returns-in_err-release_base_from-clause-reading g c =
+    let p = err_from_is_err_and c.from_residual-in_err-release_base_from.result c.from_residual-in_err-release_base_from.ensures.1 in
+    let read = c.in_err-release_base_from.ensures.reading in
     rw (p.1, p.2) (record {
-      device = read_on g.D.BlockDevice c.list_head_for_first_bytes.ensures.reading.device read.device;
+      device = read_on g.D.BlockDevice c.head_of_front.ensures.reading.device read.device;
       reports = record {
         faults = reported_on g.D.BlockDevice (quiet g.D.BlockDevice c.in_ok-head.ensures.reading.faults) (reported_as g.D.BlockDevice read.reports.faults);
         errors = read.reports.errors;
@@ -37,9 +37,9 @@ returns-in_err-release_base_list_blocks_from_index-clause-reading g c =
 
 pub returns-clause-reading : goal.returns-clause-reading
 returns-clause-reading g c =
-    let read = c.in_ok-release_base_list_blocks_from_index.ensures.reading in
+    let read = c.in_ok-release_base_from.ensures.reading in
     record {
-      device = read_on g.D.BlockDevice c.list_head_for_first_bytes.ensures.reading.device read.device;
+      device = read_on g.D.BlockDevice c.head_of_front.ensures.reading.device read.device;
       reports = record {
         faults = record { fault = λ is. absurd (cc); no_fault = λ _. quiet g.D.BlockDevice read.reports.faults ∙ quiet g.D.BlockDevice c.in_ok-head.ensures.reading.faults };
         errors = tt;
@@ -51,20 +51,20 @@ returns-clause-cut g c =
     let now : Geometry = g.D.BlockDevice.geometry c.args.dev.now in
     let stored = c.args.stored in
     let d : Blocks = g.D.BlockDevice.blocks c.args.dev.now in
-    let read = c.list_head_for_first_bytes.ensures.reading.device in
-    let all = c.release_base_list_blocks_from_index.ensures.reading.device.same ∙ read.same in
+    let read = c.head_of_front.ensures.reading.device in
+    let all = c.release_base_from.ensures.reading.device.same ∙ read.same in
     let some = c.requires.length.0 in
     let within = c.requires.length.1 in
     let front = c.in_ok-head.ensures.front (base_list d now.block_size stored.head stored.size (omega arith) c.requires.stored.base) in
-    let count : c.blocks_for-count.result ≡ list_block_count_for_size now.block_size c.args.keep = c.blocks_for-count.ensures ∙ ap (λ (k : Geometry). list_block_count_for_size k.block_size c.args.keep) (c.geometry.ensures ∙ read.geometry) in
-    let released = subst (λ (k : Geometry). ReleasesBlocksInFlight c.args.map.now c.release_base_list_blocks_from_index.new.map (gone_of stored.in_flight c.blocks_for-count.result (list_blocks_by_head_and_size d k.block_size stored.head stored.size))) read.geometry
-    (subst (λ (x : Blocks). ReleasesBlocksInFlight c.args.map.now c.release_base_list_blocks_from_index.new.map (gone_of stored.in_flight c.blocks_for-count.result (list_blocks_by_head_and_size x (g.D.BlockDevice.geometry c.list_head_for_first_bytes.new.dev).block_size stored.head stored.size))) read.same c.in_ok-release_base_list_blocks_from_index.ensures.released) in
-    let blocks = front.blocks ∙ ap (λ n. take n (list_blocks_by_head_and_size d now.block_size stored.head stored.size)) (sym count) in
-    let at : Blocks → Type 0 = λ x. IsFinishedListConsistentWithMapAndDisk c.release_base_list_blocks_from_index.new.map x now.block_size (record { head = c.in_ok-head.head; size = c.args.keep; in_flight = stored.in_flight }) in
+    let count : c.blocks_for-count.result ≡ block_count_for now.block_size c.args.keep = c.blocks_for-count.ensures ∙ ap (λ (k : Geometry). block_count_for k.block_size c.args.keep) (c.geometry.ensures ∙ read.geometry) in
+    let released = subst (λ (k : Geometry). ReleasesInFlight c.args.map.now c.release_base_from.new.map (gone_of stored.in_flight c.blocks_for-count.result (list_blocks_from d k.block_size stored.head stored.size))) read.geometry
+    (subst (λ (x : Blocks). ReleasesInFlight c.args.map.now c.release_base_from.new.map (gone_of stored.in_flight c.blocks_for-count.result (list_blocks_from x (g.D.BlockDevice.geometry c.head_of_front.new.dev).block_size stored.head stored.size))) read.same c.in_ok-release_base_from.ensures.released) in
+    let blocks = front.blocks ∙ ap (λ n. take n (list_blocks_from d now.block_size stored.head stored.size)) (sym count) in
+    let at : Blocks → Type 0 = λ x. FinishedListOnDisk c.release_base_from.new.map x now.block_size (record { head = c.in_ok-head.head; size = c.args.keep; in_flight = stored.in_flight }) in
     record {
-      stored = subst at (sym all) (cuts c.args.map.now d d now.block_size stored [] c.requires.stored refl (AreBlocksEqualExceptThese-refl [] d) c.release_base_list_blocks_from_index.new.map c.blocks_for-count.result c.in_ok-head.head c.args.keep front.list blocks released);
+      stored = subst at (sym all) (cuts c.args.map.now d d now.block_size stored [] c.requires.stored refl (SameExceptThese-refl [] d) c.release_base_from.new.map c.blocks_for-count.result c.in_ok-head.head c.args.keep front.list blocks released);
       count = refl;
-      bytes = ap (λ x. bytes_of_skip_list x now.block_size c.in_ok-head.head c.args.keep) all ∙ front.bytes;
+      bytes = ap (λ x. list_bytes x now.block_size c.in_ok-head.head c.args.keep) all ∙ front.bytes;
     }
 
 pub returns-clause-front : goal.returns-clause-front
@@ -72,12 +72,12 @@ returns-clause-front g c =
     let now : Geometry = g.D.BlockDevice.geometry c.args.dev.now in
     let stored = c.args.stored in
     let d : Blocks = g.D.BlockDevice.blocks c.args.dev.now in
-    let all = c.release_base_list_blocks_from_index.ensures.reading.device.same ∙ c.list_head_for_first_bytes.ensures.reading.device.same in
+    let all = c.release_base_from.ensures.reading.device.same ∙ c.head_of_front.ensures.reading.device.same in
     let some = c.requires.length.0 in
     let within = c.requires.length.1 in
     let front = c.in_ok-head.ensures.front (base_list d now.block_size stored.head stored.size (omega arith) c.requires.stored.base) in
     record {
       flying = refl;
-      among = λ b has. Contains-take _ (list_blocks_by_head_and_size d now.block_size stored.head stored.size) b
-          (subst (λ (l : List ℕ). Contains l b) (ap (λ x. list_blocks_by_head_and_size x now.block_size c.in_ok-head.head c.args.keep) all ∙ front.blocks) has);
+      among = λ b has. Contains-take _ (list_blocks_from d now.block_size stored.head stored.size) b
+          (subst (λ (l : List ℕ). Contains l b) (ap (λ x. list_blocks_from x now.block_size c.in_ok-head.head c.args.keep) all ∙ front.blocks) has);
     }

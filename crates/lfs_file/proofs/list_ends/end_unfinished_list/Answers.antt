@@ -1,30 +1,30 @@
 use Rattle.std.proofs.Common.{◌≡◌, inl, true, refl, sym, ap, ◌∙◌, subst, arith}
 use Rattle.std.proofs.lemmas.Result.{err_from_is_err_and}
 use Rattle.lfs_device.specs.declared.geometry.Geometry.{Geometry}
-use Rattle.lfs_model.specs.Blocks.{Blocks}
-use Rattle.lfs_model.specs.SkipLists.{list_block_count_for_size, bytes_of_skip_list}
-use Rattle.lfs_file.specs.Growing.{unwritten_block_of_list}
-use Rattle.lfs_file.specs.Hand.{IsFinishedListConsistentWithMapAndDisk}
-use Rattle.lfs_file.specs.BaseRoom.{in_flight_block_limit_of_stored_list}
+use Rattle.lfs_model.specs.format.Blocks.{Blocks}
+use Rattle.lfs_model.specs.format.SkipLists.{block_count_for, list_bytes}
+use Rattle.lfs_file.specs.Growing.{unwritten_block}
+use Rattle.lfs_file.specs.Hand.{FinishedListOnDisk}
+use Rattle.lfs_file.specs.BaseRoom.{in_flight_limit}
 use Rattle.lfs_file.proofs.Bases.{blocks_stay}
 use Rattle.lfs_file.proofs.Owning.{ends_over}
-use Rattle.lfs_file.proofs.Spared.{KeepsUsedBlocksInMap-refl, after_release}
-use Rattle.lfs_file.specs.Bases.{list_blocks_by_head_and_size}
+use Rattle.lfs_file.proofs.Spared.{KeepsUsedBlocks-refl, after_release}
+use Rattle.lfs_file.specs.Bases.{list_blocks_from}
 use Rattle.lfs_file.proofs.ContentsCalled.{apart_end, apart_on, quiet, reported_as, reported_on, used_of, used_read, writes_well}
 use Rattle.lfs_file.proofs.Ends.{base_end, ends_by, used_kept, used_kept_on}
 use Rattle.lfs_file.proofs.Flights.{begun_flying}
 use Rattle.lfs_file.proofs.Handed.{extended_hand}
 use Rattle.lfs_file.proofs.list_ends.end_unfinished_list.Goals as goal
 
-pub append_remaining_bytes_of_base_list-requires : goal.append_remaining_bytes_of_base_list-requires
-append_remaining_bytes_of_base_list-requires g c =
+pub append_base_rest-requires : goal.append_base_rest-requires
+append_base_rest-requires g c =
     let hand = c.args.hand in
     let going = c.requires.going in
     let begun = going.list.begun in
     let flying = begun_flying c.args.map.now (g.D.BlockDevice.blocks c.args.dev.now) hand.list.geometry.block_size hand.list hand.base hand.shared begun in
     let room = c.requires.room in
-    let some = ap (λ (k : Geometry). in_flight_block_limit_of_stored_list k.block_size hand.base) going.geometry in
-    let rest = ap (λ (k : Geometry). list_block_count_for_size k.block_size hand.base.size) going.geometry in
+    let some = ap (λ (k : Geometry). in_flight_limit k.block_size hand.base) going.geometry in
+    let rest = ap (λ (k : Geometry). block_count_for k.block_size hand.base.size) going.geometry in
     record {
       growing = begun.growing;
       geometry = going.geometry;
@@ -34,12 +34,12 @@ append_remaining_bytes_of_base_list-requires g c =
       room = omega arith;
     }
 
-pub returns-in_err-append_remaining_bytes_of_base_list-clause-writing : goal.returns-in_err-append_remaining_bytes_of_base_list-clause-writing
-returns-in_err-append_remaining_bytes_of_base_list-clause-writing g c =
+pub returns-in_err-append_base_rest-clause-writing : goal.returns-in_err-append_base_rest-clause-writing
+returns-in_err-append_base_rest-clause-writing g c =
     let p = err_from_is_err_and c.from_residual.result c.from_residual.ensures.1 in
-    let wrote = c.in_err-append_remaining_bytes_of_base_list.ensures.writing in
+    let wrote = c.in_err-append_base_rest.ensures.writing in
     rw (p.1, p.2) (record {
-      map = used_kept_on _ _ _ wrote.map (KeepsUsedBlocksInMap-refl _);
+      map = used_kept_on _ _ _ wrote.map (KeepsUsedBlocks-refl _);
       device = used_of g.D.BlockDevice c.args.hand.list c.requires.going.list.begun.marked wrote.device;
       reports = record { faults = reported_as g.D.BlockDevice wrote.reports.faults; errors = wrote.reports.errors };
     })
@@ -47,24 +47,24 @@ returns-in_err-append_remaining_bytes_of_base_list-clause-writing g c =
 pub returns-in_err-head-clause-writing : goal.returns-in_err-head-clause-writing
 returns-in_err-head-clause-writing g c =
     let p = err_from_is_err_and c.from_residual-in_err-head.result c.from_residual-in_err-head.ensures.1 in
-    let wrote = c.in_ok-append_remaining_bytes_of_base_list.ensures.writing in
+    let wrote = c.in_ok-append_base_rest.ensures.writing in
     let io = c.in_err-head.ensures.io in
     rw (p.1, p.2) (record {
-      map = used_kept_on _ _ _ wrote.map (KeepsUsedBlocksInMap-refl _);
+      map = used_kept_on _ _ _ wrote.map (KeepsUsedBlocks-refl _);
       device = used_of g.D.BlockDevice c.args.hand.list c.requires.going.list.begun.marked
-          (apart_on g.D.BlockDevice c.in_ok-append_remaining_bytes_of_base_list.ensures.extended.grown.apart wrote.device (apart_end g.D.BlockDevice _ c.finish.ensures.device));
+          (apart_on g.D.BlockDevice c.in_ok-append_base_rest.ensures.extended.grown.apart wrote.device (apart_end g.D.BlockDevice _ c.finish.ensures.device));
       reports = record { faults = reported_on g.D.BlockDevice (quiet g.D.BlockDevice wrote.reports.faults) (reported_as g.D.BlockDevice io.faults); errors = inl io.errors };
     })
 
-pub returns-in_err-release_base_list_blocks_from_index-clause-writing : goal.returns-in_err-release_base_list_blocks_from_index-clause-writing
-returns-in_err-release_base_list_blocks_from_index-clause-writing g c =
-    let p = err_from_is_err_and c.from_residual-in_err-release_base_list_blocks_from_index.result c.from_residual-in_err-release_base_list_blocks_from_index.ensures.1 in
-    let wrote = c.in_ok-append_remaining_bytes_of_base_list.ensures.writing in
-    let read = c.in_err-release_base_list_blocks_from_index.ensures.reading in
+pub returns-in_err-release_base_from-clause-writing : goal.returns-in_err-release_base_from-clause-writing
+returns-in_err-release_base_from-clause-writing g c =
+    let p = err_from_is_err_and c.from_residual-in_err-release_base_from.result c.from_residual-in_err-release_base_from.ensures.1 in
+    let wrote = c.in_ok-append_base_rest.ensures.writing in
+    let read = c.in_err-release_base_from.ensures.reading in
     rw (p.1, p.2) (record {
-      map = used_kept_on _ _ _ wrote.map c.release_base_list_blocks_from_index.ensures.map;
+      map = used_kept_on _ _ _ wrote.map c.release_base_from.ensures.map;
       device = used_read g.D.BlockDevice (used_of g.D.BlockDevice c.args.hand.list c.requires.going.list.begun.marked
-          (apart_on g.D.BlockDevice c.in_ok-append_remaining_bytes_of_base_list.ensures.extended.grown.apart wrote.device (apart_end g.D.BlockDevice _ c.finish.ensures.device))) read.device;
+          (apart_on g.D.BlockDevice c.in_ok-append_base_rest.ensures.extended.grown.apart wrote.device (apart_end g.D.BlockDevice _ c.finish.ensures.device))) read.device;
       reports = record {
         faults = reported_on g.D.BlockDevice (quiet g.D.BlockDevice c.in_ok-head.ensures.io.faults ∙ quiet g.D.BlockDevice wrote.reports.faults) (reported_as g.D.BlockDevice read.reports.faults);
         errors = inl read.reports.errors;
@@ -73,41 +73,41 @@ returns-in_err-release_base_list_blocks_from_index-clause-writing g c =
 
 pub returns-clause-writing : goal.returns-clause-writing
 returns-clause-writing g c =
-    let wrote = c.in_ok-append_remaining_bytes_of_base_list.ensures.writing in
-    let read = c.in_ok-release_base_list_blocks_from_index.ensures.reading in
-    writes_well g.D.BlockDevice (used_kept _ _ _ _ wrote.map c.in_ok-release_base_list_blocks_from_index.ensures.released)
+    let wrote = c.in_ok-append_base_rest.ensures.writing in
+    let read = c.in_ok-release_base_from.ensures.reading in
+    writes_well g.D.BlockDevice (used_kept _ _ _ _ wrote.map c.in_ok-release_base_from.ensures.released)
     (used_read g.D.BlockDevice (used_of g.D.BlockDevice c.args.hand.list c.requires.going.list.begun.marked
-    (apart_on g.D.BlockDevice c.in_ok-append_remaining_bytes_of_base_list.ensures.extended.grown.apart wrote.device (apart_end g.D.BlockDevice _ c.finish.ensures.device))) read.device)
+    (apart_on g.D.BlockDevice c.in_ok-append_base_rest.ensures.extended.grown.apart wrote.device (apart_end g.D.BlockDevice _ c.finish.ensures.device))) read.device)
     (quiet g.D.BlockDevice read.reports.faults ∙ quiet g.D.BlockDevice c.in_ok-head.ensures.io.faults ∙ quiet g.D.BlockDevice wrote.reports.faults)
 
-pub release_base_list_blocks_from_index-requires-clause-base : goal.release_base_list_blocks_from_index-requires-clause-base
-release_base_list_blocks_from_index-requires-clause-base g c =
+pub release_base_from-requires-clause-base : goal.release_base_from-requires-clause-base
+release_base_from-requires-clause-base g c =
     let hand = c.args.hand in
-    let whole = extended_hand c.args.map.now c.append_remaining_bytes_of_base_list.new.map (g.D.BlockDevice.blocks c.args.dev.now) (g.D.BlockDevice.blocks c.append_remaining_bytes_of_base_list.new.dev) hand.list c.append_remaining_bytes_of_base_list.new.list hand.base hand.shared _ _
-    c.requires.going.list.begun c.append_remaining_bytes_of_base_list.ensures.writing.device.spared c.append_remaining_bytes_of_base_list.ensures.writing.map c.in_ok-append_remaining_bytes_of_base_list.ensures.extended in
-    let device = c.finish.ensures.device.geometry ∙ c.append_remaining_bytes_of_base_list.ensures.writing.device.geometry ∙ c.requires.going.geometry in
-    base_end c.append_remaining_bytes_of_base_list.new.map (g.D.BlockDevice.blocks c.append_remaining_bytes_of_base_list.new.dev) _ hand.list.geometry _ c.append_remaining_bytes_of_base_list.new.list hand.base hand.shared device whole c.finish.ensures.device.others
+    let whole = extended_hand c.args.map.now c.append_base_rest.new.map (g.D.BlockDevice.blocks c.args.dev.now) (g.D.BlockDevice.blocks c.append_base_rest.new.dev) hand.list c.append_base_rest.new.list hand.base hand.shared _ _
+    c.requires.going.list.begun c.append_base_rest.ensures.writing.device.spared c.append_base_rest.ensures.writing.map c.in_ok-append_base_rest.ensures.extended in
+    let device = c.finish.ensures.device.geometry ∙ c.append_base_rest.ensures.writing.device.geometry ∙ c.requires.going.geometry in
+    base_end c.append_base_rest.new.map (g.D.BlockDevice.blocks c.append_base_rest.new.dev) _ hand.list.geometry _ c.append_base_rest.new.list hand.base hand.shared device whole c.finish.ensures.device.others
 
 pub returns-clause-ended : goal.returns-clause-ended
 returns-clause-ended g c =
     let hand = c.args.hand in
     let geometry : Geometry = hand.list.geometry in
     let now : Geometry = g.D.BlockDevice.geometry c.args.dev.now in
-    let longer = c.append_remaining_bytes_of_base_list.new.list in
-    let more = c.in_ok-append_remaining_bytes_of_base_list.ensures.extended in
+    let longer = c.append_base_rest.new.list in
+    let more = c.in_ok-append_base_rest.ensures.extended in
     let finished = c.in_ok-head.ensures.finished in
     let is : now ≡ geometry = c.requires.going.geometry in
-    let whole = extended_hand c.args.map.now c.append_remaining_bytes_of_base_list.new.map (g.D.BlockDevice.blocks c.args.dev.now) (g.D.BlockDevice.blocks c.append_remaining_bytes_of_base_list.new.dev) hand.list longer hand.base hand.shared _ _
-    c.requires.going.list.begun c.append_remaining_bytes_of_base_list.ensures.writing.device.spared c.append_remaining_bytes_of_base_list.ensures.writing.map more in
-    let device = c.finish.ensures.device.geometry ∙ c.append_remaining_bytes_of_base_list.ensures.writing.device.geometry ∙ is in
-    let stored = ends_by c.append_remaining_bytes_of_base_list.new.map c.release_base_list_blocks_from_index.new.map (g.D.BlockDevice.blocks c.append_remaining_bytes_of_base_list.new.dev) (g.D.BlockDevice.blocks c.finish.new.dev) geometry longer.geometry _ longer hand.base hand.shared
-    c.in_ok-head.head c.in_ok-head.size more.geometry device whole c.finish.ensures.device.others finished.list finished.blocks c.in_ok-release_base_list_blocks_from_index.ensures.released in
-    let at : Blocks → Geometry → Type 0 = λ x k. IsFinishedListConsistentWithMapAndDisk c.release_base_list_blocks_from_index.new.map x k.block_size (record { head = c.in_ok-head.head; size = c.in_ok-head.size; in_flight = true }) in
+    let whole = extended_hand c.args.map.now c.append_base_rest.new.map (g.D.BlockDevice.blocks c.args.dev.now) (g.D.BlockDevice.blocks c.append_base_rest.new.dev) hand.list longer hand.base hand.shared _ _
+    c.requires.going.list.begun c.append_base_rest.ensures.writing.device.spared c.append_base_rest.ensures.writing.map more in
+    let device = c.finish.ensures.device.geometry ∙ c.append_base_rest.ensures.writing.device.geometry ∙ is in
+    let stored = ends_by c.append_base_rest.new.map c.release_base_from.new.map (g.D.BlockDevice.blocks c.append_base_rest.new.dev) (g.D.BlockDevice.blocks c.finish.new.dev) geometry longer.geometry _ longer hand.base hand.shared
+    c.in_ok-head.head c.in_ok-head.size more.geometry device whole c.finish.ensures.device.others finished.list finished.blocks c.in_ok-release_base_from.ensures.released in
+    let at : Blocks → Geometry → Type 0 = λ x k. FinishedListOnDisk c.release_base_from.new.map x k.block_size (record { head = c.in_ok-head.head; size = c.in_ok-head.size; in_flight = true }) in
     record {
-      stored = subst (λ x. at x now) (sym c.release_base_list_blocks_from_index.ensures.reading.device.same) (subst (at (g.D.BlockDevice.blocks c.finish.new.dev)) (sym is) stored);
+      stored = subst (λ x. at x now) (sym c.release_base_from.ensures.reading.device.same) (subst (at (g.D.BlockDevice.blocks c.finish.new.dev)) (sym is) stored);
       count = c.in_ok-head.ensures.size ∙ more.sum;
-      bytes = ap (λ x. bytes_of_skip_list x now.block_size c.in_ok-head.head c.in_ok-head.size) c.release_base_list_blocks_from_index.ensures.reading.device.same
-          ∙ ap (λ (k : Geometry). bytes_of_skip_list (g.D.BlockDevice.blocks c.finish.new.dev) k.block_size c.in_ok-head.head c.in_ok-head.size) (is ∙ sym more.geometry)
+      bytes = ap (λ x. list_bytes x now.block_size c.in_ok-head.head c.in_ok-head.size) c.release_base_from.ensures.reading.device.same
+          ∙ ap (λ (k : Geometry). list_bytes (g.D.BlockDevice.blocks c.finish.new.dev) k.block_size c.in_ok-head.head c.in_ok-head.size) (is ∙ sym more.geometry)
           ∙ finished.bytes ∙ more.content;
     }
 
@@ -116,15 +116,15 @@ returns-clause-own g c =
     let hand = c.args.hand in
     let geometry : Geometry = hand.list.geometry in
     let now : Geometry = g.D.BlockDevice.geometry c.args.dev.now in
-    let longer = c.append_remaining_bytes_of_base_list.new.list in
-    let more = c.in_ok-append_remaining_bytes_of_base_list.ensures.extended in
+    let longer = c.append_base_rest.new.list in
+    let more = c.in_ok-append_base_rest.ensures.extended in
     let finished = c.in_ok-head.ensures.finished in
     let going = c.requires.going in
     let d = g.D.BlockDevice.blocks c.args.dev.now in
-    let e = g.D.BlockDevice.blocks c.append_remaining_bytes_of_base_list.new.dev in
-    let whole = extended_hand c.args.map.now c.append_remaining_bytes_of_base_list.new.map d e hand.list longer hand.base hand.shared _ _ going.list.begun c.append_remaining_bytes_of_base_list.ensures.writing.device.spared c.append_remaining_bytes_of_base_list.ensures.writing.map more in
-    ends_over c.append_remaining_bytes_of_base_list.new.map c.release_base_list_blocks_from_index.new.map d e (g.D.BlockDevice.blocks c.release_base_list_blocks_from_index.new.dev) geometry now longer hand.base hand.shared
-    (record { head = c.in_ok-head.head; size = c.in_ok-head.size; in_flight = true }) going.geometry whole (after_release c.in_ok-release_base_list_blocks_from_index.ensures.released)
-    (blocks_stay c.args.map.now (unwritten_block_of_list hand.list) d e geometry.block_size hand.base.head hand.base.size c.append_remaining_bytes_of_base_list.ensures.writing.device.spared going.list.begun.apart)
-    (ap (λ x. list_blocks_by_head_and_size x geometry.block_size c.in_ok-head.head c.in_ok-head.size) c.release_base_list_blocks_from_index.ensures.reading.device.same
-    ∙ ap (λ (k : Geometry). list_blocks_by_head_and_size (g.D.BlockDevice.blocks c.finish.new.dev) k.block_size c.in_ok-head.head c.in_ok-head.size) (sym more.geometry) ∙ finished.blocks ∙ whole.own) refl
+    let e = g.D.BlockDevice.blocks c.append_base_rest.new.dev in
+    let whole = extended_hand c.args.map.now c.append_base_rest.new.map d e hand.list longer hand.base hand.shared _ _ going.list.begun c.append_base_rest.ensures.writing.device.spared c.append_base_rest.ensures.writing.map more in
+    ends_over c.append_base_rest.new.map c.release_base_from.new.map d e (g.D.BlockDevice.blocks c.release_base_from.new.dev) geometry now longer hand.base hand.shared
+    (record { head = c.in_ok-head.head; size = c.in_ok-head.size; in_flight = true }) going.geometry whole (after_release c.in_ok-release_base_from.ensures.released)
+    (blocks_stay c.args.map.now (unwritten_block hand.list) d e geometry.block_size hand.base.head hand.base.size c.append_base_rest.ensures.writing.device.spared going.list.begun.apart)
+    (ap (λ x. list_blocks_from x geometry.block_size c.in_ok-head.head c.in_ok-head.size) c.release_base_from.ensures.reading.device.same
+    ∙ ap (λ (k : Geometry). list_blocks_from (g.D.BlockDevice.blocks c.finish.new.dev) k.block_size c.in_ok-head.head c.in_ok-head.size) (sym more.geometry) ∙ finished.blocks ∙ whole.own) refl

@@ -1,42 +1,42 @@
 use Rattle.std.proofs.Common.{ℕ, ◌≡◌, ◌≢◌, ◌+◌, ◌*◌, ◌-◌, ◌<◌, ◌≤◌, Bool, if◌then◌else◌, max, sym, ap, ◌∙◌, subst, arith}
 use Rattle.lfs_device.specs.declared.geometry.Geometry.{Geometry}
-use Rattle.lfs_model.specs.Blocks.{Blocks}
-use Rattle.lfs_model.specs.SkipLists.{list_block_count_for_size}
-use Rattle.lfs_model.proofs.ListSizes.{list_block_count_for_size-more}
-use Rattle.lfs_file.specs.Growing.{size_of_growing_list}
-use Rattle.lfs_file.specs.Contents.{block_room_for_truncation}
+use Rattle.lfs_model.specs.format.Blocks.{Blocks}
+use Rattle.lfs_model.specs.format.SkipLists.{block_count_for}
+use Rattle.lfs_model.proofs.ListSizes.{block_count_for-more}
+use Rattle.lfs_file.specs.Growing.{growing_size}
+use Rattle.lfs_file.specs.Contents.{truncation_room}
 use Rattle.lfs_file.specs.Form.{InHand}
-use Rattle.lfs_file.specs.HandWrites.{IsUnfinishedListWithAtLeastOneByte, contents_bytes_of_unfinished_list, contents_length_of_unfinished_list}
+use Rattle.lfs_file.specs.HandWrites.{HasUnfinishedBytes, unfinished_bytes, unfinished_length}
 use Rattle.std.proofs.lemmas.Result.{err_from_is_err_and}
 use Rattle.lfs_file.proofs.Owning.{owned_kept}
 use Rattle.lfs_file.proofs.ContentsCalled.{writes_as, writes_fail, writes_on}
-use Rattle.lfs_file.proofs.Flights.{in_flight_block_limit_of_stored_list-le, either_fits, length-hand, shaped}
+use Rattle.lfs_file.proofs.Flights.{in_flight_limit-le, either_fits, length-hand, shaped}
 use Rattle.lfs_file.proofs.ContentsMemories.{lengthened}
 use Rattle.lfs_file.proofs.Truncations.{room_anew, room_on}
 use Rattle.lfs_file.proofs.new_sizes.lengthen_unfinished_list.Goals as goal
 
 -- the room that the form of the contents takes: for the list in hand, or for another one over it
-on_room : (block_size size end base used all : ℕ) (flying : Bool) → max end base < size → used + block_room_for_truncation block_size size (InHand end base flying) ≤ all → end ≡ max end base
-    → used + list_block_count_for_size block_size size + (if flying then list_block_count_for_size block_size base else 0) ≤ all
+on_room : (block_size size end base used all : ℕ) (flying : Bool) → max end base < size → used + truncation_room block_size size (InHand end base flying) ≤ all → end ≡ max end base
+    → used + block_count_for block_size size + (if flying then block_count_for block_size base else 0) ≤ all
 on_room block_size size end base used all flying longer room same = let e = room_on block_size size end base flying longer same in omega arith
 
-anew_room : (block_size size end base used all : ℕ) (flying : Bool) → max end base < size → used + block_room_for_truncation block_size size (InHand end base flying) ≤ all → end ≢ max end base → used + 2 * list_block_count_for_size block_size size ≤ all
+anew_room : (block_size size end base used all : ℕ) (flying : Bool) → max end base < size → used + truncation_room block_size size (InHand end base flying) ≤ all → end ≢ max end base → used + 2 * block_count_for block_size size ≤ all
 anew_room block_size size end base used all flying longer room ne = let e = room_anew block_size size end base flying longer ne in omega arith
 
-pub restart_unfinished_list_at_position-requires-clause-room : goal.restart_unfinished_list_at_position-requires-clause-room
-restart_unfinished_list_at_position-requires-clause-room g c ne =
+pub restart_list_at-requires-clause-room : goal.restart_list_at-requires-clause-room
+restart_list_at-requires-clause-room g c ne =
     let hand = c.args.hand in
     let now : Geometry = g.D.BlockDevice.geometry c.args.dev.now in
-    let len : c.max-length.result ≡ contents_length_of_unfinished_list hand = (let s = c.size.ensures in let l = c.max-length.ensures in omega arith) in
+    let len : c.max-length.result ≡ unfinished_length hand = (let s = c.size.ensures in let l = c.max-length.ensures in omega arith) in
     let longer = c.requires.longer.0 in
-    let room = anew_room now.block_size c.args.size (size_of_growing_list hand.list) hand.base.size _ _ hand.base.in_flight longer c.requires.room (λ e. ne (e ∙ sym len)) in
-    let few = in_flight_block_limit_of_stored_list-le now.block_size hand.base in
-    let more = list_block_count_for_size-more now.block_size hand.base.size c.args.size (omega arith) in
+    let room = anew_room now.block_size c.args.size (growing_size hand.list) hand.base.size _ _ hand.base.in_flight longer c.requires.room (λ e. ne (e ∙ sym len)) in
+    let few = in_flight_limit-le now.block_size hand.base in
+    let more = block_count_for-more now.block_size hand.base.size c.args.size (omega arith) in
     omega arith
 
 pub write_zeros-requires-clause-small : goal.write_zeros-requires-clause-small
 write_zeros-requires-clause-small g c =
-    let len : c.max-length.result ≡ contents_length_of_unfinished_list c.args.hand = (let s = c.size.ensures in let l = c.max-length.ensures in omega arith) in
+    let len : c.max-length.result ≡ unfinished_length c.args.hand = (let s = c.size.ensures in let l = c.max-length.ensures in omega arith) in
     let longer = c.requires.longer.0 in
     let small = c.requires.longer.1 in
     let at = c.in_ok-turned.ensures.turned.size in
@@ -54,18 +54,18 @@ pub write_zeros-requires-clause-room : goal.write_zeros-requires-clause-room
 write_zeros-requires-clause-room g c =
     let hand = c.args.hand in
     let now : Geometry = g.D.BlockDevice.geometry c.args.dev.now in
-    let len : c.max-length.result ≡ contents_length_of_unfinished_list hand = (let s = c.size.ensures in let l = c.max-length.ensures in omega arith) in
+    let len : c.max-length.result ≡ unfinished_length hand = (let s = c.size.ensures in let l = c.max-length.ensures in omega arith) in
     let longer = c.requires.longer.0 in
     let turned = c.in_ok-turned.turned in
     let at = c.in_ok-turned.ensures.turned.size in
     let over = c.in_ok-turned.ensures.over.over in
     let keeps = c.in_ok-turned.ensures.writing.map in
-    let most : max (contents_length_of_unfinished_list hand) c.args.size ≡ c.args.size = omega arith in
-    let same : list_block_count_for_size now.block_size (max (contents_length_of_unfinished_list hand) c.args.size) ≡ list_block_count_for_size now.block_size c.args.size = ap (list_block_count_for_size now.block_size) most in
-    either_fits now (g.D.BlockDevice.geometry c.restart_unfinished_list_at_position.new.dev) turned.base hand.base _ _ _ _ (size_of_growing_list hand.list) (contents_length_of_unfinished_list hand) (contents_length_of_unfinished_list hand) c.args.size
-    (size_of_growing_list turned.list + (c.args.size - c.max-length.result)) c.restart_unfinished_list_at_position.ensures.writing.device.geometry keeps.used keeps.count (omega arith)
-    (λ e. over.same (e ∙ sym len)) (λ ne. over.size (λ e. ne (e ∙ len))) (on_room now.block_size c.args.size (size_of_growing_list hand.list) hand.base.size _ _ hand.base.in_flight longer c.requires.room)
-    (λ ne. let room = anew_room now.block_size c.args.size (size_of_growing_list hand.list) hand.base.size _ _ hand.base.in_flight longer c.requires.room ne in omega arith)
+    let most : max (unfinished_length hand) c.args.size ≡ c.args.size = omega arith in
+    let same : block_count_for now.block_size (max (unfinished_length hand) c.args.size) ≡ block_count_for now.block_size c.args.size = ap (block_count_for now.block_size) most in
+    either_fits now (g.D.BlockDevice.geometry c.restart_list_at.new.dev) turned.base hand.base _ _ _ _ (growing_size hand.list) (unfinished_length hand) (unfinished_length hand) c.args.size
+    (growing_size turned.list + (c.args.size - c.max-length.result)) c.restart_list_at.ensures.writing.device.geometry keeps.used keeps.count (omega arith)
+    (λ e. over.same (e ∙ sym len)) (λ ne. over.size (λ e. ne (e ∙ len))) (on_room now.block_size c.args.size (growing_size hand.list) hand.base.size _ _ hand.base.in_flight longer c.requires.room)
+    (λ ne. let room = anew_room now.block_size c.args.size (growing_size hand.list) hand.base.size _ _ hand.base.in_flight longer c.requires.room ne in omega arith)
 
 pub returns-clause-lengthened : goal.returns-clause-lengthened
 returns-clause-lengthened g c =
@@ -73,7 +73,7 @@ returns-clause-lengthened g c =
     let geometry : Geometry = hand.list.geometry in
     let d : Blocks = g.D.BlockDevice.blocks c.args.dev.now in
     let going = c.requires.going in
-    let len : c.max-length.result ≡ contents_length_of_unfinished_list hand = (let s = c.size.ensures in let l = c.max-length.ensures in omega arith) in
+    let len : c.max-length.result ≡ unfinished_length hand = (let s = c.size.ensures in let l = c.max-length.ensures in omega arith) in
     let longer = c.requires.longer.0 in
     let at = c.in_ok-turned.ensures.turned in
     let sum = at.size in
@@ -81,9 +81,9 @@ returns-clause-lengthened g c =
     let end = zeroed.at.size in
     let all = length-hand d geometry.block_size (g.D.BlockDevice.geometry c.args.dev.now).block_count hand.list hand.base geometry.valid.no_smaller (shaped d _ _ going.geometry (g.met.D.BlockDevice.shape c.args.dev.now)) going.list.begun.growing going.list.begun.list in
     record {
-      going = subst (λ (k : Geometry). IsUnfinishedListWithAtLeastOneByte c.write_zeros.new.map (g.D.BlockDevice.blocks c.write_zeros.new.dev) k c.write_zeros.new.hand) c.restart_unfinished_list_at_position.ensures.writing.device.geometry (zeroed.going (omega arith));
+      going = subst (λ (k : Geometry). HasUnfinishedBytes c.write_zeros.new.map (g.D.BlockDevice.blocks c.write_zeros.new.dev) k c.write_zeros.new.hand) c.restart_list_at.ensures.writing.device.geometry (zeroed.going (omega arith));
       size = omega arith;
-      bytes = lengthened (contents_bytes_of_unfinished_list d hand) _ _ c.max-length.result _ c.args.size (all ∙ sym len) (omega arith) at.bytes sum zeroed.at.bytes;
+      bytes = lengthened (unfinished_bytes d hand) _ _ c.max-length.result _ c.args.size (all ∙ sym len) (omega arith) at.bytes sum zeroed.at.bytes;
     }
 
 pub returns-in_err-write_zeros-clause-writing : goal.returns-in_err-write_zeros-clause-writing
@@ -94,7 +94,7 @@ returns-in_err-write_zeros-clause-writing g c =
 pub returns-clause-over : goal.returns-clause-over
 returns-clause-over g c =
     let hand = c.args.hand in
-    let len : c.max-length.result ≡ contents_length_of_unfinished_list hand = (let s = c.size.ensures in let l = c.max-length.ensures in omega arith) in
+    let len : c.max-length.result ≡ unfinished_length hand = (let s = c.size.ensures in let l = c.max-length.ensures in omega arith) in
     let over = c.in_ok-turned.ensures.over.over in
     let base = c.write_zeros.ensures.base.same in
     record {
@@ -103,5 +103,5 @@ returns-clause-over g c =
         size = λ ne. ap (λ s. s.size) base ∙ over.size (λ e. ne (e ∙ len));
         flying = λ ne. ap (λ s. s.in_flight) base ∙ over.flying (λ e. ne (e ∙ len));
       };
-      owned = owned_kept _ _ (g.D.BlockDevice.geometry c.args.dev.now) (g.D.BlockDevice.geometry c.restart_unfinished_list_at_position.new.dev) _ _ _ _ _ c.restart_unfinished_list_at_position.ensures.writing.device.geometry c.write_zeros.ensures.map c.in_ok-turned.ensures.over.owned c.write_zeros.ensures.base;
+      owned = owned_kept _ _ (g.D.BlockDevice.geometry c.args.dev.now) (g.D.BlockDevice.geometry c.restart_list_at.new.dev) _ _ _ _ _ c.restart_list_at.ensures.writing.device.geometry c.write_zeros.ensures.map c.in_ok-turned.ensures.over.owned c.write_zeros.ensures.base;
     }

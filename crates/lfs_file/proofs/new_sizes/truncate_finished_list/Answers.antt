@@ -1,12 +1,12 @@
 use Rattle.std.proofs.Common.{ℕ, ◌≡◌, ◌+◌, ◌<◌, ◌≤◌, inl, List, length, sym, ap, ◌∙◌, arith}
 use Rattle.std.proofs.lemmas.Result.{err_from_is_err_and}
-use Rattle.lfs_model.specs.BlockSets.{used_count}
-use Rattle.lfs_model.specs.SkipLists.{list_block_count_for_size}
-use Rattle.lfs_file.specs.BaseRoom.{in_flight_block_limit_of_stored_list}
+use Rattle.lfs_model.specs.layers.BlockSets.{used_count}
+use Rattle.lfs_model.specs.format.SkipLists.{block_count_for}
+use Rattle.lfs_file.specs.BaseRoom.{in_flight_limit}
 use Rattle.lfs_device.specs.declared.geometry.Geometry.{Geometry}
-use Rattle.lfs_model.specs.Blocks.{Blocks}
+use Rattle.lfs_model.specs.format.Blocks.{Blocks}
 use Rattle.lfs_file.specs.Form.{Finished, InHand, InMemory}
-use Rattle.lfs_file.specs.Hand.{bytes_of_stored_list}
+use Rattle.lfs_file.specs.Hand.{stored_list_bytes}
 use Rattle.lfs_file.proofs.Owning.{hand_owned, owned_is}
 use Rattle.lfs_file.proofs.ContentsCalled.{quiet, reported_as, used_reads, writes_as, writes_none, writes_of_reads, writes_same, writes_well}
 use Rattle.lfs_file.proofs.Flights.{length-base}
@@ -19,7 +19,7 @@ returns-then-size-stored-clause-truncated g c =
     let stored = c.args.stored in
     let d : Blocks = g.D.BlockDevice.blocks c.args.dev.now in
     let now : Geometry = g.D.BlockDevice.geometry c.args.dev.now in
-    let old : List ℕ = bytes_of_stored_list d now.block_size stored in
+    let old : List ℕ = stored_list_bytes d now.block_size stored in
     let all = length-base d now.block_size now.block_count stored.head stored.size now.valid.no_smaller (g.met.D.BlockDevice.shape c.args.dev.now) c.requires.stands.base in
     let same : c.args.size ≡ stored.size = c.if-size-stored.true in
     record {
@@ -31,27 +31,27 @@ returns-then-size-stored-clause-truncated g c =
 pub returns-then-size-limit-clause-truncated : goal.returns-then-size-limit-clause-truncated
 returns-then-size-limit-clause-truncated g c =
     let stored = c.args.stored in
-    let old : List ℕ = bytes_of_stored_list (g.D.BlockDevice.blocks c.args.dev.now) (g.D.BlockDevice.geometry c.args.dev.now).block_size stored in
+    let old : List ℕ = stored_list_bytes (g.D.BlockDevice.blocks c.args.dev.now) (g.D.BlockDevice.geometry c.args.dev.now).block_size stored in
     record {
       stands = c.in_ok-list.ensures.quiet;
       has = c.in_ok-list.ensures.bytes;
       form = ap InMemory (ap length c.in_ok-list.ensures.bytes ∙ length-resized c.args.size old) ∙ truncated_few c.args.limit c.args.size (Finished stored.size stored.in_flight) c.if-size-stored.false c.if-size-limit.true;
     }
 
-pub shorten_list_into_memory-requires-clause-stored : goal.shorten_list_into_memory-requires-clause-stored
-shorten_list_into_memory-requires-clause-stored g c = c.requires.stands
+pub shorten_to_memory-requires-clause-stored : goal.shorten_to_memory-requires-clause-stored
+shorten_to_memory-requires-clause-stored g c = c.requires.stands
 
-pub shorten_list_into_memory-requires-clause-short : goal.shorten_list_into_memory-requires-clause-short
-shorten_list_into_memory-requires-clause-short g c = omega (arith, c.if-size-limit.true, c.requires.fits.short)
+pub shorten_to_memory-requires-clause-short : goal.shorten_to_memory-requires-clause-short
+shorten_to_memory-requires-clause-short g c = omega (arith, c.if-size-limit.true, c.requires.fits.short)
 
-pub fill_up_finished_list-requires-clause-stored : goal.fill_up_finished_list-requires-clause-stored
-fill_up_finished_list-requires-clause-stored g c = c.requires.stands
+pub fill_finished-requires-clause-stored : goal.fill_finished-requires-clause-stored
+fill_finished-requires-clause-stored g c = c.requires.stands
 
-pub fill_up_finished_list-requires-clause-room : goal.fill_up_finished_list-requires-clause-room
-fill_up_finished_list-requires-clause-room g c =
+pub fill_finished-requires-clause-room : goal.fill_finished-requires-clause-room
+fill_finished-requires-clause-room g c =
     let n : ℕ = (g.D.BlockDevice.geometry c.args.dev.now).block_size in
     let longer : c.args.stored.size < c.args.size = c.if-stored-size.true in
-    let room : used_count c.args.map.now + (list_block_count_for_size n c.args.size + in_flight_block_limit_of_stored_list n c.args.stored) ≤ length c.args.map.now = c.requires.fits.room (c.if-size-limit.false, longer) in
+    let room : used_count c.args.map.now + (block_count_for n c.args.size + in_flight_limit n c.args.stored) ≤ length c.args.map.now = c.requires.fits.room (c.if-size-limit.false, longer) in
     record { longer = longer; small = c.requires.fits.small; room = omega arith }
 
 pub shorten_stored_list-requires-clause-stored : goal.shorten_stored_list-requires-clause-stored
@@ -64,12 +64,12 @@ pub returns-in_err-list-clause-writing : goal.returns-in_err-list-clause-writing
 returns-in_err-list-clause-writing g c =
     let p = err_from_is_err_and c.from_residual.result c.from_residual.ensures.1 in
     let read = c.in_err-list.ensures.reading in
-    rw (p.1, p.2) (writes_as g.D.BlockDevice (writes_of_reads g.D.BlockDevice c.shorten_list_into_memory.ensures.map read.device read.reports))
+    rw (p.1, p.2) (writes_as g.D.BlockDevice (writes_of_reads g.D.BlockDevice c.shorten_to_memory.ensures.map read.device read.reports))
 
 pub returns-then-size-limit-clause-writing : goal.returns-then-size-limit-clause-writing
 returns-then-size-limit-clause-writing g c =
     let read = c.in_ok-list.ensures.reading in
-    writes_same g.D.BlockDevice (writes_of_reads g.D.BlockDevice c.shorten_list_into_memory.ensures.map read.device read.reports)
+    writes_same g.D.BlockDevice (writes_of_reads g.D.BlockDevice c.shorten_to_memory.ensures.map read.device read.reports)
 
 pub returns-in_err-hand-clause-writing : goal.returns-in_err-hand-clause-writing
 returns-in_err-hand-clause-writing g c =
@@ -112,7 +112,7 @@ returns-clause-truncated g c =
     let stored = c.args.stored in
     let d : Blocks = g.D.BlockDevice.blocks c.args.dev.now in
     let now : Geometry = g.D.BlockDevice.geometry c.args.dev.now in
-    let old : List ℕ = bytes_of_stored_list d now.block_size stored in
+    let old : List ℕ = stored_list_bytes d now.block_size stored in
     let all = length-base d now.block_size now.block_count stored.head stored.size now.valid.no_smaller (g.met.D.BlockDevice.shape c.args.dev.now) c.requires.stands.base in
     let ended = c.in_ok-cut.ensures.cut in
     let less = c.if-stored-size.false in
@@ -126,4 +126,4 @@ returns-clause-truncated g c =
 
 pub returns-then-stored-size-clause-owned : goal.returns-then-stored-size-clause-owned
 returns-then-stored-size-clause-owned g c =
-    hand_owned c.fill_up_finished_list.new.map (g.D.BlockDevice.blocks c.fill_up_finished_list.new.dev) (g.D.BlockDevice.geometry c.args.dev.now) c.in_ok-hand.hand _ c.in_ok-hand.ensures.filled.going (owned_is _ c.in_ok-hand.ensures.base.blocks)
+    hand_owned c.fill_finished.new.map (g.D.BlockDevice.blocks c.fill_finished.new.dev) (g.D.BlockDevice.geometry c.args.dev.now) c.in_ok-hand.hand _ c.in_ok-hand.ensures.filled.going (owned_is _ c.in_ok-hand.ensures.base.blocks)

@@ -1,11 +1,11 @@
 use Rattle.std.proofs.Common.{ℕ, ◌≡◌, ◌+◌, ◌<◌, ◌≤◌, List, [], length, min, sym, ap, ◌∙◌, arith}
 use Rattle.std.proofs.lemmas.Result.{err_from_is_err_and}
-use Rattle.lfs_model.specs.BlockSets.{used_count}
-use Rattle.lfs_model.specs.SkipLists.{list_block_count_for_size}
+use Rattle.lfs_model.specs.layers.BlockSets.{used_count}
+use Rattle.lfs_model.specs.format.SkipLists.{block_count_for}
 use Rattle.lfs_device.specs.declared.geometry.Geometry.{Geometry}
-use Rattle.lfs_model.specs.Blocks.{Blocks}
-use Rattle.lfs_model.specs.Writers.{contents_after_write}
-use Rattle.lfs_file.specs.Contents.{bytes_in_buffer}
+use Rattle.lfs_model.specs.format.Blocks.{Blocks}
+use Rattle.lfs_model.specs.session.Writers.{written_contents}
+use Rattle.lfs_file.specs.Contents.{buffered_bytes}
 use Rattle.lfs_file.specs.Form.{InHand, InMemory}
 use Rattle.lfs_file.proofs.ContentsCalled.{writes_as, writes_none, writes_same}
 use Rattle.lfs_file.proofs.ContentsMemories.{held_size}
@@ -23,44 +23,44 @@ returns-then-size-limit-clause-truncated g c =
       stands = filled.going;
       has = filled.bytes;
       form = ap (λ k. InHand k hand.base.size hand.base.in_flight) filled.size ∙ ap (λ k. InHand c.args.size k hand.base.in_flight) base.0 ∙ ap (InHand c.args.size 0) base.1
-          ∙ truncated_longer c.args.limit c.args.size (InMemory (length (bytes_in_buffer c.args.list))) (omega arith) many;
+          ∙ truncated_longer c.args.limit c.args.size (InMemory (length (buffered_bytes c.args.list))) (omega arith) many;
     }
 
 pub returns-clause-truncated : goal.returns-clause-truncated
 returns-clause-truncated g c =
     let d : Blocks = g.D.BlockDevice.blocks c.args.dev.now in
-    let old : List ℕ = bytes_in_buffer c.args.list in
+    let old : List ℕ = buffered_bytes c.args.list in
     let quiet = c.requires.stands in
     let all = held_size c.args.list quiet.resting.held in
     let size = c.size.ensures in
     let low = c.min.ensures in
     let keep : c.min.result ≡ min (length old) c.args.size = omega arith in
-    let has = c.write_buffered_content_at.ensures.rest ∙ ap (λ (l : List ℕ). contents_after_write l c.args.size []) c.truncate_buffered_content.ensures.rest ∙ resized old c.min.result c.args.size keep in
+    let has = c.write_buffered_at.ensures.rest ∙ ap (λ (l : List ℕ). written_contents l c.args.size []) c.truncate_buffered.ensures.rest ∙ resized old c.min.result c.args.size keep in
     record {
       stands = record {
         idle = quiet.idle;
-        resting = record { geometry = quiet.resting.geometry ∙ sym ((c.write_buffered_content_at.ensures.holds d).geometry ∙ (c.truncate_buffered_content.ensures.holds d).geometry); held = c.write_buffered_content_at.ensures.held };
+        resting = record { geometry = quiet.resting.geometry ∙ sym ((c.write_buffered_at.ensures.holds d).geometry ∙ (c.truncate_buffered.ensures.holds d).geometry); held = c.write_buffered_at.ensures.held };
       };
       has = has;
       form = ap InMemory (ap length has ∙ length-resized c.args.size old) ∙ truncated_held c.args.limit c.args.size (length old) (let few = c.if-size-limit.false in omega arith);
     }
 
-pub write_buffered_content_at-requires-clause-room : goal.write_buffered_content_at-requires-clause-room
-write_buffered_content_at-requires-clause-room g c =
+pub write_buffered_at-requires-clause-room : goal.write_buffered_at-requires-clause-room
+write_buffered_at-requires-clause-room g c =
     let d : Blocks = g.D.BlockDevice.blocks c.args.dev.now in
-    let same = ap (λ (k : Geometry). k.block_size) ((c.truncate_buffered_content.ensures.holds d).geometry ∙ sym c.requires.stands.resting.geometry) in
+    let same = ap (λ (k : Geometry). k.block_size) ((c.truncate_buffered.ensures.holds d).geometry ∙ sym c.requires.stands.resting.geometry) in
     let few = c.if-size-limit.false in
     let short = c.requires.fits.short in
     omega arith
 
-pub fill_up_memory_contents_into_unfinished_list-requires-clause-quiet : goal.fill_up_memory_contents_into_unfinished_list-requires-clause-quiet
-fill_up_memory_contents_into_unfinished_list-requires-clause-quiet g c = c.requires.stands
+pub fill_memory_contents-requires-clause-quiet : goal.fill_memory_contents-requires-clause-quiet
+fill_memory_contents-requires-clause-quiet g c = c.requires.stands
 
-pub fill_up_memory_contents_into_unfinished_list-requires-clause-room : goal.fill_up_memory_contents_into_unfinished_list-requires-clause-room
-fill_up_memory_contents_into_unfinished_list-requires-clause-room g c =
-    let few : length (bytes_in_buffer c.args.list) ≤ c.args.limit = c.requires.fits.large in
+pub fill_memory_contents-requires-clause-room : goal.fill_memory_contents-requires-clause-room
+fill_memory_contents-requires-clause-room g c =
+    let few : length (buffered_bytes c.args.list) ≤ c.args.limit = c.requires.fits.large in
     let many : c.args.limit < c.args.size = c.if-size-limit.true in
-    let room : used_count c.args.map.now + list_block_count_for_size (g.D.BlockDevice.geometry c.args.dev.now).block_size c.args.size ≤ length c.args.map.now = c.requires.fits.room many in
+    let room : used_count c.args.map.now + block_count_for (g.D.BlockDevice.geometry c.args.dev.now).block_size c.args.size ≤ length c.args.map.now = c.requires.fits.room many in
     record { longer = omega arith; small = c.requires.fits.small; room = omega arith }
 
 pub returns-in_err-hand-clause-writing : goal.returns-in_err-hand-clause-writing

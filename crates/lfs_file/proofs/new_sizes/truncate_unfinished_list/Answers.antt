@@ -1,10 +1,10 @@
 use Rattle.std.proofs.Common.{◌≡◌, sym, ap, ◌∙◌, arith}
 use Rattle.std.proofs.lemmas.Result.{err_from_is_err_and}
 use Rattle.lfs_device.specs.declared.geometry.Geometry.{Geometry}
-use Rattle.lfs_model.specs.Blocks.{Blocks}
-use Rattle.lfs_file.specs.Growing.{size_of_growing_list}
+use Rattle.lfs_model.specs.format.Blocks.{Blocks}
+use Rattle.lfs_file.specs.Growing.{growing_size}
 use Rattle.lfs_file.specs.Form.{InHand}
-use Rattle.lfs_file.specs.HandWrites.{contents_bytes_of_unfinished_list, contents_length_of_unfinished_list}
+use Rattle.lfs_file.specs.HandWrites.{unfinished_bytes, unfinished_length}
 use Rattle.lfs_file.proofs.Owning.{hand_owned, owned_right}
 use Rattle.lfs_file.proofs.ContentsCalled.{writes_as, writes_none, writes_same}
 use Rattle.lfs_file.proofs.Flights.{length-hand, shaped}
@@ -17,13 +17,13 @@ returns-then-size-length-clause-truncated g c =
     let geometry : Geometry = hand.list.geometry in
     let d : Blocks = g.D.BlockDevice.blocks c.args.dev.now in
     let going = c.requires.stands in
-    let len : c.max-length.result ≡ contents_length_of_unfinished_list hand = (let s = c.size.ensures in let l = c.max-length.ensures in omega arith) in
-    let same : c.args.size ≡ contents_length_of_unfinished_list hand = c.if-size-length.true ∙ len in
+    let len : c.max-length.result ≡ unfinished_length hand = (let s = c.size.ensures in let l = c.max-length.ensures in omega arith) in
+    let same : c.args.size ≡ unfinished_length hand = c.if-size-length.true ∙ len in
     let all = length-hand d geometry.block_size (g.D.BlockDevice.geometry c.args.dev.now).block_count hand.list hand.base geometry.valid.no_smaller (shaped d _ _ going.geometry (g.met.D.BlockDevice.shape c.args.dev.now)) going.list.begun.growing going.list.begun.list in
     record {
       stands = going;
-      has = resized_none (contents_bytes_of_unfinished_list d hand) c.args.size (same ∙ sym all);
-      form = truncated_same c.args.limit c.args.size (InHand (size_of_growing_list hand.list) hand.base.size hand.base.in_flight) same;
+      has = resized_none (unfinished_bytes d hand) c.args.size (same ∙ sym all);
+      form = truncated_same c.args.limit c.args.size (InHand (growing_size hand.list) hand.base.size hand.base.in_flight) same;
     }
 
 pub lengthen_unfinished_list-requires-clause-going : goal.lengthen_unfinished_list-requires-clause-going
@@ -31,13 +31,13 @@ lengthen_unfinished_list-requires-clause-going g c = c.requires.stands
 
 pub lengthen_unfinished_list-requires-clause-longer : goal.lengthen_unfinished_list-requires-clause-longer
 lengthen_unfinished_list-requires-clause-longer g c =
-    let len : c.max-length.result ≡ contents_length_of_unfinished_list c.args.hand = (let s = c.size.ensures in let l = c.max-length.ensures in omega arith) in
+    let len : c.max-length.result ≡ unfinished_length c.args.hand = (let s = c.size.ensures in let l = c.max-length.ensures in omega arith) in
     let longer = c.if-length-size.true in
     (omega arith, c.requires.fits.small)
 
 pub lengthen_unfinished_list-requires-clause-room : goal.lengthen_unfinished_list-requires-clause-room
 lengthen_unfinished_list-requires-clause-room g c =
-    let len : c.max-length.result ≡ contents_length_of_unfinished_list c.args.hand = (let s = c.size.ensures in let l = c.max-length.ensures in omega arith) in
+    let len : c.max-length.result ≡ unfinished_length c.args.hand = (let s = c.size.ensures in let l = c.max-length.ensures in omega arith) in
     let longer = c.if-length-size.true in
     c.requires.fits.room (λ e. absurd (omega arith))
 
@@ -46,13 +46,13 @@ returns-then-length-size-clause-truncated g c =
     let hand = c.args.hand in
     let wrote = c.in_ok-hand.ensures.lengthened in
     let over = c.in_ok-hand.ensures.over.over in
-    let len : c.max-length.result ≡ contents_length_of_unfinished_list hand = (let s = c.size.ensures in let l = c.max-length.ensures in omega arith) in
+    let len : c.max-length.result ≡ unfinished_length hand = (let s = c.size.ensures in let l = c.max-length.ensures in omega arith) in
     let longer = c.if-length-size.true in
     let large = c.requires.fits.large in
     record {
       stands = wrote.going;
       has = wrote.bytes;
-      form = lengthened_hand c.args.limit (size_of_growing_list hand.list) hand.base.size c.args.size hand.base.in_flight _ _ _ (omega arith) (omega arith) wrote.size
+      form = lengthened_hand c.args.limit (growing_size hand.list) hand.base.size c.args.size hand.base.in_flight _ _ _ (omega arith) (omega arith) wrote.size
           (λ e. (ap (λ s. s.size) (over.same e), ap (λ s. s.in_flight) (over.same e))) (λ ne. (over.size ne, over.flying ne));
     }
 
@@ -82,13 +82,13 @@ pub returns-clause-truncated : goal.returns-clause-truncated
 returns-clause-truncated g c =
     let hand = c.args.hand in
     let cut = c.in_ok-cut.ensures.truncated in
-    let len : c.max-length.result ≡ contents_length_of_unfinished_list hand = (let s = c.size.ensures in let l = c.max-length.ensures in omega arith) in
+    let len : c.max-length.result ≡ unfinished_length hand = (let s = c.size.ensures in let l = c.max-length.ensures in omega arith) in
     let less = c.if-length-size.false in
     let ne = c.if-size-length.false in
     record {
       stands = cut.stands;
       has = cut.has;
-      form = cut.form ∙ truncated_ended c.args.limit c.args.size (size_of_growing_list hand.list) hand.base.size hand.base.in_flight (omega arith);
+      form = cut.form ∙ truncated_ended c.args.limit c.args.size (growing_size hand.list) hand.base.size hand.base.in_flight (omega arith);
     }
 
 pub returns-then-length-size-clause-owned : goal.returns-then-length-size-clause-owned

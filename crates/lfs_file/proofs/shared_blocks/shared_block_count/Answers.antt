@@ -1,8 +1,8 @@
 use Rattle.std.proofs.Common.{ℕ, ◌≡◌, ◌≢◌, ◌-◌, ◌<◌, slice_index, sym, ap, ◌∙◌, subst, arith}
 use Rattle.std.proofs.lemmas.Result.{err_from_is_err_and}
 use Rattle.lfs_device.specs.declared.geometry.Geometry.{Geometry}
-use Rattle.lfs_model.specs.Blocks.{Blocks}
-use Rattle.lfs_model.specs.SkipLists.{list_blocks_from_head}
+use Rattle.lfs_model.specs.format.Blocks.{Blocks}
+use Rattle.lfs_model.specs.format.SkipLists.{blocks_to_head}
 use Rattle.lfs_file.proofs.ContentsCalled.{quiet, read_on, reported_as, reported_on}
 use Rattle.lfs_file.proofs.Releasings.{in_range_at, next_is, next_there}
 use Rattle.lfs_file.proofs.Settlings.{never_corrupt}
@@ -10,15 +10,15 @@ use Rattle.lfs_file.proofs.SharedFronts.{apart_is, is_shared}
 use Rattle.lfs_file.proofs.shared_blocks.shared_block_count.Goals as goal
 
 -- an index stays the same by another name of the blocks
-at_same : (d e : Blocks) (count head index block : ℕ) → e ≡ d → (0 < index → block ≡ slice_index (list_blocks_from_head e count head) (index - 1)) → 0 < index → block ≡ slice_index (list_blocks_from_head d count head) (index - 1)
-at_same d e count head index block same is some = is some ∙ ap (λ (x : Blocks). slice_index (list_blocks_from_head x count head) (index - 1)) same
+at_same : (d e : Blocks) (count head index block : ℕ) → e ≡ d → (0 < index → block ≡ slice_index (blocks_to_head e count head) (index - 1)) → 0 < index → block ≡ slice_index (blocks_to_head d count head) (index - 1)
+at_same d e count head index block same is some = is some ∙ ap (λ (x : Blocks). slice_index (blocks_to_head x count head) (index - 1)) same
 
 pub returns-in_err-twin-clause-reading : goal.returns-in_err-twin-clause-reading
 returns-in_err-twin-clause-reading g c =
     let p = err_from_is_err_and c.from_residual-in_err-twin.result c.from_residual-in_err-twin.ensures.1 in
     let read = c.in_err-twin.ensures.reading in
     rw (p.1, p.2) (record {
-      device = read_on g.D.BlockDevice c.list_block_before_index.ensures.reading.device read.device;
+      device = read_on g.D.BlockDevice c.list_block_before.ensures.reading.device read.device;
       reports = record { faults = reported_on g.D.BlockDevice (quiet g.D.BlockDevice c.in_ok-block.ensures.reading.reports.faults) (reported_as g.D.BlockDevice read.reports.faults); errors = read.reports.errors };
     })
 
@@ -37,9 +37,9 @@ sharing-init g c =
       within = omega arith;
       below = omega arith;
       here = c.in_ok-block.ensures.block;
-      there = at_same d _ c.args.other_count c.args.other c.min-index.result c.in_ok-twin.twin c.list_block_before_index.ensures.reading.device.same c.in_ok-twin.ensures.block;
+      there = at_same d _ c.args.other_count c.args.other c.min-index.result c.in_ok-twin.twin c.list_block_before.ensures.reading.device.same c.in_ok-twin.ensures.block;
       most = λ first second. absurd (omega arith);
-      device = read_on g.D.BlockDevice c.list_block_before_index.ensures.reading.device c.list_block_before_index-2.ensures.reading.device;
+      device = read_on g.D.BlockDevice c.list_block_before.ensures.reading.device c.list_block_before-2.ensures.reading.device;
       quiet = quiet g.D.BlockDevice c.in_ok-twin.ensures.reading.reports.faults ∙ quiet g.D.BlockDevice c.in_ok-block.ensures.reading.reports.faults;
       few = omega arith;
     }
@@ -59,8 +59,8 @@ returns-then-block-twin-clause-few g c =
     let apart = apart_is (g.D.BlockDevice.blocks c.args.dev.now) c.args.count c.args.head c.args.other_count c.args.other c.sharing.index in
     omega arith
 
-pub head_of_list_before_block-requires : goal.head_of_list_before_block-requires
-head_of_list_before_block-requires g c =
+pub head_before_block-requires : goal.head_before_block-requires
+head_before_block-requires g c =
     let inv = c.sharing.invariant in
     let d : Blocks = g.D.BlockDevice.blocks c.args.dev.now in
     let test = c.sharing-test.true in
@@ -71,8 +71,8 @@ head_of_list_before_block-requires g c =
     let same = ap (λ (k : Geometry). k.block_count) inv.device.geometry in
     omega arith
 
-pub head_of_list_before_block-requires-in-sharing : goal.head_of_list_before_block-requires-in-sharing
-head_of_list_before_block-requires-in-sharing g c =
+pub head_before_block-requires-in-sharing : goal.head_before_block-requires-in-sharing
+head_before_block-requires-in-sharing g c =
     let inv = c.sharing.invariant in
     let d : Blocks = g.D.BlockDevice.blocks c.args.dev.now in
     let test = c.sharing-test.true in
@@ -80,7 +80,7 @@ head_of_list_before_block-requires-in-sharing g c =
     let here = inv.there (omega arith) in
     let there = in_range_at d c.args.other_count c.args.other (c.sharing.index - 1) c.requires.other (omega arith) in
     let shape = (g.met.D.BlockDevice.shape c.args.dev.now).count in
-    let same = ap (λ (k : Geometry). k.block_count) (c.head_of_list_before_block.ensures.reading.device.geometry ∙ inv.device.geometry) in
+    let same = ap (λ (k : Geometry). k.block_count) (c.head_before_block.ensures.reading.device.geometry ∙ inv.device.geometry) in
     omega arith
 
 pub returns-in_err-block-2-clause-reading : goal.returns-in_err-block-2-clause-reading
@@ -93,7 +93,7 @@ returns-in_err-block-2-clause-reading g c =
     let p = err_from_is_err_and c.from_residual-in_err-block-2.result c.from_residual-in_err-block-2.ensures.1 in
     let reported = c.in_err-block-2.ensures.reading in
     rw (p.1, p.2) (record {
-      device = read_on g.D.BlockDevice c.sharing.invariant.device c.head_of_list_before_block.ensures.reading.device;
+      device = read_on g.D.BlockDevice c.sharing.invariant.device c.head_before_block.ensures.reading.device;
       reports = record {
         faults = reported_on g.D.BlockDevice inv.quiet (reported_as g.D.BlockDevice reported.faults);
         errors = never_corrupt {T = ℕ} _ reported.errors (λ is.
@@ -107,13 +107,13 @@ returns-in_err-twin-2-clause-reading g c =
     let inv = c.sharing.invariant in
     let test = c.sharing-test.true in
     let below = inv.below in
-    let first = c.head_of_list_before_block.ensures.reading.device in
+    let first = c.head_before_block.ensures.reading.device in
     let shape = (g.met.D.BlockDevice.shape c.args.dev.now).count in
     let same = ap (λ (k : Geometry). k.block_count) (first.geometry ∙ inv.device.geometry) in
     let p = err_from_is_err_and c.from_residual-in_err-twin-2.result c.from_residual-in_err-twin-2.ensures.1 in
     let reported = c.in_err-twin-2.ensures.reading in
     rw (p.1, p.2) (record {
-      device = read_on g.D.BlockDevice (read_on g.D.BlockDevice c.sharing.invariant.device c.head_of_list_before_block.ensures.reading.device) c.head_of_list_before_block-in-sharing.ensures.reading.device;
+      device = read_on g.D.BlockDevice (read_on g.D.BlockDevice c.sharing.invariant.device c.head_before_block.ensures.reading.device) c.head_before_block-in-sharing.ensures.reading.device;
       reports = record {
         faults = reported_on g.D.BlockDevice (quiet g.D.BlockDevice c.in_ok-block-2.ensures.reading.faults ∙ inv.quiet) (reported_as g.D.BlockDevice reported.faults);
         errors = never_corrupt {T = ℕ} _ reported.errors (λ is.
@@ -133,14 +133,14 @@ sharing-preserved g c =
     let few = inv.few in
     let one = c.in_ok-block-2.ensures.few in
     let two = c.in_ok-twin-2.ensures.few in
-    let first = c.head_of_list_before_block.ensures.reading.device in
+    let first = c.head_before_block.ensures.reading.device in
     record {
       within = omega arith;
       below = omega arith;
       here = λ some. next_is d _ c.args.count c.args.head (index - 1) c.sharing.block _ inv.device.same c.requires.chain some (omega arith) (inv.here (omega arith)) (c.in_ok-block-2.ensures.word some);
       there = λ some. next_is d _ c.args.other_count c.args.other (index - 1) c.sharing.twin _ (first.same ∙ inv.device.same) c.requires.other some (omega arith) (inv.there (omega arith)) (c.in_ok-twin-2.ensures.word some);
       most = λ low high same. c.if-block-twin.false (inv.here (omega arith) ∙ same ∙ sym (inv.there (omega arith)));
-      device = read_on g.D.BlockDevice (read_on g.D.BlockDevice inv.device first) c.head_of_list_before_block-in-sharing.ensures.reading.device;
+      device = read_on g.D.BlockDevice (read_on g.D.BlockDevice inv.device first) c.head_before_block-in-sharing.ensures.reading.device;
       quiet = quiet g.D.BlockDevice c.in_ok-twin-2.ensures.reading.faults ∙ quiet g.D.BlockDevice c.in_ok-block-2.ensures.reading.faults ∙ inv.quiet;
       few = omega arith;
     }
@@ -152,7 +152,7 @@ returns-clause-shared g c =
     let test = c.sharing-test.false in
     let none : c.sharing.index ≡ 0 = omega arith in
     is_shared d c.args.count c.args.head c.args.other_count c.args.other c.requires.chain c.requires.other 0 (omega arith) (omega arith) (λ some. absurd (omega arith))
-    (subst (λ n. n < c.args.count → n < c.args.other_count → slice_index (list_blocks_from_head d c.args.count c.args.head) n ≢ slice_index (list_blocks_from_head d c.args.other_count c.args.other) n) none inv.most)
+    (subst (λ n. n < c.args.count → n < c.args.other_count → slice_index (blocks_to_head d c.args.count c.args.head) n ≢ slice_index (blocks_to_head d c.args.other_count c.args.other) n) none inv.most)
 
 pub returns-clause-few : goal.returns-clause-few
 returns-clause-few g c =

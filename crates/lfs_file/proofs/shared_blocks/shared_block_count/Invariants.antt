@@ -1,14 +1,14 @@
 use Rattle.std.proofs.Common.{◌≡◌, ◌≢◌, ◌≤◌, ◌<◌, ◌+◌, ◌-◌, slice_index}
-use Rattle.lfs_device.specs.Calls.{ReadsOnly}
-use Rattle.lfs_model.specs.History.{fault_count_of_history, read_count_of_history}
-use Rattle.lfs_model.specs.SkipLists.{list_blocks_from_head}
+use Rattle.lfs_device.specs.DeviceCalls.{ReadsOnly}
+use Rattle.lfs_model.specs.session.History.{fault_count, read_count}
+use Rattle.lfs_model.specs.format.SkipLists.{blocks_to_head}
 use Rattle.lfs_file.proofs.shared_blocks.shared_block_count.Given as goal
 
 abbrev pub invariant-sharing : goal.invariant-sharing
 invariant-sharing g l =
     let old = l.fn.dev in
-    let blocks = list_blocks_from_head (g.D.BlockDevice.blocks old) l.fn.count l.fn.head in
-    let others = list_blocks_from_head (g.D.BlockDevice.blocks old) l.fn.other_count l.fn.other in
+    let blocks = blocks_to_head (g.D.BlockDevice.blocks old) l.fn.count l.fn.head in
+    let others = blocks_to_head (g.D.BlockDevice.blocks old) l.fn.other_count l.fn.other in
     record {
       within : l.index ≤ l.fn.count;
       below : l.index ≤ l.fn.other_count;
@@ -16,8 +16,8 @@ invariant-sharing g l =
       there : 0 < l.index → l.twin ≡ slice_index others (l.index - 1);
       most : l.index < l.fn.count → l.index < l.fn.other_count → slice_index blocks l.index ≢ slice_index others l.index;
       device : ReadsOnly g.D.BlockDevice old l.dev;
-      quiet : fault_count_of_history (g.D.BlockDevice.history l.dev) ≡ fault_count_of_history (g.D.BlockDevice.history old);
-      few : read_count_of_history (g.D.BlockDevice.history l.dev) + (l.index + l.index) ≤ read_count_of_history (g.D.BlockDevice.history old) + (l.fn.count + l.fn.other_count);
+      quiet : fault_count (g.D.BlockDevice.history l.dev) ≡ fault_count (g.D.BlockDevice.history old);
+      few : read_count (g.D.BlockDevice.history l.dev) + (l.index + l.index) ≤ read_count (g.D.BlockDevice.history old) + (l.fn.count + l.fn.other_count);
     }
 
 abbrev pub decreases-sharing : goal.decreases-sharing

@@ -1,5 +1,5 @@
 use Rattle.std.proofs.Common.{◌≡◌, ◌≤◌, ◌+◌, ◌-◌, length}
-use Rattle.lfs_model.specs.BlockSets.{in_flight_block_count, used_count}
+use Rattle.lfs_model.specs.layers.BlockSets.{in_flight_count, used_count}
 use Rattle.lfs_file.specs.TakenBlocks.{TakesFreeBlocks}
 use Rattle.lfs_file.proofs.taken_blocks.take_blocks.Given as goal
 
@@ -7,7 +7,7 @@ abbrev pub invariant-take_next : goal.invariant-take_next
 invariant-take_next l = record {
   takes : TakesFreeBlocks l.fn.map l.map l.blocks.items;
   few : length l.blocks.items ≤ l.count;
-  flying : in_flight_block_count l.map ≡ in_flight_block_count l.fn.map + length l.blocks.items;
+  flying : in_flight_count l.map ≡ in_flight_count l.fn.map + length l.blocks.items;
   used : used_count l.map ≡ used_count l.fn.map;
 }
 

@@ -2,16 +2,16 @@ use Rattle.std.proofs.Common.{ℕ, ◌≡◌, ◌≤◌, ◌<◌, ◌+◌, ◌-�
 use Rattle.std.proofs.Common.{suc, Result, Err, ◌^◌, ⊎_elim, rules, of_calls}
 use Rattle.std.proofs.lemmas.Bool.{cases_lt}
 use Rattle.std.specs.Int.{w32, trailing_zeros}
-use Rattle.lfs_file.specs.Way.{HasNotedPointersOfWalkedBlocks, count_of_highest_pointer_visits_up_to_index}
+use Rattle.lfs_file.specs.Way.{HasNotedPointers, visit_count}
 use Rattle.lfs_file.proofs.Ways.{none_off, one_on}
 use Rattle.std.specs.List.{FoldsTo}
 use Rattle.lfs_device.specs.declared.error.Error.{Error}
-use Rattle.lfs_file.specs.Right.{AllLaterPointersToIndexNameBlock, AreBlockPointersCopiedToWordList}
+use Rattle.lfs_file.specs.Right.{LaterPointersName, ArePointersCopied}
 use Rattle.std.proofs.lemmas.Result.{err_from_is_err_and}
 use Rattle.std.proofs.lemmas.List.{drop_all}
 use Rattle.lfs_device.specs.declared.geometry.Geometry.{Geometry}
-use Rattle.lfs_model.specs.Blocks.{Blocks, HasBlocksOfCountAndSize, block_bytes_by_number}
-use Rattle.lfs_model.specs.SkipLists.{AreListBlocks, IsSkipList, list_block_count_for_size, list_blocks_from_head, word_at_offset}
+use Rattle.lfs_model.specs.format.Blocks.{Blocks, HasBlockSizes, block_bytes}
+use Rattle.lfs_model.specs.format.SkipLists.{AreListBlocks, IsSkipList, block_count_for, blocks_to_head, word_at}
 use Rattle.lfs_file.proofs.Sizes.{blocks_for-last}
 use Rattle.lfs_file.proofs.Chains.{head_of_back, length_back, in_range_at, back-pointer0}
 use Rattle.lfs_file.proofs.Geometries.{chain, sized, count_by}
@@ -45,7 +45,7 @@ pub loop-index-init : goal.loop-index-init
 loop-index-init g c =
     let old : Blocks = g.D.BlockDevice.blocks c.args.dev.now in
     let last : ℕ = c.blocks_for-last.result - 1 in
-    let none : drop (last + 1) (list_blocks_from_head old (last + 1) c.args.head) ≡ [] = drop_all (last + 1) (list_blocks_from_head old (last + 1) c.args.head) (let l = length_back old (last + 1) c.args.head in omega arith) in
+    let none : drop (last + 1) (blocks_to_head old (last + 1) c.args.head) ≡ [] = drop_all (last + 1) (blocks_to_head old (last + 1) c.args.head) (let l = length_back old (last + 1) c.args.head in omega arith) in
     record {
       low = omega arith;
       at = sym (head_of_back old last c.args.head);
@@ -54,13 +54,13 @@ loop-index-init g c =
       few = λ ok. (let way = c.in_ok-first.ensures.few in omega arith);
       visited = rw none refl;
       callable = search (rules, of_calls);
-      device = c.find_first_block_and_note_walked_blocks.ensures.reading.device;
+      device = c.find_first_block.ensures.reading.device;
       quiet = quiet g.D.BlockDevice c.in_ok-first.ensures.reading.faults;
     }
 
 -- in a list a checked block is right
-module _ (d : Blocks) (geometry made : Geometry) (head size n index block : ℕ) (e : made ≡ geometry) (n_is : n ≡ list_block_count_for_size made.block_size size) (shape : HasBlocksOfCountAndSize geometry.block_size geometry.block_count d)
-    (fits : n - 1 < made.block_count) (some : 0 < index) (le : index ≤ n - 1) (is : block ≡ slice_index (list_blocks_from_head d (n - 1 + 1) head) index) (listed : IsSkipList d geometry.block_size head size) where
+module _ (d : Blocks) (geometry made : Geometry) (head size n index block : ℕ) (e : made ≡ geometry) (n_is : n ≡ block_count_for made.block_size size) (shape : HasBlockSizes geometry.block_size geometry.block_count d)
+    (fits : n - 1 < made.block_count) (some : 0 < index) (le : index ≤ n - 1) (is : block ≡ slice_index (blocks_to_head d (n - 1 + 1) head) index) (listed : IsSkipList d geometry.block_size head size) where
   as_chain : AreListBlocks d (n - 1 + 1) head
   as_chain = chain d made.block_size head size n made.valid.no_smaller n_is (sized d head size geometry made e listed)
 
@@ -74,14 +74,14 @@ few_blocks : (made : Geometry) (last : ℕ) → last < made.block_count → last
 few_blocks made last fits = let many = made.valid.no_more in omega arith
 
 -- and where all of it is checked it is a list
-list_of_walk : (d : Blocks) (head size n first : ℕ) (geometry made : Geometry) → made ≡ geometry → n ≡ list_block_count_for_size made.block_size size → HasBlocksOfCountAndSize geometry.block_size geometry.block_count d
-    → 1 ≤ size → size < 2 ^ 31 → n - 1 < made.block_count → (words : List ℕ) → IsChecked d (n - 1) head first geometry.block_count 0 words → slice_index (list_blocks_from_head d (n - 1 + 1) head) 0 ≡ first
-    → first < geometry.block_count → AllLaterPointersToIndexNameBlock words first 0 (n - 1) → IsSkipList d geometry.block_size head size
+list_of_walk : (d : Blocks) (head size n first : ℕ) (geometry made : Geometry) → made ≡ geometry → n ≡ block_count_for made.block_size size → HasBlockSizes geometry.block_size geometry.block_count d
+    → 1 ≤ size → size < 2 ^ 31 → n - 1 < made.block_count → (words : List ℕ) → IsChecked d (n - 1) head first geometry.block_count 0 words → slice_index (blocks_to_head d (n - 1 + 1) head) 0 ≡ first
+    → first < geometry.block_count → LaterPointersName words first 0 (n - 1) → IsSkipList d geometry.block_size head size
 list_of_walk d head size n first geometry made e n_is shape low high fits words checked is lt named =
     let many = made.valid.no_more in
     let walked = chain_of_walk d (n - 1) head first words (omega arith) (subst (λ k. IsChecked d (n - 1) head first k 0 words) (sym shape.count) checked) is (omega (arith, lt, shape.count)) named in
-    let count : n - 1 + 1 ≡ list_block_count_for_size geometry.block_size size = count_by geometry made size n e low n_is in
-    let whole : AreListBlocks d (list_block_count_for_size geometry.block_size size) head = subst (λ k. AreListBlocks d k head) count walked in
+    let count : n - 1 + 1 ≡ block_count_for geometry.block_size size = count_by geometry made size n e low n_is in
+    let whole : AreListBlocks d (block_count_for geometry.block_size size) head = subst (λ k. AreListBlocks d k head) count walked in
     record { size_low = low; size_high = high; blocks = whole }
 
 pub returns-in_err-before-clause-corrupt : goal.returns-in_err-before-clause-corrupt
@@ -120,28 +120,28 @@ loop-index-preserved g c =
     let old : Blocks = g.D.BlockDevice.blocks c.args.dev.now in
     let last : ℕ = c.blocks_for-last.result - 1 in
     let index : ℕ = c.loop-index.index in
-    let bs : List ℕ = list_blocks_from_head old (last + 1) c.args.head in
+    let bs : List ℕ = blocks_to_head old (last + 1) c.args.head in
     let size = length_back old (last + 1) c.args.head in
     let next : suc (index - 1) ≡ index = omega arith in
     record {
       low = (let l = inv.low in omega arith);
       at = c.in_ok-before.ensures.word
-          ∙ ap (λ d. word_at_offset (block_bytes_by_number d c.loop-index.block) 0) inv.device.same
-          ∙ ap (λ b. word_at_offset (block_bytes_by_number old b) 0) (inv.at ∙ ap (slice_index bs) (sym next))
+          ∙ ap (λ d. word_at (block_bytes d c.loop-index.block) 0) inv.device.same
+          ∙ ap (λ b. word_at (block_bytes old b) 0) (inv.at ∙ ap (slice_index bs) (sym next))
           ∙ back-pointer0 old (last + 1) c.args.head (index - 1) (let l = inv.low in omega arith);
       checked = more_checked old last c.args.head c.in_ok-first.first _ index c.loop-index.block _ _ (few_blocks c.geometry-geometry.result last c.if-last-geometry.false) (omega arith) inv.checked inv.at
           c.in_ok-before.ensures.right.1
-          (subst (λ d. AreBlockPointersCopiedToWordList d c.loop-index.block index c.loop-index.words c.check_block_and_read_previous.new.words) inv.device.same c.in_ok-before.ensures.noted)
+          (subst (λ d. ArePointersCopied d c.loop-index.block index c.loop-index.words c.check_and_step.new.words) inv.device.same c.in_ok-before.ensures.noted)
           inv.low
           (omega (arith, c.in_ok-before.ensures.right.0, ap (λ (k : Geometry). k.block_count) inv.device.geometry))
           c.if-block-first.false;
-      room = c.check_block_and_read_previous.auto.words ∙ inv.room;
+      room = c.check_and_step.auto.words ∙ inv.room;
       few = λ ok.
           let so_far = inv.few ok in
-          let one = c.check_block_and_read_previous.ensures.reads.few in
+          let one = c.check_and_step.ensures.reads.few in
           ⊎_elim
           (λ on.
-          let none = c.check_block_and_read_previous.ensures.reads.known on (c.in_ok-first.ensures.noted.blocks ok index (omega arith) inv.low on ∙ sym inv.at) in
+          let none = c.check_and_step.ensures.reads.known on (c.in_ok-first.ensures.noted.blocks ok index (omega arith) inv.low on ∙ sym inv.at) in
           let here = one_on last index (omega arith) on in
           omega arith)
           (λ off.
@@ -150,13 +150,13 @@ loop-index-preserved g c =
           (cases_lt (last - index) (2 ^ trailing_zeros w32 index));
       visited = visited_more _ _ _ c.visit.new.self bs index c.loop-index.block (index - 1 + 1) (omega (arith, size, inv.low)) inv.at (omega arith) inv.visited (search (rules, of_calls));
       callable = search (rules, of_calls);
-      device = read_on g.D.BlockDevice inv.device c.check_block_and_read_previous.ensures.reading.device;
+      device = read_on g.D.BlockDevice inv.device c.check_and_step.ensures.reading.device;
       quiet = quiet g.D.BlockDevice c.in_ok-before.ensures.reading.faults ∙ inv.quiet;
     }
 
-pub check_block_and_read_previous-requires-clause-way : goal.check_block_and_read_previous-requires-clause-way
-check_block_and_read_previous-requires-clause-way g c =
-    subst (λ d. HasNotedPointersOfWalkedBlocks d (c.blocks_for-last.result - 1) 0 c.find_first_block_and_note_walked_blocks.new.way) (sym c.loop-index.invariant.device.same) c.in_ok-first.ensures.noted.words
+pub check_and_step-requires-clause-way : goal.check_and_step-requires-clause-way
+check_and_step-requires-clause-way g c =
+    subst (λ d. HasNotedPointers d (c.blocks_for-last.result - 1) 0 c.find_first_block.new.way) (sym c.loop-index.invariant.device.same) c.in_ok-first.ensures.noted.words
 
 pub returns-then-block-first-2-clause-corrupt : goal.returns-then-block-first-2-clause-corrupt
 returns-then-block-first-2-clause-corrupt g c is listed =
@@ -173,17 +173,17 @@ returns-clause-well_formed g c =
     let shape = g.met.D.BlockDevice.shape c.args.dev.now in
     let none : c.loop-index.index ≡ 0 = omega arith in
     let first = c.in_ok-first.ensures.in_range in
-    let is : slice_index (list_blocks_from_head old (last + 1) c.args.head) 0 ≡ c.in_ok-first.first = ap (slice_index (list_blocks_from_head old (last + 1) c.args.head)) (sym none) ∙ sym inv.at ∙ c.if-block-first-2.false in
+    let is : slice_index (blocks_to_head old (last + 1) c.args.head) 0 ≡ c.in_ok-first.first = ap (slice_index (blocks_to_head old (last + 1) c.args.head)) (sym none) ∙ sym inv.at ∙ c.if-block-first-2.false in
     list_of_walk old c.args.head c.args.size c.blocks_for-last.result c.in_ok-first.first _ _ c.geometry-geometry.ensures c.blocks_for-last.ensures shape (omega arith) (omega arith) (omega arith)
     _ (subst (λ k. IsChecked old last c.args.head c.in_ok-first.first (g.D.BlockDevice.geometry c.args.dev.now).block_count k c.loop-index.words) none inv.checked) is first
-    (subst (λ b. AllLaterPointersToIndexNameBlock c.loop-index.words b 0 last) c.if-block-first-2.false (c.if-not-is_block_named_by_all_later_pointers.ensures.yes refl))
+    (subst (λ b. LaterPointersName c.loop-index.words b 0 last) c.if-block-first-2.false (c.if-not-named_by_later.ensures.yes refl))
 
 pub returns-clause-few : goal.returns-clause-few
 returns-clause-few g c =
     let last : ℕ = c.blocks_for-last.result - 1 in
     let ok = chain _ _ _ _ _ c.geometry-geometry.result.valid.no_smaller c.blocks_for-last.ensures (sized _ _ _ _ _ c.geometry-geometry.ensures (returns-clause-well_formed g c)) in
     let few = c.loop-index.invariant.few ok in
-    let none : count_of_highest_pointer_visits_up_to_index last c.loop-index.index ≡ 0 = ap (count_of_highest_pointer_visits_up_to_index last) (let e : c.loop-index.index ≡ 0 = omega arith in e) in
+    let none : visit_count last c.loop-index.index ≡ 0 = ap (visit_count last) (let e : c.loop-index.index ≡ 0 = omega arith in e) in
     let count = count_by (g.D.BlockDevice.geometry c.args.dev.now) c.geometry-geometry.result c.args.size c.blocks_for-last.result c.geometry-geometry.ensures (omega arith) c.blocks_for-last.ensures in
     omega (arith, few, none, count)
 
@@ -192,16 +192,16 @@ returns-clause-visited g c =
     let inv = c.loop-index.invariant in
     let old : Blocks = g.D.BlockDevice.blocks c.args.dev.now in
     let last : ℕ = c.blocks_for-last.result - 1 in
-    let bs : List ℕ = list_blocks_from_head old (last + 1) c.args.head in
+    let bs : List ℕ = blocks_to_head old (last + 1) c.args.head in
     let size = length_back old (last + 1) c.args.head in
     let all = visited_more _ _ _ c.visit-2.new.self bs c.loop-index.index c.loop-index.block 0 (omega (arith, size, inv.low)) inv.at (omega arith) inv.visited (search (rules, of_calls)) in
-    subst (λ n. FoldsTo (λ p x q. goal.F-step g p x tt q) c.args.visit.now (reverse (list_blocks_from_head old n c.args.head)) c.visit-2.new.self)
+    subst (λ n. FoldsTo (λ p x q. goal.F-step g p x tt q) c.args.visit.now (reverse (blocks_to_head old n c.args.head)) c.visit-2.new.self)
     (count_by (g.D.BlockDevice.geometry c.args.dev.now) c.geometry-geometry.result c.args.size c.blocks_for-last.result c.geometry-geometry.ensures (omega arith) c.blocks_for-last.ensures) all
 
-pub returns-then-not-is_block_named_by_all_later_pointers-clause-corrupt : goal.returns-then-not-is_block_named_by_all_later_pointers-clause-corrupt
-returns-then-not-is_block_named_by_all_later_pointers-clause-corrupt g c is listed =
+pub returns-then-not-named_by_later-clause-corrupt : goal.returns-then-not-named_by_later-clause-corrupt
+returns-then-not-named_by_later-clause-corrupt g c is listed =
     let inv = c.loop-index.invariant in
     let ok = chain _ _ _ _ _ c.geometry-geometry.result.valid.no_smaller c.blocks_for-last.ensures (sized _ _ _ _ _ c.geometry-geometry.ensures listed) in
     let none : c.loop-index.index ≡ 0 = omega arith in
-    c.if-not-is_block_named_by_all_later_pointers.ensures.no refl (subst (λ k. AllLaterPointersToIndexNameBlock c.loop-index.words c.loop-index.block k (c.blocks_for-last.result - 1)) none
+    c.if-not-named_by_later.ensures.no refl (subst (λ k. LaterPointersName c.loop-index.words c.loop-index.block k (c.blocks_for-last.result - 1)) none
     (named_of_chain _ _ c.args.head _ _ c.loop-index.index _ (few_blocks c.geometry-geometry.result _ c.if-last-geometry.false) inv.checked ok inv.low c.loop-index.block inv.at))

@@ -1,9 +1,9 @@
 use Rattle.std.proofs.Common.{length, ◌≡◌, ◌≤◌, ◌+◌, drop, reverse, slice_index}
 use Rattle.std.specs.List.{FoldsTo}
-use Rattle.lfs_device.specs.Calls.{ReadsOnly}
-use Rattle.lfs_model.specs.History.{fault_count_of_history, read_count_of_history}
-use Rattle.lfs_model.specs.SkipLists.{AreListBlocks, list_blocks_from_head}
-use Rattle.lfs_file.specs.Way.{count_of_highest_pointer_visits_up_to_index}
+use Rattle.lfs_device.specs.DeviceCalls.{ReadsOnly}
+use Rattle.lfs_model.specs.session.History.{fault_count, read_count}
+use Rattle.lfs_model.specs.format.SkipLists.{AreListBlocks, blocks_to_head}
+use Rattle.lfs_file.specs.Way.{visit_count}
 use Rattle.lfs_file.proofs.Walked.{IsChecked}
 use Rattle.lfs_file.proofs.visits.walk.Given as goal
 
@@ -15,14 +15,14 @@ invariant-loop-index g l =
     let old = l.fn.dev in
     record {
       low : l.index ≤ l.last;
-      at : l.block ≡ slice_index (list_blocks_from_head (blocks old) (l.last + 1) l.fn.head) l.index;
+      at : l.block ≡ slice_index (blocks_to_head (blocks old) (l.last + 1) l.fn.head) l.index;
       checked : IsChecked (blocks old) l.last l.fn.head l.first (geometry old).block_count l.index l.words;
       room : length l.words ≡ 128;
-      visited : FoldsTo (λ p x q. goal.F-step g p x tt q) l.fn.visit (reverse (drop (l.index + 1) (list_blocks_from_head (blocks old) (l.last + 1) l.fn.head))) l.visit;
+      visited : FoldsTo (λ p x q. goal.F-step g p x tt q) l.fn.visit (reverse (drop (l.index + 1) (blocks_to_head (blocks old) (l.last + 1) l.fn.head))) l.visit;
       callable : goal.F-IsAlwaysCallable g l.visit;
       device : ReadsOnly g.D.BlockDevice old l.dev;
-      few : AreListBlocks (blocks old) (l.last + 1) l.fn.head → read_count_of_history (history l.dev) + l.index ≤ read_count_of_history (history old) + l.last + count_of_highest_pointer_visits_up_to_index l.last l.index;
-      quiet : fault_count_of_history (history l.dev) ≡ fault_count_of_history (history old);
+      few : AreListBlocks (blocks old) (l.last + 1) l.fn.head → read_count (history l.dev) + l.index ≤ read_count (history old) + l.last + visit_count l.last l.index;
+      quiet : fault_count (history l.dev) ≡ fault_count (history old);
     }
 
 abbrev pub decreases-loop-index : goal.decreases-loop-index

@@ -2,13 +2,13 @@ use Rattle.std.proofs.Common.{ℕ, ◌≡◌, ◌+◌, ◌≤◌, List, length, 
 use Rattle.std.proofs.lemmas.List.{take-replicate, length-replicate}
 use Rattle.std.proofs.lemmas.Result.{err_from_is_err_and}
 use Rattle.lfs_device.specs.declared.geometry.Geometry.{Geometry}
-use Rattle.lfs_model.specs.Writers.{contents_after_write}
-use Rattle.lfs_file.specs.Growing.{size_of_growing_list}
-use Rattle.lfs_file.specs.HandWrites.{IsUnfinishedListConsistentWithMapAndDisk, IsUnfinishedListWithAtLeastOneByte, HasZerosWrittenAtListEnd, contents_bytes_of_unfinished_list}
+use Rattle.lfs_model.specs.session.Writers.{written_contents}
+use Rattle.lfs_file.specs.Growing.{growing_size}
+use Rattle.lfs_file.specs.HandWrites.{UnfinishedListOnDisk, HasUnfinishedBytes, EndsInZeros, unfinished_bytes}
 use Rattle.lfs_file.proofs.Owning.{list_same, list_then}
 use Rattle.lfs_file.proofs.ContentsCalled.{not_read, quiet, reported_as, reported_on, used_on, used_reads}
 use Rattle.lfs_file.proofs.Flights.{in_hand, more_zeros, part_fits, shaped, wrote_none}
-use Rattle.lfs_file.proofs.Spared.{KeepsUsedBlocksInMap-refl, KeepsUsedBlocksInMap-trans}
+use Rattle.lfs_file.proofs.Spared.{KeepsUsedBlocks-refl, KeepsUsedBlocks-trans}
 use Rattle.lfs_file.proofs.zeros.write_zeros.Goals as goal
 
 pub zeroing-init : goal.zeroing-init
@@ -21,22 +21,22 @@ zeroing-init g c =
     record {
       few = omega arith;
       zeroed = record {
-        at = record { begun = begun; size = omega arith; bytes = wrote_none (contents_bytes_of_unfinished_list d hand) (size_of_growing_list hand.list) long };
+        at = record { begun = begun; size = omega arith; bytes = wrote_none (unfinished_bytes d hand) (growing_size hand.list) long };
         going = λ some. absurd (omega arith);
       };
       base = list_same _ _ _;
-      map = KeepsUsedBlocksInMap-refl c.args.map.now;
+      map = KeepsUsedBlocks-refl c.args.map.now;
       device = used_reads g.D.BlockDevice c.args.map.now (not_read g.D.BlockDevice c.args.dev.now);
       quiet = refl;
     }
 
-pub append_bytes_to_unfinished_list-requires-clause-begun : goal.append_bytes_to_unfinished_list-requires-clause-begun
-append_bytes_to_unfinished_list-requires-clause-begun g c =
+pub append_to_unfinished-requires-clause-begun : goal.append_to_unfinished-requires-clause-begun
+append_to_unfinished-requires-clause-begun g c =
     let inv = c.zeroing.invariant in
-    subst (λ (k : Geometry). IsUnfinishedListConsistentWithMapAndDisk c.zeroing.map (g.D.BlockDevice.blocks c.zeroing.dev) k c.zeroing.hand) (sym inv.device.geometry) inv.zeroed.at.begun
+    subst (λ (k : Geometry). UnfinishedListOnDisk c.zeroing.map (g.D.BlockDevice.blocks c.zeroing.dev) k c.zeroing.hand) (sym inv.device.geometry) inv.zeroed.at.begun
 
-pub append_bytes_to_unfinished_list-requires-clause-room : goal.append_bytes_to_unfinished_list-requires-clause-room
-append_bytes_to_unfinished_list-requires-clause-room g c =
+pub append_to_unfinished-requires-clause-room : goal.append_to_unfinished-requires-clause-room
+append_to_unfinished-requires-clause-room g c =
     let inv = c.zeroing.invariant in
     let n : ℕ = c.min-part.result in
     let few : n ≤ 512 = (let m = c.min-part.ensures in omega arith) in
@@ -46,10 +46,10 @@ append_bytes_to_unfinished_list-requires-clause-room g c =
     let test = c.zeroing-test.true in
     let size = inv.zeroed.at.size in
     part_fits (g.D.BlockDevice.geometry c.args.dev.now) (g.D.BlockDevice.geometry c.zeroing.dev) c.zeroing.hand.base c.args.hand.now.base _ _ _ _
-    (size_of_growing_list c.zeroing.hand.list + length zeros) (size_of_growing_list c.args.hand.now.list + c.args.count) inv.device.geometry inv.base.same (omega arith) inv.map.used inv.map.count c.requires.room
+    (growing_size c.zeroing.hand.list + length zeros) (growing_size c.args.hand.now.list + c.args.count) inv.device.geometry inv.base.same (omega arith) inv.map.used inv.map.count c.requires.room
 
-pub returns-in_err-append_bytes_to_unfinished_list-clause-device : goal.returns-in_err-append_bytes_to_unfinished_list-clause-device
-returns-in_err-append_bytes_to_unfinished_list-clause-device g c = used_on g.D.BlockDevice c.zeroing.invariant.map c.zeroing.invariant.device c.append_bytes_to_unfinished_list.ensures.device
+pub returns-in_err-append_to_unfinished-clause-device : goal.returns-in_err-append_to_unfinished-clause-device
+returns-in_err-append_to_unfinished-clause-device g c = used_on g.D.BlockDevice c.zeroing.invariant.map c.zeroing.invariant.device c.append_to_unfinished.ensures.device
 
 pub zeroing-preserved : goal.zeroing-preserved
 zeroing-preserved g c =
@@ -65,42 +65,42 @@ zeroing-preserved g c =
     let long = in_hand d geometry.block_size (g.D.BlockDevice.geometry c.args.dev.now).block_count hand.list hand.base geometry.valid.no_smaller (shaped d _ _ begun.geometry (g.met.D.BlockDevice.shape c.args.dev.now)) begun.begun.growing in
     let m = c.min-part.ensures in
     let test = c.zeroing-test.true in
-    let wrote = c.in_ok-append_bytes_to_unfinished_list.ensures.written in
+    let wrote = c.in_ok-append_to_unfinished.ensures.written in
     let size = inv.zeroed.at.size in
     let sum = wrote.size in
     let len : length zeros ≡ n = ap length part ∙ length-replicate {A = ℕ} n 0 in
-    let going = subst (λ (k : Geometry). IsUnfinishedListWithAtLeastOneByte c.append_bytes_to_unfinished_list.new.map (g.D.BlockDevice.blocks c.append_bytes_to_unfinished_list.new.dev) k c.append_bytes_to_unfinished_list.new.hand) inv.device.geometry wrote.going in
+    let going = subst (λ (k : Geometry). HasUnfinishedBytes c.append_to_unfinished.new.map (g.D.BlockDevice.blocks c.append_to_unfinished.new.dev) k c.append_to_unfinished.new.hand) inv.device.geometry wrote.going in
     record {
       few = omega arith;
       zeroed = record {
         at = record {
           begun = record { geometry = going.geometry; begun = going.list.begun };
           size = omega arith;
-          bytes = more_zeros (contents_bytes_of_unfinished_list d hand) _ _ zeros (size_of_growing_list hand.list) _ c.zeroing.done n long inv.zeroed.at.bytes inv.zeroed.at.size part wrote.bytes;
+          bytes = more_zeros (unfinished_bytes d hand) _ _ zeros (growing_size hand.list) _ c.zeroing.done n long inv.zeroed.at.bytes inv.zeroed.at.size part wrote.bytes;
         };
         going = λ some. going;
       };
-      base = list_then _ _ _ _ _ _ _ _ inv.device.geometry inv.base c.append_bytes_to_unfinished_list.ensures.base;
-      map = KeepsUsedBlocksInMap-trans inv.map c.append_bytes_to_unfinished_list.ensures.map;
-      device = used_on g.D.BlockDevice inv.map inv.device c.append_bytes_to_unfinished_list.ensures.device;
-      quiet = quiet g.D.BlockDevice c.in_ok-append_bytes_to_unfinished_list.ensures.reports.faults ∙ inv.quiet;
+      base = list_then _ _ _ _ _ _ _ _ inv.device.geometry inv.base c.append_to_unfinished.ensures.base;
+      map = KeepsUsedBlocks-trans inv.map c.append_to_unfinished.ensures.map;
+      device = used_on g.D.BlockDevice inv.map inv.device c.append_to_unfinished.ensures.device;
+      quiet = quiet g.D.BlockDevice c.in_ok-append_to_unfinished.ensures.reports.faults ∙ inv.quiet;
     }
 
-pub returns-in_err-append_bytes_to_unfinished_list-clause-reports : goal.returns-in_err-append_bytes_to_unfinished_list-clause-reports
-returns-in_err-append_bytes_to_unfinished_list-clause-reports g c =
+pub returns-in_err-append_to_unfinished-clause-reports : goal.returns-in_err-append_to_unfinished-clause-reports
+returns-in_err-append_to_unfinished-clause-reports g c =
     let p = err_from_is_err_and c.from_residual.result c.from_residual.ensures.1 in
-    rw (p.1, p.2) (record { faults = reported_on g.D.BlockDevice c.zeroing.invariant.quiet (reported_as g.D.BlockDevice c.in_err-append_bytes_to_unfinished_list.ensures.reports.faults); errors = c.in_err-append_bytes_to_unfinished_list.ensures.reports.errors })
+    rw (p.1, p.2) (record { faults = reported_on g.D.BlockDevice c.zeroing.invariant.quiet (reported_as g.D.BlockDevice c.in_err-append_to_unfinished.ensures.reports.faults); errors = c.in_err-append_to_unfinished.ensures.reports.errors })
 
 pub returns-clause-zeroed : goal.returns-clause-zeroed
 returns-clause-zeroed g c =
     let inv = c.zeroing.invariant in
     let hand = c.args.hand.now in
     let all : c.zeroing.done ≡ c.args.count = (let few = inv.few in let test = c.zeroing-test.false in omega arith) in
-    subst (λ n. HasZerosWrittenAtListEnd c.zeroing.map (g.D.BlockDevice.blocks c.zeroing.dev) (g.D.BlockDevice.geometry c.args.dev.now) c.zeroing.hand n (size_of_growing_list hand.list + n)
-    (contents_after_write (contents_bytes_of_unfinished_list (g.D.BlockDevice.blocks c.args.dev.now) hand) (size_of_growing_list hand.list) (replicate n 0))) all inv.zeroed
+    subst (λ n. EndsInZeros c.zeroing.map (g.D.BlockDevice.blocks c.zeroing.dev) (g.D.BlockDevice.geometry c.args.dev.now) c.zeroing.hand n (growing_size hand.list + n)
+    (written_contents (unfinished_bytes (g.D.BlockDevice.blocks c.args.dev.now) hand) (growing_size hand.list) (replicate n 0))) all inv.zeroed
 
-pub returns-in_err-append_bytes_to_unfinished_list-clause-base : goal.returns-in_err-append_bytes_to_unfinished_list-clause-base
-returns-in_err-append_bytes_to_unfinished_list-clause-base g c = list_then _ _ _ _ _ _ _ _ c.zeroing.invariant.device.geometry c.zeroing.invariant.base c.append_bytes_to_unfinished_list.ensures.base
+pub returns-in_err-append_to_unfinished-clause-base : goal.returns-in_err-append_to_unfinished-clause-base
+returns-in_err-append_to_unfinished-clause-base g c = list_then _ _ _ _ _ _ _ _ c.zeroing.invariant.device.geometry c.zeroing.invariant.base c.append_to_unfinished.ensures.base
 
-pub returns-in_err-append_bytes_to_unfinished_list-clause-map : goal.returns-in_err-append_bytes_to_unfinished_list-clause-map
-returns-in_err-append_bytes_to_unfinished_list-clause-map g c = KeepsUsedBlocksInMap-trans c.zeroing.invariant.map c.append_bytes_to_unfinished_list.ensures.map
+pub returns-in_err-append_to_unfinished-clause-map : goal.returns-in_err-append_to_unfinished-clause-map
+returns-in_err-append_to_unfinished-clause-map g c = KeepsUsedBlocks-trans c.zeroing.invariant.map c.append_to_unfinished.ensures.map

@@ -1,7 +1,7 @@
 use Rattle.std.proofs.Common.{◌≡◌, ◌+◌, ◌*◌, take}
-use Rattle.lfs_device.specs.Calls.{ChangesOnlyThisBlock}
-use Rattle.lfs_model.specs.Blocks.{block_bytes_by_number}
-use Rattle.lfs_model.specs.History.{AreBytesUnprogrammed, erase_count_of_history, program_count_of_history, fault_count_of_history}
+use Rattle.lfs_device.specs.DeviceCalls.{ChangesOnlyThisBlock}
+use Rattle.lfs_model.specs.format.Blocks.{block_bytes}
+use Rattle.lfs_model.specs.session.History.{AreUnprogrammed, erase_count, program_count, fault_count}
 use Rattle.lfs_fixtures.proofs.copy.copy_block.Given as goal
 
 -- the pages so far are copied, and the bytes behind them are unprogrammed
@@ -12,9 +12,9 @@ invariant-loop-page g l =
     let old = l.fn.device in
     record {
       device : ChangesOnlyThisBlock g.D.BlockDevice l.to old l.device;
-      front : take (l.page * l.geometry.page) (block_bytes_by_number (blocks l.device) l.to) ≡ take (l.page * l.geometry.page) (block_bytes_by_number (blocks old) l.from);
-      unprogrammed : AreBytesUnprogrammed (history l.device) l.to (l.page * l.geometry.page) l.geometry.block_size;
-      erases : erase_count_of_history (history l.device) ≡ erase_count_of_history (history old) + 1;
-      programs : program_count_of_history (history l.device) ≡ program_count_of_history (history old) + l.page;
-      no_fault : fault_count_of_history (history l.device) ≡ fault_count_of_history (history old);
+      front : take (l.page * l.geometry.page) (block_bytes (blocks l.device) l.to) ≡ take (l.page * l.geometry.page) (block_bytes (blocks old) l.from);
+      unprogrammed : AreUnprogrammed (history l.device) l.to (l.page * l.geometry.page) l.geometry.block_size;
+      erases : erase_count (history l.device) ≡ erase_count (history old) + 1;
+      programs : program_count (history l.device) ≡ program_count (history old) + l.page;
+      no_fault : fault_count (history l.device) ≡ fault_count (history old);
     }

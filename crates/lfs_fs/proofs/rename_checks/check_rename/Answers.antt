@@ -1,38 +1,38 @@
 use Rattle.std.proofs.Common.{refl, subst, sym, ap, ◌∙◌}
-use Rattle.lfs_model.specs.Operations as ops
-use Rattle.lfs_model.specs.Thread.{gstate_of_pairs}
-use Rattle.lfs_tree.specs.RenamePaths.{AreFindingsAtBothRenamePaths}
+use Rattle.lfs_model.specs.session.Operations as ops
+use Rattle.lfs_model.specs.format.Thread.{pairs_gstate}
+use Rattle.lfs_tree.specs.RenameFindings.{AreRenameFindings}
 use Rattle.lfs_tree.specs.TreeState.{TreeState, tree_view}
-use Rattle.lfs_fs.specs.SessionView.{session_view_of_tree_and_files}
+use Rattle.lfs_fs.specs.SessionView.{view_of_session}
 use Rattle.lfs_fs.proofs.Answered.{ready_later}
 use Rattle.lfs_fs.proofs.Checked.{lookup_failed}
 use Rattle.lfs_fs.proofs.Errors.{given_on}
 use Rattle.lfs_fs.proofs.RenameChecks.{passes_late, passes_later, refused_at_once, rename_checked, renaming_is}
 use Rattle.lfs_fs.proofs.rename_checks.check_rename.Goals as goal
 
-pub rename_refusal_by_findings-refusal-requires-clause-ready : goal.rename_refusal_by_findings-refusal-requires-clause-ready
-rename_refusal_by_findings-refusal-requires-clause-ready g c = ready_later _ _ c.args.files.now (c.requires c.in_ok-paths.ensures.passes.works) c.in_ok-found.ensures.asks.asked
+pub rename_refusal_of-refusal-requires-clause-ready : goal.rename_refusal_of-refusal-requires-clause-ready
+rename_refusal_of-refusal-requires-clause-ready g c = ready_later _ _ c.args.files.now (c.requires c.in_ok-paths.ensures.passes.works) c.in_ok-found.ensures.asks.asked
 
-pub rename_refusal_by_findings-refusal-requires-clause-passes : goal.rename_refusal_by_findings-refusal-requires-clause-passes
-rename_refusal_by_findings-refusal-requires-clause-passes g c = passes_later _ _ c.args.old.now c.args.new.now _ c.in_ok-found.ensures.asks.asked c.in_ok-paths.ensures.passes
+pub rename_refusal_of-refusal-requires-clause-passes : goal.rename_refusal_of-refusal-requires-clause-passes
+rename_refusal_of-refusal-requires-clause-passes g c = passes_later _ _ c.args.old.now c.args.new.now _ c.in_ok-found.ensures.asks.asked c.in_ok-paths.ensures.passes
 
-pub rename_refusal_by_findings-refusal-requires-clause-found : goal.rename_refusal_by_findings-refusal-requires-clause-found
-rename_refusal_by_findings-refusal-requires-clause-found g c =
-    subst (λ t. AreFindingsAtBothRenamePaths (tree_view t) c.in_ok-paths.paths.from c.in_ok-paths.paths.to c.in_ok-found.found) (sym c.in_ok-found.ensures.asks.asked.same) c.in_ok-found.ensures.found
+pub rename_refusal_of-refusal-requires-clause-found : goal.rename_refusal_of-refusal-requires-clause-found
+rename_refusal_of-refusal-requires-clause-found g c =
+    subst (λ t. AreRenameFindings (tree_view t) c.in_ok-paths.paths.from c.in_ok-paths.paths.to c.in_ok-found.found) (sym c.in_ok-found.ensures.asks.asked.same) c.in_ok-found.ensures.found
 
 pub returns : goal.returns
 returns g c =
     let asked = c.in_ok-found.ensures.asks.asked in
-    rename_checked c.args.tree.now c.args.files.now c.args.old.now c.args.new.now c.in_ok-paths.paths c.look_up_rename.new.self c.rename_refusal_by_findings-refusal.result _ c.value_unless_checks_refuse.result c.in_ok-paths.ensures.passes asked c.rename_refusal_by_findings-refusal.ensures
+    rename_checked c.args.tree.now c.args.files.now c.args.old.now c.args.new.now c.in_ok-paths.paths c.look_up_rename.new.self c.rename_refusal_of-refusal.result _ c.value_or_refusal.result c.in_ok-paths.ensures.passes asked c.rename_refusal_of-refusal.ensures
     (renaming_is c.args.tree.now c.look_up_rename.new.self c.args.old.now c.args.new.now c.in_ok-paths.paths _ c.in_ok-paths.ensures.passes refl refl refl c.in_ok-found.ensures.targets
-    (λ settled. c.in_ok-found.ensures.handed_on (sym (ap (λ (t : TreeState). gstate_of_pairs t.pairs) asked.same) ∙ settled)))
-    c.value_unless_checks_refuse.ensures
+    (λ settled. c.in_ok-found.ensures.handed_on (sym (ap (λ (t : TreeState). pairs_gstate t.pairs) asked.same) ∙ settled)))
+    c.value_or_refusal.ensures
 
 pub returns-in_err-paths : goal.returns-in_err-paths
 returns-in_err-paths g c = refused_at_once c.args.tree.now c.args.files.now (ops.Rename c.args.old.now c.args.new.now) c.in_err-paths.field-0.0 _ c.from_residual.result c.in_err-paths.ensures.refused (given_on _ c.from_residual.result c.from_residual.ensures.1)
 
 pub returns-in_err-found : goal.returns-in_err-found
 returns-in_err-found g c =
-    lookup_failed (session_view_of_tree_and_files c.args.tree.now c.args.files.now) (ops.Rename c.args.old.now c.args.new.now) _ c.in_err-found.field-0.0 _ c.from_residual-in_err-found.result (sym c.in_ok-paths.ensures.passes.works) c.in_err-found.ensures.asks.broken c.in_err-found.ensures.asks.errors
+    lookup_failed (view_of_session c.args.tree.now c.args.files.now) (ops.Rename c.args.old.now c.args.new.now) _ c.in_err-found.field-0.0 _ c.from_residual-in_err-found.result (sym c.in_ok-paths.ensures.passes.works) c.in_err-found.ensures.asks.broken c.in_err-found.ensures.asks.errors
     (passes_late c.args.tree.now c.args.files.now c.args.old.now c.args.new.now c.in_ok-paths.paths c.in_ok-paths.ensures.passes)
     (given_on _ c.from_residual-in_err-found.result c.from_residual-in_err-found.ensures.1)

@@ -1,16 +1,16 @@
 use Rattle.std.proofs.Common.{ap, subst, sym}
-use Rattle.lfs_model.specs.Disk.{Disk}
+use Rattle.lfs_model.specs.format.Disk.{Disk}
 use Rattle.lfs_fs.proofs.FreshBegun.{mount_state}
-use Rattle.lfs_model.specs.View.{IsAcceptedImage}
-use Rattle.lfs_fs.specs.FileView.{open_files_view}
-use Rattle.lfs_fs.specs.SessionView.{IsSessionReadyForCalls}
+use Rattle.lfs_model.specs.tree.View.{IsAccepted}
+use Rattle.lfs_fs.specs.FileView.{files_view}
+use Rattle.lfs_fs.specs.SessionView.{IsReady}
 use Rattle.lfs_fs.proofs.Remounting.{mounted_ready}
 use Rattle.lfs_fs.proofs.session.mount.Goals as goal
 
 pub invariant_of-result : goal.invariant_of-result
 invariant_of-result g c = record {
-  ready = λ works. subst (IsSessionReadyForCalls c.in-Ok.tree) (sym c.without_open_files.ensures) (mounted_ready _ _ c.in-Ok.tree c.in-Ok.ensures.mounted);
-  reported = λ works. c.show_conforming_device_calls_to_proof.ensures;
+  ready = λ works. subst (IsReady c.in-Ok.tree) (sym c.without_open_files.ensures) (mounted_ready _ _ c.in-Ok.tree c.in-Ok.ensures.mounted);
+  reported = λ works. c.lemma_calls_conform.ensures;
 }
 
 pub returns-in-Ok-clause-begun : goal.returns-in-Ok-clause-begun
@@ -19,10 +19,10 @@ returns-in-Ok-clause-begun g c =
     record {
       works = m.works;
       disk_is = m.disk_is;
-      accepted = subst (λ (d : Disk). IsAcceptedImage d c.in-Ok.tree.pairs) m.disk_is m.sound.accepted;
+      accepted = subst (λ (d : Disk). IsAccepted d c.in-Ok.tree.pairs) m.disk_is m.sound.accepted;
       reads = m.reads;
       no_fault = m.no_fault;
-      no_files = ap (open_files_view c.in-Ok.tree) c.without_open_files.ensures;
+      no_files = ap (files_view c.in-Ok.tree) c.without_open_files.ensures;
     }
 
 pub returns-in-Ok-clause-state : goal.returns-in-Ok-clause-state

@@ -3,7 +3,7 @@ use Rattle.lfs_fs.proofs.StoppedCalls.{store_left}
 use Rattle.lfs_fs.proofs.writers.writer_after_saving.Goals as goal
 
 pub commit_writer_contents-requires : goal.commit_writer_contents-requires
-commit_writer_contents-requires g c = can_store c.args.tree.now c.args.writer c.in-Some.unsaved _ c.requires c.in-Some.is c.lend.ensures c.reserved_blocks_suffice_for_calls.ensures.end
+commit_writer_contents-requires g c = can_store c.args.tree.now c.args.writer c.in-Some.unsaved _ c.requires c.in-Some.is c.lend.ensures c.lemma_reserve_suffices.ensures.end
 
 pub returns-clause-saved : goal.returns-clause-saved
 returns-clause-saved g c = has_saved c.args.tree.now c.commit_writer_contents.new.self c.args.writer c.in-Some.unsaved _ c.requires c.in-Some.is c.lend.ensures c.in_ok-commit_writer_contents.ensures.stored

@@ -1,7 +1,7 @@
 use Rattle.std.proofs.Common.{◌∙◌, Err, ap, refl, subst, sym}
 use Rattle.std.specs.Prelude.{IfErr}
 use Rattle.std.proofs.lemmas.Result.{err_from_is_err_and}
-use Rattle.lfs_tree.specs.TreeState.{IsIoWithFaultOrNoMemory}
+use Rattle.lfs_tree.specs.TreeState.{HasErrorCause}
 use Rattle.lfs_fs.proofs.Questions.{error_either}
 use Rattle.lfs_fs.proofs.Writing.{beside_later, broken_after, can_truncate, has_truncated}
 use Rattle.lfs_fs.proofs.Stopping.{nothing_yet, then_reads}
@@ -12,7 +12,7 @@ pub truncate-requires : goal.truncate-requires
 truncate-requires g c =
     let k = c.in_ok-contents.ensures in
     can_truncate c.args.tree.now c.contents_of_writer.new.tree c.args.writer c.args.new_size c.in_ok-contents.contents _ c.requires k.asked k.over refl k.form
-    c.reserved_blocks_suffice_for_calls.ensures.large c.reserved_blocks_suffice_for_calls.ensures.truncate
+    c.lemma_reserve_suffices.ensures.large c.lemma_reserve_suffices.ensures.truncate
 
 pub returns-in_err-contents-2-clause-broken : goal.returns-in_err-contents-2-clause-broken
 returns-in_err-contents-2-clause-broken g c = broken_after c.args.tree.now c.contents_of_writer.new.tree c.truncate.new.self c.from_residual-in_err-contents-2.result c.in_ok-contents.ensures.asked c.in_err-contents-2.ensures.writes.broken
@@ -20,16 +20,16 @@ returns-in_err-contents-2-clause-broken g c = broken_after c.args.tree.now c.con
 pub returns-in_err-contents-2-clause-errors : goal.returns-in_err-contents-2-clause-errors
 returns-in_err-contents-2-clause-errors g c =
     let p = err_from_is_err_and c.from_residual-in_err-contents-2.result c.from_residual-in_err-contents-2.ensures.1 in
-    subst (λ r. IfErr r (IsIoWithFaultOrNoMemory c.args.tree.now c.truncate.new.self)) (sym p.1)
-    (subst (λ r. IfErr r (IsIoWithFaultOrNoMemory c.args.tree.now c.truncate.new.self)) (c.in_err-contents-2.was ∙ ap Err (sym p.2))
+    subst (λ r. IfErr r (HasErrorCause c.args.tree.now c.truncate.new.self)) (sym p.1)
+    (subst (λ r. IfErr r (HasErrorCause c.args.tree.now c.truncate.new.self)) (c.in_err-contents-2.was ∙ ap Err (sym p.2))
     (error_either c.args.tree.now c.contents_of_writer.new.tree c.truncate.new.self c.truncate.result c.in_ok-contents.ensures.asked c.truncate.ensures.writes.errors))
 
 pub returns-clause-written : goal.returns-clause-written
 returns-clause-written g c =
     let k = c.in_ok-contents.ensures in
     let l = c.in_ok-contents-2.ensures in
-    has_truncated c.args.tree.now c.contents_of_writer.new.tree c.truncate.new.self c.args.writer c.args.new_size c.is_nonsequential_after_resize-has_turned.result c.last_change_end_after_resize-last_end.result c.in_ok-contents.contents c.in_ok-contents-2.contents _
-    c.requires k.asked k.over refl k.form k.bytes c.contents_forms_fit_writer_after_calls.ensures.truncated l.writes.beside l.over l.truncated.bytes l.truncated.form c.is_nonsequential_after_resize-has_turned.ensures c.last_change_end_after_resize-last_end.ensures
+    has_truncated c.args.tree.now c.contents_of_writer.new.tree c.truncate.new.self c.args.writer c.args.new_size c.turns_by_resize-has_turned.result c.change_end_resized-last_end.result c.in_ok-contents.contents c.in_ok-contents-2.contents _
+    c.requires k.asked k.over refl k.form k.bytes c.lemma_forms_fit.ensures.truncated l.writes.beside l.over l.truncated.bytes l.truncated.form c.turns_by_resize-has_turned.ensures c.change_end_resized-last_end.ensures
 
 pub returns-clause-beside : goal.returns-clause-beside
 returns-clause-beside g c = beside_later c.args.tree.now c.contents_of_writer.new.tree c.truncate.new.self c.in_ok-contents.ensures.asked c.in_ok-contents-2.ensures.writes.beside

@@ -1,11 +1,11 @@
 use Rattle.std.proofs.Common.{◌∙◌, map, sym, ap, subst}
 use Rattle.std.proofs.lemmas.Option.{same_Some}
-use Rattle.lfs_model.specs.Content.{RawPairContent}
-use Rattle.lfs_model.specs.LoggedContent.{AreWellFormedRawSlots}
+use Rattle.lfs_model.specs.format.Content.{RawContent}
+use Rattle.lfs_model.specs.layers.LoggedContent.{AreWellFormed}
 use Rattle.lfs_model.proofs.Logged.{logged}
 use Rattle.lfs_model.proofs.Completed.{completed_parts}
 use Rattle.lfs_tag.specs.ContentView.{content_view, slot_view}
-use Rattle.lfs_lookup.specs.Items.{entries_of_raw_slots, slots_except_at_id}
+use Rattle.lfs_lookup.specs.Items.{raw_entries, slots_except}
 use Rattle.lfs_lookup.proofs.ItemsShown.{parts_without, shown_shapes}
 use Rattle.lfs_lookup.proofs.items.items_in_log.Goals as goal
 
@@ -15,13 +15,13 @@ items_of_slots-requires c =
     let read = c.in_ok-content.ensures.content in
     let sound = logged c.args.log.now (content_view c.in_ok-content.content) is.bytes read in
     let are = ap (map slot_view) c.deref.ensures.value ∙ c.remove_moved_slot.ensures in
-    subst AreWellFormedRawSlots (sym are) (parts_without c.args.moved (content_view c.in_ok-content.content).slots sound.slots)
+    subst AreWellFormed (sym are) (parts_without c.args.moved (content_view c.in_ok-content.content).slots sound.slots)
 
 pub returns-clause-items : goal.returns-clause-items
 returns-clause-items c content is =
     let read = c.in_ok-content.ensures.content in
     let same = same_Some (content_view c.in_ok-content.content) is.raw (sym read ∙ is.log) in
-    let slots = ap (λ (r : RawPairContent). r.slots) same in
+    let slots = ap (λ (r : RawContent). r.slots) same in
     let are = ap (map slot_view) c.deref.ensures.value ∙ c.remove_moved_slot.ensures in
-    c.in_ok-items.ensures ∙ ap entries_of_raw_slots (are ∙ ap (slots_except_at_id c.args.moved) slots)
+    c.in_ok-items.ensures ∙ ap raw_entries (are ∙ ap (slots_except c.args.moved) slots)
     ∙ shown_shapes c.args.moved is.raw.slots content.slots (completed_parts is.raw content is.complete).slots

@@ -1,7 +1,7 @@
 use Rattle.std.proofs.Common.{◌≡◌, map, take}
 use Rattle.lfs_tag.specs.ContentView.{slot_view}
-use Rattle.lfs_lookup.specs.Items.{directory_items_view, entries_of_raw_slots}
+use Rattle.lfs_lookup.specs.Items.{directory_items_view, raw_entries}
 use Rattle.lfs_lookup.proofs.items.items_of_slots.Given as goal
 
 abbrev pub invariant-loop-slot : goal.invariant-loop-slot
-invariant-loop-slot l = directory_items_view l.items.items ≡ entries_of_raw_slots (map slot_view (take l.slot-index l.slots))
+invariant-loop-slot l = directory_items_view l.items.items ≡ raw_entries (map slot_view (take l.slot-index l.slots))

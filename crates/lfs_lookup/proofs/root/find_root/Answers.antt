@@ -1,6 +1,6 @@
 use Rattle.std.proofs.Common.{arith, refl, subst}
 use Rattle.std.proofs.lemmas.Result.{err_from_is_err_and}
-use Rattle.lfs_lookup.specs.Root.{IsLaterPairWithSuperblockOrNone}
+use Rattle.lfs_lookup.specs.Root.{IsChainPair}
 use Rattle.lfs_lookup.proofs.Reading.{answered, answers, both, further, passed}
 use Rattle.lfs_lookup.proofs.RootPairs.{in_chain_on}
 use Rattle.lfs_lookup.proofs.root.find_root.Goals as goal
@@ -8,21 +8,21 @@ use Rattle.lfs_lookup.proofs.root.find_root.Goals as goal
 pub returns-in_err-next-clause-reading : goal.returns-in_err-next-clause-reading
 returns-in_err-next-clause-reading g c =
     let p = err_from_is_err_and c.from_residual.result c.from_residual.ensures.1 in
-    passed _ _ c.next_pair_with_superblock.result c.from_residual.result _ p.0 c.in_err-next.was p.1 p.2 (further _ _ _ c.next_pair_with_superblock.result c.loop-next.invariant.read c.next_pair_with_superblock.ensures.reading)
+    passed _ _ c.next_superblock_pair.result c.from_residual.result _ p.0 c.in_err-next.was p.1 p.2 (further _ _ _ c.next_superblock_pair.result c.loop-next.invariant.read c.next_superblock_pair.ensures.reading)
 
 pub returns-clause-reading : goal.returns-clause-reading
 returns-clause-reading g c =
-    answers _ _ _ _ refl (both _ _ _ c.loop-next.invariant.read (answered _ _ c.next_pair_with_superblock.result c.in_ok-next.field-0 c.in_ok-next.was c.next_pair_with_superblock.ensures.reading))
+    answers _ _ _ _ refl (both _ _ _ c.loop-next.invariant.read (answered _ _ c.next_superblock_pair.result c.in_ok-next.field-0 c.in_ok-next.was c.next_superblock_pair.ensures.reading))
 
 pub loop-next-preserved : goal.loop-next-preserved
 loop-next-preserved g c =
     let inv = c.loop-next.invariant in
-    let next = subst (IsLaterPairWithSuperblockOrNone c.loop-next.thread.kept c.loop-next.root) c.in-Some.is c.in_ok-next.ensures.next in
+    let next = subst (IsChainPair c.loop-next.thread.kept c.loop-next.root) c.in-Some.is c.in_ok-next.ensures.next in
     let few = inv.few in
-    let once = c.next_pair_with_superblock.ensures.few in
+    let once = c.next_superblock_pair.ensures.few in
     let more = next.0 in
     record {
       chained = in_chain_on c.args.thread.now.kept c.loop-next.thread.kept c.in-Some.next inv.read.only.pairs next.1;
-      read = both _ _ _ inv.read (answered _ _ c.next_pair_with_superblock.result c.in_ok-next.field-0 c.in_ok-next.was c.next_pair_with_superblock.ensures.reading);
+      read = both _ _ _ inv.read (answered _ _ c.next_superblock_pair.result c.in_ok-next.field-0 c.in_ok-next.was c.next_superblock_pair.ensures.reading);
       few = omega (arith, few, once, more);
     }

@@ -1,14 +1,14 @@
 use Rattle.std.proofs.Common.{◌≤◌, ◌+◌, ◌-◌, length}
-use Rattle.lfs_model.specs.History.{read_count_of_history}
-use Rattle.lfs_lookup.specs.Root.{IsSuperblockInChain}
+use Rattle.lfs_model.specs.session.History.{read_count}
+use Rattle.lfs_lookup.specs.Root.{IsInChain}
 use Rattle.lfs_lookup.proofs.Reading.{HasRead}
 use Rattle.lfs_lookup.proofs.root.find_root.Given as goal
 
 abbrev pub invariant-loop-next : goal.invariant-loop-next
 invariant-loop-next g l = record {
-  chained : IsSuperblockInChain l.fn.thread.kept l.root;
+  chained : IsInChain l.fn.thread.kept l.root;
   read : HasRead l.fn.thread l.thread;
-  few : read_count_of_history l.thread.kept.history ≤ read_count_of_history l.fn.thread.kept.history + l.root;
+  few : read_count l.thread.kept.history ≤ read_count l.fn.thread.kept.history + l.root;
 }
 
 abbrev pub decreases-loop-next : goal.decreases-loop-next

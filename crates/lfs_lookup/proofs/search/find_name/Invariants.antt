@@ -1,8 +1,8 @@
 use Rattle.std.proofs.Common.{◌<◌, ◌≤◌, ◌+◌, ◌-◌, ◌^◌, length, drop}
-use Rattle.lfs_model.specs.History.{read_count_of_history}
-use Rattle.lfs_model.specs.InDirectory.{hard_tail_joined_pair_count}
-use Rattle.lfs_lookup.specs.Halves.{HasSlotInEachPair, halvings_until_zero}
-use Rattle.lfs_lookup.specs.Listed.{hard_tail_joined_pairs}
+use Rattle.lfs_model.specs.session.History.{read_count}
+use Rattle.lfs_model.specs.session.InDirectory.{joined_count}
+use Rattle.lfs_lookup.specs.Halves.{HasSlotPerPair, all_halvings}
+use Rattle.lfs_lookup.specs.Listed.{joined_pairs}
 use Rattle.lfs_lookup.proofs.Halved.{IsHigh, IsLow}
 use Rattle.lfs_lookup.proofs.HalvedReads.{HasHalved, HasLoaded}
 use Rattle.lfs_lookup.proofs.Reading.{HasRead}
@@ -13,15 +13,15 @@ invariant-loop-low g l = record {
   read : HasRead l.fn.thread l.thread;
   from : l.fn.first ≤ l.low;
   meets : l.low ≤ l.high;
-  end : l.high ≤ l.fn.first + hard_tail_joined_pair_count (drop l.fn.first l.fn.thread.kept.pairs);
+  end : l.high ≤ l.fn.first + joined_count (drop l.fn.first l.fn.thread.kept.pairs);
   within : l.high ≤ length l.fn.thread.kept.pairs;
   fits : l.high < 2 ^ 64;
-  few : read_count_of_history l.thread.kept.history + (l.high - l.low) ≤ read_count_of_history l.fn.thread.kept.history + hard_tail_joined_pair_count (drop l.fn.first l.fn.thread.kept.pairs);
-  halves : HasSlotInEachPair (hard_tail_joined_pairs (drop l.fn.first l.fn.thread.kept.pairs))
-      → HasHalved (halvings_until_zero (hard_tail_joined_pair_count (drop l.fn.first l.fn.thread.kept.pairs))) (read_count_of_history l.fn.thread.kept.history) (read_count_of_history l.thread.kept.history) (l.high - l.low);
-  loaded : HasLoaded (hard_tail_joined_pairs (drop l.fn.first l.fn.thread.kept.pairs)) l.fn.first l.low l.high l.fn.thread l.thread;
-  lesser : IsLow l.fn.thread.kept.disk.order (hard_tail_joined_pairs (drop l.fn.first l.fn.thread.kept.pairs)) l.fn.first l.fn.name l.spot.pair l.spot.id l.low;
-  greater : IsHigh l.fn.thread.kept.disk.order (hard_tail_joined_pairs (drop l.fn.first l.fn.thread.kept.pairs)) l.fn.first l.fn.name l.high;
+  few : read_count l.thread.kept.history + (l.high - l.low) ≤ read_count l.fn.thread.kept.history + joined_count (drop l.fn.first l.fn.thread.kept.pairs);
+  halves : HasSlotPerPair (joined_pairs (drop l.fn.first l.fn.thread.kept.pairs))
+      → HasHalved (all_halvings (joined_count (drop l.fn.first l.fn.thread.kept.pairs))) (read_count l.fn.thread.kept.history) (read_count l.thread.kept.history) (l.high - l.low);
+  loaded : HasLoaded (joined_pairs (drop l.fn.first l.fn.thread.kept.pairs)) l.fn.first l.low l.high l.fn.thread l.thread;
+  lesser : IsLow l.fn.thread.kept.disk.order (joined_pairs (drop l.fn.first l.fn.thread.kept.pairs)) l.fn.first l.fn.name l.spot.pair l.spot.id l.low;
+  greater : IsHigh l.fn.thread.kept.disk.order (joined_pairs (drop l.fn.first l.fn.thread.kept.pairs)) l.fn.first l.fn.name l.high;
 }
 
 abbrev pub decreases-loop-low : goal.decreases-loop-low

@@ -1,10 +1,10 @@
 use Rattle.std.proofs.Common.{◌<◌, ◌++◌, ◌∷◌, [], ◌-◌, ◌∙◌, Err, List, ap, length, sym, subst, take}
 use Rattle.std.proofs.lemmas.List.{map-append}
 use Rattle.std.proofs.lemmas.Result.{err_from_is_err_and}
-use Rattle.lfs_model.specs.Thread.{Pair}
-use Rattle.lfs_model.specs.Shown.{entries_by_directory_in_thread}
-use Rattle.lfs_lookup.specs.Items.{owned_struct_view}
-use Rattle.lfs_lookup.specs.Walk.{AreEntriesBelowWalkedEntryPushed, AreDirectoryEntriesPushed, HasFirstPairInThreadIfDirectory, PathAndStruct, tree_item_view, tree_items_view}
+use Rattle.lfs_model.specs.format.Thread.{Pair}
+use Rattle.lfs_model.specs.tree.Shown.{all_entries}
+use Rattle.lfs_lookup.specs.Items.{owned_view}
+use Rattle.lfs_lookup.specs.TreeWalk.{AreBelowPushed, ArePushed, HasFirstIfDirectory, PathStruct, tree_item_view, tree_items_view}
 use Rattle.lfs_lookup.specs.declared.walks.TreeItem.{TreeItem}
 use Rattle.lfs_lookup.proofs.Reading.{answered, both, further, has_read_nothing, lacks_memory, passed}
 use Rattle.lfs_lookup.proofs.Roots.{root_shapes}
@@ -19,52 +19,52 @@ returns-in_err-addresses-clause-reading g c =
 
 pub loop-found-init : goal.loop-found-init
 loop-found-init g c = record {
-  read = answered _ _ c.push_items_of_directory.result c.in_ok-push_items_of_directory.field-0 c.in_ok-push_items_of_directory.was c.push_items_of_directory.ensures.reading;
-  under_way = subst (λ (done : List PathAndStruct). IsUnderWay c.args.thread.now.kept.disk c.args.thread.now.kept.pairs done (tree_items_view c.push_items_of_directory.new.pending.items)) (sym (ap tree_items_view c.new-walked.ensures.items))
-      (begun c.args.thread.now.kept.disk c.args.thread.now.kept.pairs 0 (tree_items_view c.push_items_of_directory.new.pending.items) c.requires.accepted
+  read = answered _ _ c.push_directory_items.result c.in_ok-push_directory_items.field-0 c.in_ok-push_directory_items.was c.push_directory_items.ensures.reading;
+  under_way = subst (λ (done : List PathStruct). IsUnderWay c.args.thread.now.kept.disk c.args.thread.now.kept.pairs done (tree_items_view c.push_directory_items.new.pending.items)) (sym (ap tree_items_view c.new-walked.ensures.items))
+      (begun c.args.thread.now.kept.disk c.args.thread.now.kept.pairs 0 (tree_items_view c.push_directory_items.new.pending.items) c.requires.accepted
       (root_shapes c.args.thread.now.kept.disk c.args.thread.now.kept.pairs c.requires.accepted)
-      (subst (λ (items : List TreeItem). AreDirectoryEntriesPushed c.args.thread.now.kept.pairs [] 0 (tree_items_view items) (tree_items_view c.push_items_of_directory.new.pending.items)) c.new-pending.ensures.items c.in_ok-push_items_of_directory.ensures.pushed));
+      (subst (λ (items : List TreeItem). ArePushed c.args.thread.now.kept.pairs [] 0 (tree_items_view items) (tree_items_view c.push_directory_items.new.pending.items)) c.new-pending.ensures.items c.in_ok-push_directory_items.ensures.pushed));
 }
 
-pub push_items_below_entry-requires-clause-begins : goal.push_items_below_entry-requires-clause-begins
-push_items_below_entry-requires-clause-begins g c =
+pub push_below_entry-requires-clause-begins : goal.push_below_entry-requires-clause-begins
+push_below_entry-requires-clause-begins g c =
     let inv = c.loop-found.invariant in
     let next = took c.args.thread.now.kept.disk c.args.thread.now.kept.pairs (tree_items_view c.loop-found.walked.items) (tree_items_view c.loop-found.pending.items) (tree_items_view c.pop.new.self.items) (tree_item_view c.in-Some.found)
     (ap tree_items_view c.in-Some.ensures.items ∙ map-append tree_item_view c.pop.new.self.items (c.in-Some.found ∷ [])) inv.under_way in
-    subst (λ (ps : List Pair). HasFirstPairInThreadIfDirectory ps (owned_struct_view c.in-Some.found.structure)) (sym inv.read.only.pairs)
+    subst (λ (ps : List Pair). HasFirstIfDirectory ps (owned_view c.in-Some.found.structure)) (sym inv.read.only.pairs)
     (next_begins c.args.thread.now.kept.disk c.args.thread.now.kept.pairs (tree_items_view c.loop-found.walked.items) (tree_items_view c.pop.new.self.items) (tree_item_view c.in-Some.found) c.requires.accepted next)
 
-pub returns-in_err-push_items_below_entry-clause-reading : goal.returns-in_err-push_items_below_entry-clause-reading
-returns-in_err-push_items_below_entry-clause-reading g c =
-    let p = err_from_is_err_and c.from_residual-in_err-push_items_below_entry.result c.from_residual-in_err-push_items_below_entry.ensures.1 in
-    passed _ _ c.push_items_below_entry.result c.from_residual-in_err-push_items_below_entry.result _ p.0 c.in_err-push_items_below_entry.was p.1 p.2 (further _ _ _ c.push_items_below_entry.result c.loop-found.invariant.read c.push_items_below_entry.ensures.reading)
+pub returns-in_err-push_below_entry-clause-reading : goal.returns-in_err-push_below_entry-clause-reading
+returns-in_err-push_below_entry-clause-reading g c =
+    let p = err_from_is_err_and c.from_residual-in_err-push_below_entry.result c.from_residual-in_err-push_below_entry.ensures.1 in
+    passed _ _ c.push_below_entry.result c.from_residual-in_err-push_below_entry.result _ p.0 c.in_err-push_below_entry.was p.1 p.2 (further _ _ _ c.push_below_entry.result c.loop-found.invariant.read c.push_below_entry.ensures.reading)
 
 pub loop-found-smaller : goal.loop-found-smaller
 loop-found-smaller g c =
     let inv = c.loop-found.invariant in
     let are = ap tree_items_view c.in-Some.ensures.items ∙ map-append tree_item_view c.pop.new.self.items (c.in-Some.found ∷ []) in
     let next = took c.args.thread.now.kept.disk c.args.thread.now.kept.pairs (tree_items_view c.loop-found.walked.items) (tree_items_view c.loop-found.pending.items) (tree_items_view c.pop.new.self.items) (tree_item_view c.in-Some.found) are inv.under_way in
-    let pushed = subst (λ (ps : List Pair). AreEntriesBelowWalkedEntryPushed ps (tree_item_view c.in-Some.found) (tree_items_view c.pop.new.self.items) (tree_items_view c.push_items_below_entry.new.pending.items)) inv.read.only.pairs c.in_ok-push_items_below_entry.ensures.pushed in
-    subst (λ (places : List PathAndStruct). load_list_into_memory (length c.args.thread.now.kept.pairs) (entries_by_directory_in_thread c.args.thread.now.kept.pairs) (tree_items_view c.push_items_below_entry.new.pending.items) < load_list_into_memory (length c.args.thread.now.kept.pairs) (entries_by_directory_in_thread c.args.thread.now.kept.pairs) places) (sym are)
-    (less_left c.args.thread.now.kept.disk c.args.thread.now.kept.pairs (tree_items_view c.loop-found.walked.items) (tree_items_view c.pop.new.self.items) (tree_items_view c.push_items_below_entry.new.pending.items) (tree_item_view c.in-Some.found) c.requires.accepted next pushed)
+    let pushed = subst (λ (ps : List Pair). AreBelowPushed ps (tree_item_view c.in-Some.found) (tree_items_view c.pop.new.self.items) (tree_items_view c.push_below_entry.new.pending.items)) inv.read.only.pairs c.in_ok-push_below_entry.ensures.pushed in
+    subst (λ (places : List PathStruct). load_list_into_memory (length c.args.thread.now.kept.pairs) (all_entries c.args.thread.now.kept.pairs) (tree_items_view c.push_below_entry.new.pending.items) < load_list_into_memory (length c.args.thread.now.kept.pairs) (all_entries c.args.thread.now.kept.pairs) places) (sym are)
+    (less_left c.args.thread.now.kept.disk c.args.thread.now.kept.pairs (tree_items_view c.loop-found.walked.items) (tree_items_view c.pop.new.self.items) (tree_items_view c.push_below_entry.new.pending.items) (tree_item_view c.in-Some.found) c.requires.accepted next pushed)
 
 pub loop-found-preserved : goal.loop-found-preserved
 loop-found-preserved g c =
     let inv = c.loop-found.invariant in
     let are = ap tree_items_view c.in-Some.ensures.items ∙ map-append tree_item_view c.pop.new.self.items (c.in-Some.found ∷ []) in
     let next = took c.args.thread.now.kept.disk c.args.thread.now.kept.pairs (tree_items_view c.loop-found.walked.items) (tree_items_view c.loop-found.pending.items) (tree_items_view c.pop.new.self.items) (tree_item_view c.in-Some.found) are inv.under_way in
-    let pushed = subst (λ (ps : List Pair). AreEntriesBelowWalkedEntryPushed ps (tree_item_view c.in-Some.found) (tree_items_view c.pop.new.self.items) (tree_items_view c.push_items_below_entry.new.pending.items)) inv.read.only.pairs c.in_ok-push_items_below_entry.ensures.pushed in
+    let pushed = subst (λ (ps : List Pair). AreBelowPushed ps (tree_item_view c.in-Some.found) (tree_items_view c.pop.new.self.items) (tree_items_view c.push_below_entry.new.pending.items)) inv.read.only.pairs c.in_ok-push_below_entry.ensures.pushed in
     record {
-      read = both _ _ _ inv.read (answered _ _ c.push_items_below_entry.result c.in_ok-push_items_below_entry.field-0 c.in_ok-push_items_below_entry.was c.push_items_below_entry.ensures.reading);
-      under_way = subst (λ (done : List PathAndStruct). IsUnderWay c.args.thread.now.kept.disk c.args.thread.now.kept.pairs done (tree_items_view c.push_items_below_entry.new.pending.items))
+      read = both _ _ _ inv.read (answered _ _ c.push_below_entry.result c.in_ok-push_below_entry.field-0 c.in_ok-push_below_entry.was c.push_below_entry.ensures.reading);
+      under_way = subst (λ (done : List PathStruct). IsUnderWay c.args.thread.now.kept.disk c.args.thread.now.kept.pairs done (tree_items_view c.push_below_entry.new.pending.items))
           (sym (ap tree_items_view c.in_ok-push.ensures.items ∙ map-append tree_item_view c.loop-found.walked.items (c.in-Some.found ∷ [])))
-          (moved_on c.args.thread.now.kept.disk c.args.thread.now.kept.pairs (tree_items_view c.loop-found.walked.items) (tree_items_view c.pop.new.self.items) (tree_items_view c.push_items_below_entry.new.pending.items) (tree_item_view c.in-Some.found) c.requires.accepted next pushed);
+          (moved_on c.args.thread.now.kept.disk c.args.thread.now.kept.pairs (tree_items_view c.loop-found.walked.items) (tree_items_view c.pop.new.self.items) (tree_items_view c.push_below_entry.new.pending.items) (tree_item_view c.in-Some.found) c.requires.accepted next pushed);
     }
 
 pub returns-in_err-push-clause-reading : goal.returns-in_err-push-clause-reading
 returns-in_err-push-clause-reading g c =
     let p = err_from_is_err_and c.from_residual-in_err-push.result c.from_residual-in_err-push.ensures.1 in
-    let read = both _ _ _ c.loop-found.invariant.read (answered _ _ c.push_items_below_entry.result c.in_ok-push_items_below_entry.field-0 c.in_ok-push_items_below_entry.was c.push_items_below_entry.ensures.reading) in
+    let read = both _ _ _ c.loop-found.invariant.read (answered _ _ c.push_below_entry.result c.in_ok-push_below_entry.field-0 c.in_ok-push_below_entry.was c.push_below_entry.ensures.reading) in
     lacks_memory _ _ c.from_residual-in_err-push.result (p.1 ∙ ap Err p.2) read
 
 pub returns-clause-walked : goal.returns-clause-walked

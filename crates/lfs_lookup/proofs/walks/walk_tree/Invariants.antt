@@ -1,6 +1,6 @@
 use Rattle.std.proofs.Common.{length}
-use Rattle.lfs_model.specs.Shown.{entries_by_directory_in_thread}
-use Rattle.lfs_lookup.specs.Walk.{tree_items_view}
+use Rattle.lfs_model.specs.tree.Shown.{all_entries}
+use Rattle.lfs_lookup.specs.TreeWalk.{tree_items_view}
 use Rattle.lfs_lookup.proofs.Reading.{HasRead}
 use Rattle.lfs_lookup.proofs.Sizes.{load_list_into_memory}
 use Rattle.lfs_lookup.proofs.Visits.{IsUnderWay}
@@ -13,4 +13,4 @@ invariant-loop-found g l = record {
 }
 
 abbrev pub decreases-loop-found : goal.decreases-loop-found
-decreases-loop-found g l = load_list_into_memory (length l.fn.thread.kept.pairs) (entries_by_directory_in_thread l.fn.thread.kept.pairs) (tree_items_view l.pending.items)
+decreases-loop-found g l = load_list_into_memory (length l.fn.thread.kept.pairs) (all_entries l.fn.thread.kept.pairs) (tree_items_view l.pending.items)

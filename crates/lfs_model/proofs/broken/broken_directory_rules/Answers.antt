@@ -1,11 +1,11 @@
 use Rattle.std.proofs.Common.{[], ◌∷◌, List, None, inr, refl, arith}
 use Rattle.std.specs.Prelude.{codes}
-use Rattle.lfs_model.specs.Crc.{crc_of, next_bits}
-use Rattle.lfs_model.specs.Log.{chain_of, chain_within, commit_within, entry_at, closes}
-use Rattle.lfs_model.specs.Slots.{Slot, zero_gstate}
-use Rattle.lfs_model.specs.Thread.{Pair}
+use Rattle.lfs_model.specs.format.Crc.{crc_of, next_bits}
+use Rattle.lfs_model.specs.format.Log.{chain_of, chain_within, commit_within, entry_at, closes}
+use Rattle.lfs_model.specs.format.Slots.{Slot, zero_gstate}
+use Rattle.lfs_model.specs.format.Thread.{Pair}
 use Rattle.lfs_model.specs.declared.order.NameOrder.TheVariants.{ShorterFirst}
-use Rattle.lfs_model.specs.examples.Violations.{image_with_dot_name, image_with_falling_names, image_with_joined_branches, image_with_loose_branch, image_with_unnamed_pair}
+use Rattle.lfs_model.specs.examples.Violations.{dot_name_image, falling_names_image, joined_branches_image, loose_branch_image, unnamed_pair_image}
 use Rattle.lfs_model.proofs.BrokenImages.{is_thread, no_directory_there, no_entry, no_path_leads, no_rise, paths_differ}
 use Rattle.lfs_model.proofs.Examples.{file, folder, large_superblock, pair, soft}
 use Rattle.lfs_model.proofs.broken.broken_directory_rules.Goals as goal
@@ -19,7 +19,7 @@ unfolding chain_of chain_within commit_within entry_at closes crc_of next_bits
 returns-clause-entry c = inr (
   root (file (codes ".") [] ∷ []) ∷ [],
   (
-    is_thread image_with_dot_name _ (refl, refl) (refl, tt) refl refl,
+    is_thread dot_name_image _ (refl, refl) (refl, tt) refl refl,
     record {
       slot = file (codes ".") [];
       is = record { index = 0; pair = root (file (codes ".") [] ∷ []); there = refl; at_is = refl; slot = refl };
@@ -34,7 +34,7 @@ unfolding chain_of chain_within commit_within entry_at closes crc_of next_bits
 returns-clause-names c = inr (
   root (file (codes "b") [] ∷ file (codes "a") [] ∷ []) ∷ [],
   (
-    is_thread image_with_falling_names _ (refl, refl) (refl, tt) refl refl,
+    is_thread falling_names_image _ (refl, refl) (refl, tt) refl refl,
     record { path = []; to = (0, 1); reached = record { leads = refl; same = refl }; falls = no_rise ShorterFirst (codes "b" ∷ codes "a" ∷ []) refl },
   ),
 )
@@ -47,7 +47,7 @@ unfolding chain_of chain_within commit_within entry_at closes crc_of next_bits
 returns-clause-branch c = inr (
   loose,
   (
-    is_thread image_with_loose_branch _ (refl, refl) (refl, tt) refl refl,
+    is_thread loose_branch_image _ (refl, refl) (refl, tt) refl refl,
     record { path = []; to = (0, 1); reached = record { leads = refl; same = refl }; name = codes "d"; target = (2, 3); leads = refl; loose = no_directory_there loose (2, 3) refl },
   ),
 )
@@ -57,7 +57,7 @@ unfolding chain_of chain_within commit_within entry_at closes crc_of next_bits
 returns-clause-two_paths c = inr (
   pair (0, 1) (large_superblock ∷ folder (codes "d") (2, 3) ∷ folder (codes "e") (2, 3) ∷ []) (soft (2, 3)) zero_gstate ∷ pair (2, 3) [] None zero_gstate ∷ [],
   (
-    is_thread image_with_joined_branches _ (refl, (refl, refl)) (refl, (refl, tt)) refl refl,
+    is_thread joined_branches_image _ (refl, (refl, refl)) (refl, (refl, tt)) refl refl,
     record {
       path = codes "d" ∷ [];
       to = (2, 3);
@@ -78,7 +78,7 @@ unfolding chain_of chain_within commit_within entry_at closes crc_of next_bits
 returns-clause-no_path c = inr (
   unnamed,
   (
-    is_thread image_with_unnamed_pair _ (refl, (refl, refl)) (refl, (refl, tt)) refl refl,
+    is_thread unnamed_pair_image _ (refl, (refl, refl)) (refl, (refl, tt)) refl refl,
     record { sync = refl; index = 1; directory = record { at = (2, 3); slots = [] }; there = refl; at_is = refl; unreached = no_path_leads unnamed 1 (2, 3) refl refl },
   ),
 )

@@ -1,10 +1,10 @@
 use Rattle.std.proofs.Common.{ℕ, [], ◌∷◌, ◌≡◌, List, None, Some, false, inr, refl, arith}
 use Rattle.std.specs.Prelude.{codes}
-use Rattle.lfs_model.specs.Crc.{crc_of, next_bits}
-use Rattle.lfs_model.specs.Log.{chain_of, chain_within, commit_within, entry_at, closes}
-use Rattle.lfs_model.specs.Slots.{Slot, zero_gstate}
-use Rattle.lfs_model.specs.Thread.{Pair}
-use Rattle.lfs_model.specs.examples.Violations.{image_with_bad_move, image_with_empty_list, image_with_shared_block}
+use Rattle.lfs_model.specs.format.Crc.{crc_of, next_bits}
+use Rattle.lfs_model.specs.format.Log.{chain_of, chain_within, commit_within, entry_at, closes}
+use Rattle.lfs_model.specs.format.Slots.{Slot, zero_gstate}
+use Rattle.lfs_model.specs.format.Thread.{Pair}
+use Rattle.lfs_model.specs.examples.Violations.{bad_move_image, empty_list_image, shared_block_image}
 use Rattle.lfs_model.proofs.BrokenImages.{is_thread, no_list, no_valid_move}
 use Rattle.lfs_model.proofs.Examples.{large_superblock, long_file, pair}
 use Rattle.lfs_model.proofs.broken.broken_list_rules.Goals as goal
@@ -14,7 +14,7 @@ moving = pair (0, 1) (large_superblock ∷ []) None (record { sync = false; kind
 
 pub returns-clause-set_move : goal.returns-clause-set_move
 unfolding chain_of chain_within commit_within entry_at closes crc_of next_bits
-returns-clause-set_move c = inr (moving, (is_thread image_with_bad_move _ (refl, refl) (refl, tt) refl refl, no_valid_move moving refl))
+returns-clause-set_move c = inr (moving, (is_thread bad_move_image _ (refl, refl) (refl, tt) refl refl, no_valid_move moving refl))
 
 -- a root with these slots behind its superblock
 abbrev root : List Slot → Pair
@@ -28,12 +28,12 @@ unfolding chain_of chain_within commit_within entry_at closes crc_of next_bits l
 returns-clause-list c = inr (
   root (long_file (codes "a") 2 0 ∷ []) ∷ [],
   (
-    is_thread image_with_empty_list _ (refl, refl) (refl, tt) refl refl,
+    is_thread empty_list_image _ (refl, refl) (refl, tt) refl refl,
     (
       long_file (codes "a") 2 0,
       (
         record { is = record { index = 0; pair = root (long_file (codes "a") 2 0 ∷ []); there = refl; at_is = refl; slot = refl }; stays = none_some 1 },
-        no_list image_with_empty_list (long_file (codes "a") 2 0) refl,
+        no_list empty_list_image (long_file (codes "a") 2 0) refl,
       ),
     ),
   ),
@@ -44,7 +44,7 @@ unfolding chain_of chain_within commit_within entry_at closes crc_of next_bits l
 returns-clause-two_owners c = inr (
   root (long_file (codes "a") 2 10 ∷ long_file (codes "b") 2 10 ∷ []) ∷ [],
   (
-    is_thread image_with_shared_block _ (refl, refl) (refl, tt) refl refl,
+    is_thread shared_block_image _ (refl, refl) (refl, tt) refl refl,
     record {
       slot = long_file (codes "b") 2 10;
       is = record {

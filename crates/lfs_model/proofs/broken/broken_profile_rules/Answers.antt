@@ -1,16 +1,16 @@
 use Rattle.std.proofs.Common.{ℕ, ◌≡◌, ◌≤◌, [], ◌∷◌, None, refl, subst, arith, replicate}
 use Rattle.std.specs.Prelude.{codes}
-use Rattle.lfs_model.specs.Content.{content_of_pair_at}
-use Rattle.lfs_model.specs.Crc.{crc_of, next_bits}
-use Rattle.lfs_model.specs.Disk.{block_count, default_profile}
-use Rattle.lfs_model.specs.Fresh.{only_pair_of_fresh_disk, superblock_struct_bytes}
-use Rattle.lfs_model.specs.Log.{chain_of, chain_within, commit_within, entry_at, closes}
-use Rattle.lfs_model.specs.Profile.{HasInlineBytesWithinLimit, IsWritableImage}
-use Rattle.lfs_model.specs.ProfileBreaches.{IsContentSmallEnough}
-use Rattle.lfs_model.specs.Slots.{Inline, Slot, zero_gstate}
-use Rattle.lfs_model.specs.Thread.{Pair}
-use Rattle.lfs_model.specs.examples.Images.{superblock_struct_bytes_with_fields}
-use Rattle.lfs_model.specs.examples.Violations.{image_with_empty_pair, image_with_large_entry, image_with_long_inline_bytes, image_with_short_names}
+use Rattle.lfs_model.specs.format.Content.{content_at}
+use Rattle.lfs_model.specs.format.Crc.{crc_of, next_bits}
+use Rattle.lfs_model.specs.format.Disk.{block_count, default_profile}
+use Rattle.lfs_model.specs.tree.Fresh.{fresh_pair, superblock_bytes}
+use Rattle.lfs_model.specs.format.Log.{chain_of, chain_within, commit_within, entry_at, closes}
+use Rattle.lfs_model.specs.tree.Profile.{InlineBytesFit, IsWritable}
+use Rattle.lfs_model.specs.layers.ProfileBreaches.{IsSmallEnough}
+use Rattle.lfs_model.specs.format.Slots.{Inline, Slot, zero_gstate}
+use Rattle.lfs_model.specs.format.Thread.{Pair}
+use Rattle.lfs_model.specs.examples.Images.{struct_bytes_with}
+use Rattle.lfs_model.specs.examples.Violations.{empty_pair_image, large_entry_image, unwritable_inline_image, short_names_image}
 use Rattle.lfs_model.proofs.Acceptance.{image_is_accepted}
 use Rattle.lfs_model.proofs.KeptProfiles.{writable_breaks_none}
 use Rattle.lfs_model.proofs.Examples.{file, hard, large_superblock, pair}
@@ -20,7 +20,7 @@ use Rattle.lfs_model.proofs.broken.broken_profile_rules.Goals as goal
 
 -- the limit of names is 32
 abbrev limited : Slot
-limited = record large_superblock { struct = Inline (superblock_struct_bytes_with_fields 0x00020000 4096 32) }
+limited = record large_superblock { struct = Inline (struct_bytes_with 0x00020000 4096 32) }
 
 abbrev limited_pair : Pair
 limited_pair = pair (0, 1) (limited ∷ []) None zero_gstate
@@ -33,12 +33,12 @@ unfolding chain_of chain_within commit_within entry_at closes crc_of next_bits
 returns-clause-other_limits c = (
   limited_pair ∷ [],
   (
-    image_is_accepted image_with_short_names (limited_pair ∷ []) (superblock_struct_bytes_with_fields 0x00020000 4096 32) 1 (record { links = (refl, refl); contents = (refl, tt); first = refl; named = refl; lists = (tt, tt); pass = refl }),
+    image_is_accepted short_names_image (limited_pair ∷ []) (struct_bytes_with 0x00020000 4096 32) 1 (record { links = (refl, refl); contents = (refl, tt); first = refl; named = refl; lists = (tt, tt); pass = refl }),
     (
       limited,
       (
         record { index = 0; pair = limited_pair; there = refl; at_is = refl; slot = refl },
-        record { kind = refl; bytes = superblock_struct_bytes_with_fields 0x00020000 4096 32; inline = refl; differs = (refl, other_number) },
+        record { kind = refl; bytes = struct_bytes_with 0x00020000 4096 32; inline = refl; differs = (refl, other_number) },
       ),
     ),
   ),
@@ -50,7 +50,7 @@ long = file (codes "a") (replicate 600 97)
 abbrev long_pair : Pair
 long_pair = pair (0, 1) (large_superblock ∷ long ∷ []) None zero_gstate
 
-too_long : HasInlineBytesWithinLimit 512 long.struct → ⊥
+too_long : InlineBytesFit 512 long.struct → ⊥
 too_long fits = let inline : 600 ≤ 512 = fits in omega arith
 
 pub returns-clause-long_inline : goal.returns-clause-long_inline
@@ -58,7 +58,7 @@ unfolding chain_of chain_within commit_within entry_at closes crc_of next_bits
 returns-clause-long_inline c = (
   long_pair ∷ [],
   (
-    image_is_accepted image_with_long_inline_bytes (long_pair ∷ []) (superblock_struct_bytes default_profile 4096 16) 2 (record { links = (refl, refl); contents = (refl, tt); first = refl; named = refl; lists = (tt, (tt, tt)); pass = refl }),
+    image_is_accepted unwritable_inline_image (long_pair ∷ []) (superblock_bytes default_profile 4096 16) 2 (record { links = (refl, refl); contents = (refl, tt); first = refl; named = refl; lists = (tt, (tt, tt)); pass = refl }),
     (long, (record { index = 0; pair = long_pair; there = refl; at_is = refl; slot = refl }, (refl, too_long))),
   ),
 )
@@ -74,7 +74,7 @@ unfolding chain_of chain_within commit_within entry_at closes crc_of next_bits
 returns-clause-empty_pair c = (
   rooted ∷ empty ∷ [],
   (
-    image_is_accepted image_with_empty_pair (rooted ∷ empty ∷ []) (superblock_struct_bytes default_profile 4096 16) 1 (record { links = (refl, (refl, refl)); contents = (refl, (refl, tt)); first = refl; named = refl; lists = (tt, tt); pass = refl }),
+    image_is_accepted empty_pair_image (rooted ∷ empty ∷ []) (superblock_bytes default_profile 4096 16) 1 (record { links = (refl, (refl, refl)); contents = (refl, (refl, tt)); first = refl; named = refl; lists = (tt, tt); pass = refl }),
     record { index = 0; before = rooted; pair = empty; first = refl; next = refl; root = omega arith; hard = refl; at_is = refl; empty = refl },
   ),
 )
@@ -85,7 +85,7 @@ charged = record (file (codes "a") []) { attributes = (0x41, replicate 1022 1) �
 abbrev charged_pair : Pair
 charged_pair = pair (0, 1) (large_superblock ∷ charged ∷ []) None zero_gstate
 
-too_much : IsContentSmallEnough default_profile 4096 256 charged_pair.content → ⊥
+too_much : IsSmallEnough default_profile 4096 256 charged_pair.content → ⊥
 too_much small = let charge : 1951 ≤ 1900 = small.entries 1 charged (omega arith) refl in omega arith
 
 pub returns-clause-too_large : goal.returns-clause-too_large
@@ -93,12 +93,12 @@ unfolding chain_of chain_within commit_within entry_at closes crc_of next_bits
 returns-clause-too_large c = (
   charged_pair ∷ [],
   (
-    image_is_accepted image_with_large_entry (charged_pair ∷ []) (superblock_struct_bytes default_profile 4096 16) 2 (record { links = (refl, refl); contents = (refl, tt); first = refl; named = refl; lists = (tt, (tt, tt)); pass = refl }),
+    image_is_accepted large_entry_image (charged_pair ∷ []) (superblock_bytes default_profile 4096 16) 2 (record { links = (refl, refl); contents = (refl, tt); first = refl; named = refl; lists = (tt, (tt, tt)); pass = refl }),
     record { index = 0; pair = charged_pair; there = refl; at_is = refl; large = too_much },
   ),
 )
 
 pub returns-clause-none : goal.returns-clause-none
 returns-clause-none c = λ disk b is (ps, (accepted, broken)).
-    let same = one_thread (content_of_pair_at disk) (block_count disk) (only_pair_of_fresh_disk disk ∷ []) ps (fresh.accepted disk is).thread accepted.thread in
-    writable_breaks_none disk ps b (subst (IsWritableImage disk) same (fresh.writable disk is)) broken
+    let same = one_thread (content_at disk) (block_count disk) (fresh_pair disk ∷ []) ps (fresh.accepted disk is).thread accepted.thread in
+    writable_breaks_none disk ps b (subst (IsWritable disk) same (fresh.writable disk is)) broken

@@ -1,41 +1,41 @@
 use Rattle.std.proofs.Common.{◌+◌, ◌≡◌, [], ◌∷◌, List, None, Option, Some, ap, inr, refl, arith}
 use Rattle.std.specs.Prelude.{codes, unwrap_or}
-use Rattle.lfs_model.specs.Crc.{crc_of, next_bits}
-use Rattle.lfs_model.specs.Disk.{default_profile}
-use Rattle.lfs_model.specs.Fresh.{superblock_slot, superblock_struct_bytes}
-use Rattle.lfs_model.specs.Log.{LogEntry, chain_of, chain_within, commit_within, entry_at, closes}
-use Rattle.lfs_model.specs.Slots.{Inline, Slot, zero_gstate}
-use Rattle.lfs_model.specs.Thread.{Pair, pair_count_before_root}
-use Rattle.lfs_model.specs.View.{superblock_name_log_entry}
+use Rattle.lfs_model.specs.format.Crc.{crc_of, next_bits}
+use Rattle.lfs_model.specs.format.Disk.{default_profile}
+use Rattle.lfs_model.specs.tree.Fresh.{superblock_slot, superblock_bytes}
+use Rattle.lfs_model.specs.format.Log.{LogEntry, chain_of, chain_within, commit_within, entry_at, closes}
+use Rattle.lfs_model.specs.format.Slots.{Inline, Slot, zero_gstate}
+use Rattle.lfs_model.specs.format.Thread.{Pair, pair_count_before_root}
+use Rattle.lfs_model.specs.tree.View.{superblock_entry}
 use Rattle.lfs_model.specs.declared.limits.AcceptedVersions.TheVariants.{OnlyTwoZero}
-use Rattle.lfs_model.specs.examples.Images.{superblock_struct_bytes_with_fields}
-use Rattle.lfs_model.specs.examples.Violations.{image_of_later_version, image_with_create_first, image_with_two_sizes, image_without_superblock}
+use Rattle.lfs_model.specs.examples.Images.{struct_bytes_with}
+use Rattle.lfs_model.specs.examples.Violations.{later_version_image, create_first_image, two_sizes_image, no_superblock_image}
 use Rattle.lfs_model.proofs.BrokenImages.{is_thread, no_same_superblock, no_superblock_of_disk}
 use Rattle.lfs_model.proofs.Examples.{file, hard, large_superblock, pair}
 use Rattle.lfs_model.proofs.broken.broken_superblock_rules.Goals as goal
 
 pub returns-clause-no_superblock : goal.returns-clause-no_superblock
 unfolding chain_of chain_within commit_within entry_at closes crc_of next_bits
-returns-clause-no_superblock c = inr (pair (0, 1) [] None zero_gstate ∷ [], (is_thread image_without_superblock _ (refl, refl) (refl, tt) refl refl, refl))
+returns-clause-no_superblock c = inr (pair (0, 1) [] None zero_gstate ∷ [], (is_thread no_superblock_image _ (refl, refl) (refl, tt) refl refl, refl))
 
-other_entry : Some (record { tag = 0x40100000; bytes = [] }) ≡ Some superblock_name_log_entry → ⊥
-other_entry e = let tags : 0x40100000 + 0 ≡ 0x0ff00008 = ap (λ (o : Option LogEntry). (unwrap_or o superblock_name_log_entry).tag) e in omega arith
+other_entry : Some (record { tag = 0x40100000; bytes = [] }) ≡ Some superblock_entry → ⊥
+other_entry e = let tags : 0x40100000 + 0 ≡ 0x0ff00008 = ap (λ (o : Option LogEntry). (unwrap_or o superblock_entry).tag) e in omega arith
 
 pub returns-clause-first_entry : goal.returns-clause-first_entry
 unfolding chain_of chain_within commit_within entry_at closes crc_of next_bits
-returns-clause-first_entry c = inr (pair (0, 1) (large_superblock ∷ []) None zero_gstate ∷ [], (is_thread image_with_create_first _ (refl, refl) (refl, tt) refl refl, (refl, λ e. other_entry e)))
+returns-clause-first_entry c = inr (pair (0, 1) (large_superblock ∷ []) None zero_gstate ∷ [], (is_thread create_first_image _ (refl, refl) (refl, tt) refl refl, (refl, λ e. other_entry e)))
 
 -- a superblock of version 2.1
 abbrev newer : Slot
-newer = record large_superblock { struct = Inline (superblock_struct_bytes_with_fields 0x00020001 4096 255) }
+newer = record large_superblock { struct = Inline (struct_bytes_with 0x00020001 4096 255) }
 
 pub returns-clause-superblock : goal.returns-clause-superblock
 unfolding chain_of chain_within commit_within entry_at closes crc_of next_bits
 returns-clause-superblock c = inr (
   pair (0, 1) (newer ∷ []) None zero_gstate ∷ [],
   (
-    is_thread image_of_later_version _ (refl, refl) (refl, tt) refl refl,
-    (refl, newer, (refl, no_superblock_of_disk image_of_later_version newer (superblock_struct_bytes_with_fields 0x00020001 4096 255) refl refl)),
+    is_thread later_version_image _ (refl, refl) (refl, tt) refl refl,
+    (refl, newer, (refl, no_superblock_of_disk later_version_image newer (struct_bytes_with 0x00020001 4096 255) refl refl)),
   ),
 )
 
@@ -54,7 +54,7 @@ unfolding chain_of chain_within commit_within entry_at closes crc_of next_bits
 returns-clause-other_superblock c = inr (
   two_pairs,
   (
-    is_thread image_with_two_sizes _ (refl, (refl, refl)) (refl, (refl, tt)) refl refl,
+    is_thread two_sizes_image _ (refl, (refl, refl)) (refl, (refl, tt)) refl refl,
     record {
       index = 1;
       pair = second;
@@ -65,9 +65,9 @@ returns-clause-other_superblock c = inr (
       slot_is = refl;
       first = large_superblock;
       first_is = refl;
-      bytes = superblock_struct_bytes default_profile 4096 16;
+      bytes = superblock_bytes default_profile 4096 16;
       inline = refl;
-      differs = no_same_superblock OnlyTwoZero (superblock_struct_bytes default_profile 4096 16) larger refl refl;
+      differs = no_same_superblock OnlyTwoZero (superblock_bytes default_profile 4096 16) larger refl refl;
     },
   ),
 )

@@ -1,9 +1,9 @@
 use Rattle.std.proofs.Common.{[], ◌∷◌, inl, refl, arith}
-use Rattle.lfs_model.specs.Crc.{crc_of, next_bits}
-use Rattle.lfs_model.specs.Fresh.{only_pair_of_fresh_disk}
-use Rattle.lfs_model.specs.Log.{chain_of, chain_within, commit_within, entry_at, closes}
-use Rattle.lfs_model.specs.Slots.{zero_gstate}
-use Rattle.lfs_model.specs.examples.Violations.{image_naming_absent_block, image_naming_one_block, image_naming_root_again, image_naming_unwritten_pair}
+use Rattle.lfs_model.specs.format.Crc.{crc_of, next_bits}
+use Rattle.lfs_model.specs.tree.Fresh.{fresh_pair}
+use Rattle.lfs_model.specs.format.Log.{chain_of, chain_within, commit_within, entry_at, closes}
+use Rattle.lfs_model.specs.format.Slots.{zero_gstate}
+use Rattle.lfs_model.specs.examples.Violations.{absent_block_image, one_block_image, root_again_image, unwritten_pair_image}
 use Rattle.lfs_model.proofs.BrokenImages.{begins_with}
 use Rattle.lfs_model.proofs.BrokenRules.{accepted_breaks_none}
 use Rattle.lfs_model.proofs.Examples.{pair, soft, large_superblock}
@@ -12,24 +12,24 @@ use Rattle.lfs_model.proofs.broken.broken_thread_rules.Goals as goal
 
 pub returns-clause-out_of_range : goal.returns-clause-out_of_range
 unfolding chain_of chain_within commit_within entry_at closes crc_of next_bits
-returns-clause-out_of_range c = inl ((pair (0, 1) (large_superblock ∷ []) (soft (2, 16)) zero_gstate ∷ [], begins_with image_naming_absent_block _ (2, 16) (refl, refl) (refl, tt)), λ h. let past = h.1 in absurd (omega arith))
+returns-clause-out_of_range c = inl ((pair (0, 1) (large_superblock ∷ []) (soft (2, 16)) zero_gstate ∷ [], begins_with absent_block_image _ (2, 16) (refl, refl) (refl, tt)), λ h. let past = h.1 in absurd (omega arith))
 
 pub returns-clause-one_block : goal.returns-clause-one_block
 unfolding chain_of chain_within commit_within entry_at closes crc_of next_bits
-returns-clause-one_block c = inl ((pair (0, 1) (large_superblock ∷ []) (soft (2, 2)) zero_gstate ∷ [], begins_with image_naming_one_block _ (2, 2) (refl, refl) (refl, tt)), refl)
+returns-clause-one_block c = inl ((pair (0, 1) (large_superblock ∷ []) (soft (2, 2)) zero_gstate ∷ [], begins_with one_block_image _ (2, 2) (refl, refl) (refl, tt)), refl)
 
 pub returns-clause-two_pairs : goal.returns-clause-two_pairs
 unfolding chain_of chain_within commit_within entry_at closes crc_of next_bits
 returns-clause-two_pairs c = inl (record {
   before = pair (0, 1) (large_superblock ∷ []) (soft (0, 1)) zero_gstate ∷ [];
-  begins = begins_with image_naming_root_again _ (0, 1) (refl, refl) (refl, tt);
+  begins = begins_with root_again_image _ (0, 1) (refl, refl) (refl, tt);
   own = inl refl;
   earlier = (0, omega arith, refl);
 })
 
 pub returns-clause-no_content : goal.returns-clause-no_content
 unfolding chain_of chain_within commit_within entry_at closes crc_of next_bits
-returns-clause-no_content c = inl ((pair (0, 1) (large_superblock ∷ []) (soft (2, 3)) zero_gstate ∷ [], begins_with image_naming_unwritten_pair _ (2, 3) (refl, refl) (refl, tt)), (omega arith, omega arith), refl)
+returns-clause-no_content c = inl ((pair (0, 1) (large_superblock ∷ []) (soft (2, 3)) zero_gstate ∷ [], begins_with unwritten_pair_image _ (2, 3) (refl, refl) (refl, tt)), (omega arith, omega arith), refl)
 
 pub returns-clause-none : goal.returns-clause-none
-returns-clause-none c = λ disk v is broken. accepted_breaks_none disk v broken (only_pair_of_fresh_disk disk ∷ []) (fresh.accepted disk is)
+returns-clause-none c = λ disk v is broken. accepted_breaks_none disk v broken (fresh_pair disk ∷ []) (fresh.accepted disk is)

@@ -2,11 +2,11 @@ use Rattle.std.proofs.Common.{ℕ, zero, suc, ◌≡◌, ◌≢◌, ◌≤◌, �
 use Rattle.std.specs.Prelude.{All}
 use Rattle.std.proofs.lemmas.List.Elements.{All-from_recursion}
 use Rattle.std.proofs.lemmas.Bool.Decides.{nat_tests}
-use Rattle.lfs_model.specs.History.{is_byte_unprogrammed}
-use Rattle.lfs_model.specs.examples.Histories.{history_after_erase, history_after_read}
+use Rattle.lfs_model.specs.session.History.{is_unprogrammed_byte}
+use Rattle.lfs_model.specs.examples.Histories.{after_erase, after_read}
 use Rattle.lfs_model.proofs.calls.bytes_are_unprogrammed_after_erase.Goals as goal
 
-from_there : (k : ℕ) → 2 ≤ k → k < 4 → is_byte_unprogrammed history_after_read 0 k ≡ true
+from_there : (k : ℕ) → 2 ≤ k → k < 4 → is_unprogrammed_byte after_read 0 k ≡ true
 from_there zero low high = absurd (omega arith)
 from_there (suc zero) low high = absurd (omega arith)
 from_there (suc (suc zero)) low high = refl
@@ -19,7 +19,7 @@ returns-clause-from_there c = from_there
 pub returns-clause-not_before : goal.returns-clause-not_before
 returns-clause-not_before c = λ h. absurd (let k = h 1 (omega arith) (omega arith) in cc)
 
-stays : (b k : ℕ) → All (λ c. c ≢ b) (0 ∷ []) → is_byte_unprogrammed history_after_erase b k ≡ true → is_byte_unprogrammed history_after_read b k ≡ true
+stays : (b k : ℕ) → All (λ c. c ≢ b) (0 ∷ []) → is_unprogrammed_byte after_erase b k ≡ true → is_unprogrammed_byte after_read b k ≡ true
 stays zero k apart e = absurd (apart 0 0 (omega arith) refl)
 stays (suc b) k apart e = absurd (let f : (suc b == 0) ≡ false = grind (arith, nat_tests) in let g = sym (ap (λ x. cond x true false) f) ∙ e in cc)
 

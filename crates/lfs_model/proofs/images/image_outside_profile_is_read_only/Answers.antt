@@ -1,14 +1,14 @@
 use Rattle.std.proofs.Common.{ℕ, ◌≡◌, ◌≤◌, ap, ◌∙◌, List, [], ◌∷◌, None, refl, arith, replicate, drop}
 use Rattle.std.specs.Prelude.{codes}
 use Rattle.byteorder.specs.Endian.{little_number}
-use Rattle.lfs_model.specs.Disk.{default_profile}
-use Rattle.lfs_model.specs.Crc.{crc_of, next_bits}
-use Rattle.lfs_model.specs.Log.{chain_of, chain_within, commit_within, entry_at, closes}
-use Rattle.lfs_model.specs.Slots.{Slot, Inline, zero_gstate}
-use Rattle.lfs_model.specs.Thread.{Pair}
-use Rattle.lfs_model.specs.Profile.{IsSlotWithinWritableLimits}
-use Rattle.lfs_model.specs.Fresh.{superblock_struct_bytes}
-use Rattle.lfs_model.specs.examples.Images.{superblock_struct_bytes_with_fields}
+use Rattle.lfs_model.specs.format.Disk.{default_profile}
+use Rattle.lfs_model.specs.format.Crc.{crc_of, next_bits}
+use Rattle.lfs_model.specs.format.Log.{chain_of, chain_within, commit_within, entry_at, closes}
+use Rattle.lfs_model.specs.format.Slots.{Slot, Inline, zero_gstate}
+use Rattle.lfs_model.specs.format.Thread.{Pair}
+use Rattle.lfs_model.specs.tree.Profile.{IsWritableSlot}
+use Rattle.lfs_model.specs.tree.Fresh.{superblock_bytes}
+use Rattle.lfs_model.specs.examples.Images.{struct_bytes_with}
 use Rattle.lfs_model.proofs.Examples.{image_shows, pair, file, large_superblock}
 use Rattle.lfs_model.proofs.Refusals.{read_only_with, fails_slot}
 use Rattle.lfs_model.proofs.images.image_outside_profile_is_read_only.Goals as goal
@@ -21,10 +21,10 @@ long_pair = pair (0, 1) (large_superblock ∷ long ∷ []) None zero_gstate
 
 pub returns-clause-long_entry : goal.returns-clause-long_entry
 unfolding chain_of chain_within commit_within entry_at closes crc_of next_bits
-returns-clause-long_entry c = image_shows _ (long_pair ∷ []) (superblock_struct_bytes default_profile 4096 16) 2
+returns-clause-long_entry c = image_shows _ (long_pair ∷ []) (superblock_bytes default_profile 4096 16) 2
     (record { links = (refl, refl); contents = (refl, tt); first = refl; named = refl; lists = (tt, (tt, tt)); pass = refl }) _ _ _ refl refl refl
 
-too_long : IsSlotWithinWritableLimits default_profile 4096 256 long → ⊥
+too_long : IsWritableSlot default_profile 4096 256 long → ⊥
 too_long fits = let inline : 600 ≤ 512 = (fits.1 refl).inline in omega arith
 
 pub returns-clause-long_entry_read_only : goal.returns-clause-long_entry_read_only
@@ -33,21 +33,21 @@ returns-clause-long_entry_read_only c = read_only_with _ (long_pair ∷ []) (ref
 
 -- the limit of names is 32
 abbrev limited : Slot
-limited = record large_superblock { struct = Inline (superblock_struct_bytes_with_fields 0x00020000 4096 32) }
+limited = record large_superblock { struct = Inline (struct_bytes_with 0x00020000 4096 32) }
 
 abbrev limited_pair : Pair
 limited_pair = pair (0, 1) (limited ∷ []) None zero_gstate
 
 pub returns-clause-name_limit : goal.returns-clause-name_limit
 unfolding chain_of chain_within commit_within entry_at closes crc_of next_bits
-returns-clause-name_limit c = image_shows _ (limited_pair ∷ []) (superblock_struct_bytes_with_fields 0x00020000 4096 32) 1
+returns-clause-name_limit c = image_shows _ (limited_pair ∷ []) (struct_bytes_with 0x00020000 4096 32) 1
     (record { links = (refl, refl); contents = (refl, tt); first = refl; named = refl; lists = (tt, tt); pass = refl }) _ _ _ refl refl refl
 
-other_limit : IsSlotWithinWritableLimits default_profile 4096 256 limited → ⊥
+other_limit : IsWritableSlot default_profile 4096 256 limited → ⊥
 other_limit fits =
     let limits = fits.0 refl in
-    let same : superblock_struct_bytes_with_fields 0x00020000 4096 32 ≡ limits.0 = cc in
-    let limit : little_number 4 (drop 12 (superblock_struct_bytes_with_fields 0x00020000 4096 32)) ≡ 255 = ap (λ (bytes : List ℕ). little_number 4 (drop 12 bytes)) same ∙ limits.1.1 in
+    let same : struct_bytes_with 0x00020000 4096 32 ≡ limits.0 = cc in
+    let limit : little_number 4 (drop 12 (struct_bytes_with 0x00020000 4096 32)) ≡ 255 = ap (λ (bytes : List ℕ). little_number 4 (drop 12 bytes)) same ∙ limits.1.1 in
     omega arith
 
 pub returns-clause-name_limit_read_only : goal.returns-clause-name_limit_read_only
@@ -56,12 +56,12 @@ returns-clause-name_limit_read_only c = read_only_with _ (limited_pair ∷ []) (
 
 -- the version is 2.1
 abbrev newer : Slot
-newer = record large_superblock { struct = Inline (superblock_struct_bytes_with_fields 0x00020001 4096 255) }
+newer = record large_superblock { struct = Inline (struct_bytes_with 0x00020001 4096 255) }
 
 abbrev newer_pair : Pair
 newer_pair = pair (0, 1) (newer ∷ []) None zero_gstate
 
 pub returns-clause-newer : goal.returns-clause-newer
 unfolding chain_of chain_within commit_within entry_at closes crc_of next_bits
-returns-clause-newer c = image_shows _ (newer_pair ∷ []) (superblock_struct_bytes_with_fields 0x00020001 4096 255) 1
+returns-clause-newer c = image_shows _ (newer_pair ∷ []) (struct_bytes_with 0x00020001 4096 255) 1
     (record { links = (refl, refl); contents = (refl, tt); first = refl; named = refl; lists = (tt, tt); pass = refl }) _ _ _ refl refl refl

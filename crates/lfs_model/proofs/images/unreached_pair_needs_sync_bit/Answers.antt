@@ -1,16 +1,16 @@
 use Rattle.std.proofs.Common.{[], ◌∷◌, None, true, refl}
-use Rattle.lfs_model.specs.Disk.{default_profile}
-use Rattle.lfs_model.specs.Crc.{crc_of, next_bits}
-use Rattle.lfs_model.specs.Log.{chain_of, chain_within, commit_within, entry_at, closes}
-use Rattle.lfs_model.specs.Slots.{zero_gstate}
-use Rattle.lfs_model.specs.Fresh.{superblock_struct_bytes}
+use Rattle.lfs_model.specs.format.Disk.{default_profile}
+use Rattle.lfs_model.specs.format.Crc.{crc_of, next_bits}
+use Rattle.lfs_model.specs.format.Log.{chain_of, chain_within, commit_within, entry_at, closes}
+use Rattle.lfs_model.specs.format.Slots.{zero_gstate}
+use Rattle.lfs_model.specs.tree.Fresh.{superblock_bytes}
 use Rattle.lfs_model.proofs.Examples.{image_shows, pair, soft, large_superblock}
 use Rattle.lfs_model.proofs.Refusals.{refused_with, fails_reached}
 use Rattle.lfs_model.proofs.images.unreached_pair_needs_sync_bit.Goals as goal
 
 pub returns-clause-with_it : goal.returns-clause-with_it
 unfolding chain_of chain_within commit_within entry_at closes crc_of next_bits
-returns-clause-with_it c = image_shows _ (pair (0, 1) (large_superblock ∷ []) (soft (2, 3)) (record { sync = true; kind = 0; id = 0; pair = (0, 0) }) ∷ pair (2, 3) [] None zero_gstate ∷ []) (superblock_struct_bytes default_profile 4096 16) 1
+returns-clause-with_it c = image_shows _ (pair (0, 1) (large_superblock ∷ []) (soft (2, 3)) (record { sync = true; kind = 0; id = 0; pair = (0, 0) }) ∷ pair (2, 3) [] None zero_gstate ∷ []) (superblock_bytes default_profile 4096 16) 1
     (record { links = (refl, (refl, refl)); contents = (refl, (refl, tt)); first = refl; named = refl; lists = (tt, tt); pass = refl }) _ _ _ refl refl refl
 
 pub returns-clause-without : goal.returns-clause-without

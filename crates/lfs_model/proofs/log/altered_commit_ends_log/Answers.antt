@@ -1,8 +1,8 @@
 use Rattle.std.proofs.Common.{ℕ, ◌≡◌, ◌<◌, Bool, true, false, List, [], ◌∷◌, refl, ap, ◌+◌, ◌==◌, eqb-true, slice_set, length}
 use Rattle.std.specs.Prelude.{nat_lt}
-use Rattle.lfs_model.specs.Crc.{crc_of, next_bits}
-use Rattle.lfs_model.specs.Log.{chain_of, chain_within, commit_within, entry_at, closes}
-use Rattle.lfs_model.specs.examples.Images.{fresh_block_of_small_image, small_disk_with_first_block, block_with_wrong_checksum_bit}
+use Rattle.lfs_model.specs.format.Crc.{crc_of, next_bits}
+use Rattle.lfs_model.specs.format.Log.{chain_of, chain_within, commit_within, entry_at, closes}
+use Rattle.lfs_model.specs.examples.Images.{small_block, small_disk_beginning, bad_checksum_block}
 use Rattle.lfs_model.proofs.Skips.{all_below, below_from}
 use Rattle.lfs_model.proofs.Refusals.{no_commit}
 use Rattle.lfs_model.proofs.log.altered_commit_ends_log.Goals as goal
@@ -32,24 +32,24 @@ unfolding is_nil
 nil_from [] e = refl
 nil_from (x ∷ xs) e = absurd (cc)
 
-each_bit : all_below (λ k. is_nil (chain_of (block_with_wrong_checksum_bit k)).commits) 32 ≡ true
+each_bit : all_below (λ k. is_nil (chain_of (bad_checksum_block k)).commits) 32 ≡ true
 unfolding is_nil chain_of chain_within commit_within entry_at closes crc_of next_bits
 each_bit = refl
 
-no_log : (k : ℕ) → k < 32 → (chain_of (block_with_wrong_checksum_bit k)).commits ≡ []
-no_log k l = nil_from (chain_of (block_with_wrong_checksum_bit k)).commits (below_from (λ k. is_nil (chain_of (block_with_wrong_checksum_bit k)).commits) 32 each_bit k l)
+no_log : (k : ℕ) → k < 32 → (chain_of (bad_checksum_block k)).commits ≡ []
+no_log k l = nil_from (chain_of (bad_checksum_block k)).commits (below_from (λ k. is_nil (chain_of (bad_checksum_block k)).commits) 32 each_bit k l)
 
 pub returns-clause-no_log : goal.returns-clause-no_log
 returns-clause-no_log c = no_log
 
 pub returns-clause-no_image : goal.returns-clause-no_image
 unfolding chain_of chain_within commit_within entry_at closes crc_of next_bits
-returns-clause-no_image c = λ k l. no_commit (small_disk_with_first_block (block_with_wrong_checksum_bit k)) (ap (λ commits. nat_lt 0 (length commits)) (no_log k l)) refl
+returns-clause-no_image c = λ k l. no_commit (small_disk_beginning (bad_checksum_block k)) (ap (λ commits. nat_lt 0 (length commits)) (no_log k l)) refl
 
-each_pad : all_below (λ k. (chain_of (slice_set fresh_block_of_small_image (52 + k) 0x00)).end == 128) 76 ≡ true
+each_pad : all_below (λ k. (chain_of (slice_set small_block (52 + k) 0x00)).end == 128) 76 ≡ true
 unfolding chain_of chain_within commit_within entry_at closes crc_of next_bits
 each_pad = refl
 
 pub returns-clause-padding : goal.returns-clause-padding
 unfolding chain_of chain_within commit_within entry_at closes crc_of next_bits
-returns-clause-padding c = λ k l. eqb-true (chain_of (slice_set fresh_block_of_small_image (52 + k) 0x00)).end 128 (below_from (λ k. (chain_of (slice_set fresh_block_of_small_image (52 + k) 0x00)).end == 128) 76 each_pad k l)
+returns-clause-padding c = λ k l. eqb-true (chain_of (slice_set small_block (52 + k) 0x00)).end 128 (below_from (λ k. (chain_of (slice_set small_block (52 + k) 0x00)).end == 128) 76 each_pad k l)

@@ -1,5 +1,5 @@
 use Rattle.std.proofs.Common.{refl}
-use Rattle.lfs_model.specs.Crc.{crc_of, next_bits}
+use Rattle.lfs_model.specs.format.Crc.{crc_of, next_bits}
 use Rattle.lfs_model.proofs.Checksums.{are_bytes, crc_lt, crc_is_remainder, one_checksum}
 use Rattle.lfs_model.proofs.log.checksum_is_remainder.Goals as goal
 

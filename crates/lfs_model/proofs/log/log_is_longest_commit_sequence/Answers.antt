@@ -1,5 +1,5 @@
 use Rattle.std.proofs.Common.{◌-◌, length}
-use Rattle.lfs_model.specs.Log.{chain_of}
+use Rattle.lfs_model.specs.format.Log.{chain_of}
 use Rattle.lfs_model.proofs.Chains.{chain_sound, chain_longest, chain_beginning}
 use Rattle.lfs_model.proofs.log.log_is_longest_commit_sequence.Goals as goal
 

@@ -1,5 +1,5 @@
 use Rattle.std.proofs.Common.{refl, sym, ap, ◌∙◌, append-nil}
-use Rattle.lfs_model.specs.History.{program_count_of_history}
+use Rattle.lfs_model.specs.session.History.{program_count}
 use Rattle.lfs_model.proofs.FreshSession.{differ, none_accepted}
 use Rattle.lfs_model.proofs.losses.failure_of_nonwriting_operation_writes_nothing.Goals as goal
 
@@ -10,7 +10,7 @@ pub returns-clause-no_write : goal.returns-clause-no_write
 returns-clause-no_write c = λ h. differ (sym (h.remounted refl).0)
 
 pub returns-clause-itself : goal.returns-clause-itself
-returns-clause-itself c = λ h. absurd (let e = ap program_count_of_history (h.called ∙ append-nil h.calls) ∙ (h.itself refl).1.0 in cc)
+returns-clause-itself c = λ h. absurd (let e = ap program_count (h.called ∙ append-nil h.calls) ∙ (h.itself refl).1.0 in cc)
 
 pub returns-clause-unwritten : goal.returns-clause-unwritten
-returns-clause-unwritten c = λ h. absurd (let e = ap program_count_of_history (h.called ∙ append-nil h.calls) ∙ (h.unwritten (λ ps a w. none_accepted ps a)).1.0 in cc)
+returns-clause-unwritten c = λ h. absurd (let e = ap program_count (h.called ∙ append-nil h.calls) ∙ (h.unwritten (λ ps a w. none_accepted ps a)).1.0 in cc)

@@ -1,16 +1,16 @@
 use Rattle.std.proofs.Common.{◌≡◌, inl, inr, List, [], ◌∷◌, ◌++◌, refl, sym, ap, ◌∙◌}
-use Rattle.lfs_model.specs.Operations.{Operation}
-use Rattle.lfs_model.specs.RepeatedPowerLoss.{IsPowerLostAfterRun, IsPowerLossSurvived}
-use Rattle.lfs_model.specs.Performed.{IsRunOfOperationsOrEndedByError}
-use Rattle.lfs_model.specs.Disk.{Disk, disk_in_order}
-use Rattle.lfs_model.specs.Run.{SystemState}
-use Rattle.lfs_model.specs.Session.{Session}
-use Rattle.lfs_model.specs.examples.Runs.{fresh_system_state}
-use Rattle.lfs_model.specs.Tree.{Tree}
-use Rattle.lfs_model.specs.Fresh.{empty_tree}
-use Rattle.lfs_model.specs.State.{SessionHealth, HasFailed, Healthy, session_after_mount}
+use Rattle.lfs_model.specs.session.Operations.{Operation}
+use Rattle.lfs_model.specs.crash.RepeatedPowerLoss.{LossAfterRun, SurvivesLoss}
+use Rattle.lfs_model.specs.crash.Performed.{IsRun}
+use Rattle.lfs_model.specs.format.Disk.{Disk, ordered_disk}
+use Rattle.lfs_model.specs.session.Run.{SystemState}
+use Rattle.lfs_model.specs.session.Session.{Session}
+use Rattle.lfs_model.specs.examples.Runs.{fresh_state}
+use Rattle.lfs_model.specs.tree.Tree.{Tree}
+use Rattle.lfs_model.specs.tree.Fresh.{empty_tree}
+use Rattle.lfs_model.specs.session.State.{SessionHealth, HasFailed, Healthy, mounted_session}
 use Rattle.lfs_model.proofs.Fresh.{shows}
-use Rattle.lfs_model.specs.examples.Images.{small_fresh_image}
+use Rattle.lfs_model.specs.examples.Images.{small_image}
 use Rattle.lfs_model.proofs.FreshSession.{pairs, are_accepted, in_profile, none_in_order, tree_in_order}
 use Rattle.lfs_model.proofs.Survived.{run_survives}
 use Rattle.lfs_model.proofs.losses.power_loss_is_survived.Goals as goal
@@ -20,7 +20,7 @@ returns-clause-run c = run_survives
 
 pub returns-clause-may : goal.returns-clause-may
 returns-clause-may c = record {
-  agrees = record { session = session_after_mount empty_tree; healthy = refl; shows = (pairs, (are_accepted, sym (shows small_fresh_image))) };
+  agrees = record { session = mounted_session empty_tree; healthy = refl; shows = (pairs, (are_accepted, sym (shows small_image))) };
   profile = in_profile;
   cleanly = record { events = []; extends = refl; each = tt };
 }
@@ -43,11 +43,11 @@ none_short : (done : List Operation) (next : Operation) (others : List Operation
 none_short [] next others e = absurd (cc)
 none_short (op ∷ done) next others e = absurd (cc)
 
-at_end : (from at : SystemState) (left : Disk) (tree : Tree) → from.state ≡ Healthy (session_after_mount empty_tree) → from ≡ at → IsPowerLostAfterRun at left tree → tree ≡ empty_tree
-at_end from at left tree begun same cut = cut.is ∙ sym (ap (λ (s : Session). s.tree) (same_session (session_after_mount empty_tree) cut.session (sym begun ∙ ap (λ (m : SystemState). m.state) same ∙ cut.healthy)))
+at_end : (from at : SystemState) (left : Disk) (tree : Tree) → from.state ≡ Healthy (mounted_session empty_tree) → from ≡ at → LossAfterRun at left tree → tree ≡ empty_tree
+at_end from at left tree begun same cut = cut.is ∙ sym (ap (λ (s : Session). s.tree) (same_session (mounted_session empty_tree) cut.session (sym begun ∙ ap (λ (m : SystemState). m.state) same ∙ cut.healthy)))
 
-none_begun : (to : SystemState) (run : IsRunOfOperationsOrEndedByError fresh_system_state [] to) (left : Disk) (s : IsPowerLossSurvived fresh_system_state [] to run left) → s.tree ≡ empty_tree
-none_begun to (inl ([], same)) left s = at_end fresh_system_state to (disk_in_order s.order left) s.tree refl same s.cut
+none_begun : (to : SystemState) (run : IsRun fresh_state [] to) (left : Disk) (s : SurvivesLoss fresh_state [] to run left) → s.tree ≡ empty_tree
+none_begun to (inl ([], same)) left s = at_end fresh_state to (ordered_disk s.order left) s.tree refl same s.cut
 none_begun to (inl (reply ∷ replies, steps)) left s = absurd steps
 none_begun to (inr short) left s = absurd (none_short short.done short.next short.others short.are)
 

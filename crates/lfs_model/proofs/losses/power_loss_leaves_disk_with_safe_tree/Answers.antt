@@ -1,24 +1,24 @@
 use Rattle.std.proofs.Common.{[], refl, sym, ap, ◌∙◌}
 use Rattle.std.specs.Prelude.{codes}
-use Rattle.lfs_model.specs.Tree.{Tree}
-use Rattle.lfs_model.specs.Operations as ops
-use Rattle.lfs_model.specs.Fresh.{empty_tree}
-use Rattle.lfs_model.specs.State.{Healthy, session_after_mount}
-use Rattle.lfs_model.specs.examples.Images.{small_fresh_image}
+use Rattle.lfs_model.specs.tree.Tree.{Tree}
+use Rattle.lfs_model.specs.session.Operations as ops
+use Rattle.lfs_model.specs.tree.Fresh.{empty_tree}
+use Rattle.lfs_model.specs.session.State.{Healthy, mounted_session}
+use Rattle.lfs_model.specs.examples.Images.{small_image}
 use Rattle.lfs_model.proofs.Fresh.{shows, writable}
 use Rattle.lfs_model.proofs.Example.{fresh}
-use Rattle.lfs_model.specs.Shown.{tree_on_disk}
+use Rattle.lfs_model.specs.tree.Shown.{tree_on_disk}
 use Rattle.lfs_model.proofs.SafeImage.{is_safe}
 use Rattle.lfs_model.proofs.Survived.{safe_with}
 use Rattle.lfs_model.proofs.FreshSession.{pairs, are_accepted, tree_is_empty, around, is_at_work, none_accepted, surviving}
 use Rattle.lfs_model.proofs.losses.power_loss_leaves_disk_with_safe_tree.Goals as goal
 
 pub returns-clause-no_call : goal.returns-clause-no_call
-returns-clause-no_call c = surviving (ops.Stat (codes "/")) (Healthy (session_after_mount empty_tree))
+returns-clause-no_call c = surviving (ops.Stat (codes "/")) (Healthy (mounted_session empty_tree))
 
 pub returns-clause-lost : goal.returns-clause-lost
 returns-clause-lost c = λ h.
-    let left = h.stands (session_after_mount empty_tree) pairs around is_at_work (record { events = []; extends = refl; each = tt }) (record { events = []; extends = refl; each = tt }) in
+    let left = h.stands (mounted_session empty_tree) pairs around is_at_work (record { events = []; extends = refl; each = tt }) (record { events = []; extends = refl; each = tt }) in
     none_accepted left.pairs left.accepted
 
 pub returns-clause-restored : goal.returns-clause-restored
@@ -26,9 +26,9 @@ returns-clause-restored c = record {
   done = refl;
   pairs = pairs;
   accepted = are_accepted;
-  writable = writable small_fresh_image fresh;
+  writable = writable small_image fresh;
   recovered = record { gstate = refl; reached = are_accepted.reached refl };
-  kept = shows small_fresh_image;
+  kept = shows small_image;
 }
 
 pub returns-clause-other_tree : goal.returns-clause-other_tree

@@ -1,22 +1,22 @@
 use Rattle.std.proofs.Common.{[], ◌∷◌, None, refl}
 use Rattle.std.specs.Prelude.{codes}
-use Rattle.lfs_model.specs.Operations as ops
-use Rattle.lfs_model.specs.examples.Runs.{fresh_system_state, failed_system_state}
-use Rattle.lfs_model.specs.Performed.{IsRunEndedByError}
-use Rattle.lfs_model.specs.State.{HasFailed}
+use Rattle.lfs_model.specs.session.Operations as ops
+use Rattle.lfs_model.specs.examples.Runs.{fresh_state, failed_state}
+use Rattle.lfs_model.specs.crash.Performed.{FailsDuringRun}
+use Rattle.lfs_model.specs.session.State.{HasFailed}
 use Rattle.lfs_model.proofs.FreshSession.{surviving}
 use Rattle.lfs_model.proofs.AskedStep.{asked}
 use Rattle.lfs_model.proofs.losses.session_failure_ends_run_of_operations.Goals as goal
 
-cut : IsRunEndedByError fresh_system_state (ops.Stat (codes "/") ∷ ops.Mkdir (codes "/d") ∷ ops.UsedCount ∷ []) failed_system_state
+cut : FailsDuringRun fresh_state (ops.Stat (codes "/") ∷ ops.Mkdir (codes "/d") ∷ ops.UsedCount ∷ []) failed_state
 cut = record {
   done = ops.Stat (codes "/") ∷ [];
   next = ops.Mkdir (codes "/d");
   others = ops.UsedCount ∷ [];
   are = refl;
   replies = ops.StatIs None ∷ [];
-  at = fresh_system_state;
-  performed = (fresh_system_state, (asked, refl));
+  at = fresh_state;
+  performed = (fresh_state, (asked, refl));
   fails = record {
     failed = refl;
     geometry = record { block_size = refl; page = refl; order = refl; profile = refl; count = refl };

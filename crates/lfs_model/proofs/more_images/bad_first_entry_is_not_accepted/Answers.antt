@@ -1,9 +1,9 @@
 use Rattle.std.proofs.Common.{ℕ, ◌+◌, ◌≡◌, [], ◌∷◌, Option, Some, None, List, refl, ap, arith}
 use Rattle.std.specs.Prelude.{codes, slice_index, unwrap_or}
-use Rattle.lfs_model.specs.Crc.{crc_of, next_bits}
-use Rattle.lfs_model.specs.Log.{LogEntry, chain_of, chain_within, commit_within, entry_at, closes}
-use Rattle.lfs_model.specs.Slots.{zero_gstate}
-use Rattle.lfs_model.specs.View.{superblock_name_log_entry}
+use Rattle.lfs_model.specs.format.Crc.{crc_of, next_bits}
+use Rattle.lfs_model.specs.format.Log.{LogEntry, chain_of, chain_within, commit_within, entry_at, closes}
+use Rattle.lfs_model.specs.format.Slots.{zero_gstate}
+use Rattle.lfs_model.specs.tree.View.{superblock_entry}
 use Rattle.lfs_model.proofs.Examples.{pair, large_superblock}
 use Rattle.lfs_model.proofs.Refusals.{refused_with}
 use Rattle.lfs_model.proofs.more_images.bad_first_entry_is_not_accepted.Goals as goal
@@ -11,8 +11,8 @@ use Rattle.lfs_model.proofs.more_images.bad_first_entry_is_not_accepted.Goals as
 other_name : Some (codes "LITTLEFS") ≡ Some (codes "littlefs") → ⊥
 other_name e = let first : 76 + 0 ≡ 108 = ap (λ (o : Option (List ℕ)). slice_index (unwrap_or o []) 0) e in omega arith
 
-other_entry : Some (record { tag = 0x40100000; bytes = [] }) ≡ Some superblock_name_log_entry → ⊥
-other_entry e = let tags : 0x40100000 + 0 ≡ 0x0ff00008 = ap (λ (o : Option LogEntry). (unwrap_or o superblock_name_log_entry).tag) e in omega arith
+other_entry : Some (record { tag = 0x40100000; bytes = [] }) ≡ Some superblock_entry → ⊥
+other_entry e = let tags : 0x40100000 + 0 ≡ 0x0ff00008 = ap (λ (o : Option LogEntry). (unwrap_or o superblock_entry).tag) e in omega arith
 
 pub returns-clause-renamed : goal.returns-clause-renamed
 unfolding chain_of chain_within commit_within entry_at closes crc_of next_bits

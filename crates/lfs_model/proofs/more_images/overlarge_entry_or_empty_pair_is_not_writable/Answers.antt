@@ -1,11 +1,11 @@
 use Rattle.std.proofs.Common.{◌≤◌, [], ◌∷◌, None, refl, arith, replicate}
 use Rattle.std.specs.Prelude.{codes}
-use Rattle.lfs_model.specs.Disk.{default_profile}
-use Rattle.lfs_model.specs.Crc.{crc_of, next_bits}
-use Rattle.lfs_model.specs.Log.{chain_of, chain_within, commit_within, entry_at, closes}
-use Rattle.lfs_model.specs.Slots.{zero_gstate, Slot}
-use Rattle.lfs_model.specs.Thread.{Pair}
-use Rattle.lfs_model.specs.Profile.{IsSlotWithinWritableLimits}
+use Rattle.lfs_model.specs.format.Disk.{default_profile}
+use Rattle.lfs_model.specs.format.Crc.{crc_of, next_bits}
+use Rattle.lfs_model.specs.format.Log.{chain_of, chain_within, commit_within, entry_at, closes}
+use Rattle.lfs_model.specs.format.Slots.{zero_gstate, Slot}
+use Rattle.lfs_model.specs.format.Thread.{Pair}
+use Rattle.lfs_model.specs.tree.Profile.{IsWritableSlot}
 use Rattle.lfs_model.proofs.Examples.{pair, hard, file, large_superblock}
 use Rattle.lfs_model.proofs.Refusals.{read_only_with, fails_slot}
 use Rattle.lfs_model.proofs.more_images.overlarge_entry_or_empty_pair_is_not_writable.Goals as goal
@@ -16,7 +16,7 @@ charged = record (file (codes "a") []) { attributes = (0x41, replicate 1022 1) �
 abbrev charged_pair : Pair
 charged_pair = pair (0, 1) (large_superblock ∷ charged ∷ []) None zero_gstate
 
-too_much : IsSlotWithinWritableLimits default_profile 4096 256 charged → ⊥
+too_much : IsWritableSlot default_profile 4096 256 charged → ⊥
 too_much fits = let charge : 1951 ≤ 1900 = (fits.1 refl).charge in omega arith
 
 pub returns-clause-charge : goal.returns-clause-charge

@@ -1,10 +1,10 @@
 use Rattle.std.proofs.Common.{[], ◌∷◌, None, false, refl}
 use Rattle.std.specs.Prelude.{codes}
-use Rattle.lfs_model.specs.Disk.{default_profile}
-use Rattle.lfs_model.specs.Crc.{crc_of, next_bits}
-use Rattle.lfs_model.specs.Log.{chain_of, chain_within, commit_within, entry_at, closes}
-use Rattle.lfs_model.specs.Slots.{zero_gstate, File, Directory}
-use Rattle.lfs_model.specs.Fresh.{superblock_struct_bytes}
+use Rattle.lfs_model.specs.format.Disk.{default_profile}
+use Rattle.lfs_model.specs.format.Crc.{crc_of, next_bits}
+use Rattle.lfs_model.specs.format.Log.{chain_of, chain_within, commit_within, entry_at, closes}
+use Rattle.lfs_model.specs.format.Slots.{zero_gstate, File, Directory}
+use Rattle.lfs_model.specs.tree.Fresh.{superblock_bytes}
 use Rattle.lfs_model.proofs.Examples.{pair, folder, file, large_superblock}
 use Rattle.lfs_model.proofs.Refusals.{no_first, refused_with, fails_superblock, fails_move}
 use Rattle.lfs_model.proofs.more_images.slot_with_mismatched_struct_is_not_accepted.Goals as goal
@@ -19,8 +19,8 @@ returns-clause-move_elsewhere c = refused_with _ (pair (0, 1) (large_superblock 
 
 pub returns-clause-file_branch : goal.returns-clause-file_branch
 unfolding chain_of chain_within commit_within entry_at closes crc_of next_bits
-returns-clause-file_branch c = refused_with _ (pair (0, 1) (large_superblock ∷ record (folder (codes "a") (2, 3)) { kind = File } ∷ []) None zero_gstate ∷ []) (refl, refl) (refl, tt) (fails_superblock _ _ _ _ (superblock_struct_bytes default_profile 4096 16) refl (λ held h. h.1) refl)
+returns-clause-file_branch c = refused_with _ (pair (0, 1) (large_superblock ∷ record (folder (codes "a") (2, 3)) { kind = File } ∷ []) None zero_gstate ∷ []) (refl, refl) (refl, tt) (fails_superblock _ _ _ _ (superblock_bytes default_profile 4096 16) refl (λ held h. h.1) refl)
 
 pub returns-clause-directory_inline : goal.returns-clause-directory_inline
 unfolding chain_of chain_within commit_within entry_at closes crc_of next_bits
-returns-clause-directory_inline c = refused_with _ (pair (0, 1) (large_superblock ∷ record (file (codes "a") []) { kind = Directory } ∷ []) None zero_gstate ∷ []) (refl, refl) (refl, tt) (fails_superblock _ _ _ _ (superblock_struct_bytes default_profile 4096 16) refl (λ held h. h.1) refl)
+returns-clause-directory_inline c = refused_with _ (pair (0, 1) (large_superblock ∷ record (file (codes "a") []) { kind = Directory } ∷ []) None zero_gstate ∷ []) (refl, refl) (refl, tt) (fails_superblock _ _ _ _ (superblock_bytes default_profile 4096 16) refl (λ held h. h.1) refl)

@@ -1,10 +1,10 @@
 use Rattle.std.proofs.Common.{[], ◌∷◌, None, refl, replicate}
 use Rattle.std.specs.Prelude.{codes}
-use Rattle.lfs_model.specs.Disk.{default_profile}
-use Rattle.lfs_model.specs.Crc.{crc_of, next_bits}
-use Rattle.lfs_model.specs.Log.{chain_of, chain_within, commit_within, entry_at, closes}
-use Rattle.lfs_model.specs.Slots.{zero_gstate}
-use Rattle.lfs_model.specs.Fresh.{superblock_struct_bytes}
+use Rattle.lfs_model.specs.format.Disk.{default_profile}
+use Rattle.lfs_model.specs.format.Crc.{crc_of, next_bits}
+use Rattle.lfs_model.specs.format.Log.{chain_of, chain_within, commit_within, entry_at, closes}
+use Rattle.lfs_model.specs.format.Slots.{zero_gstate}
+use Rattle.lfs_model.specs.tree.Fresh.{superblock_bytes}
 use Rattle.lfs_model.proofs.Examples.{pair, hard, file, large_superblock}
 use Rattle.lfs_model.proofs.Refusals.{refused_with, fails_order, fails_superblock}
 use Rattle.lfs_model.proofs.refused.bad_name_is_not_accepted.Goals as goal
@@ -19,15 +19,15 @@ returns-clause-twice c = refused_with _ (pair (0, 1) (large_superblock ∷ file 
 
 pub returns-clause-dot : goal.returns-clause-dot
 unfolding chain_of chain_within commit_within entry_at closes crc_of next_bits
-returns-clause-dot c = refused_with _ (pair (0, 1) (large_superblock ∷ file (codes ".") [] ∷ []) (None) (zero_gstate) ∷ []) (refl, refl) (refl, tt) (fails_superblock _ _ _ _ (superblock_struct_bytes default_profile 4096 16) refl (λ held h. h.1) refl)
+returns-clause-dot c = refused_with _ (pair (0, 1) (large_superblock ∷ file (codes ".") [] ∷ []) (None) (zero_gstate) ∷ []) (refl, refl) (refl, tt) (fails_superblock _ _ _ _ (superblock_bytes default_profile 4096 16) refl (λ held h. h.1) refl)
 
 pub returns-clause-slash : goal.returns-clause-slash
 unfolding chain_of chain_within commit_within entry_at closes crc_of next_bits
-returns-clause-slash c = refused_with _ (pair (0, 1) (large_superblock ∷ file (codes "a/b") [] ∷ []) (None) (zero_gstate) ∷ []) (refl, refl) (refl, tt) (fails_superblock _ _ _ _ (superblock_struct_bytes default_profile 4096 16) refl (λ held h. h.1) refl)
+returns-clause-slash c = refused_with _ (pair (0, 1) (large_superblock ∷ file (codes "a/b") [] ∷ []) (None) (zero_gstate) ∷ []) (refl, refl) (refl, tt) (fails_superblock _ _ _ _ (superblock_bytes default_profile 4096 16) refl (λ held h. h.1) refl)
 
 pub returns-clause-long : goal.returns-clause-long
 unfolding chain_of chain_within commit_within entry_at closes crc_of next_bits
-returns-clause-long c = refused_with _ (pair (0, 1) (large_superblock ∷ file (replicate 256 97) [] ∷ []) (None) (zero_gstate) ∷ []) (refl, refl) (refl, tt) (fails_superblock _ _ _ _ (superblock_struct_bytes default_profile 4096 16) refl (λ held h. h.1) refl)
+returns-clause-long c = refused_with _ (pair (0, 1) (large_superblock ∷ file (replicate 256 97) [] ∷ []) (None) (zero_gstate) ∷ []) (refl, refl) (refl, tt) (fails_superblock _ _ _ _ (superblock_bytes default_profile 4096 16) refl (λ held h. h.1) refl)
 
 pub returns-clause-across : goal.returns-clause-across
 unfolding chain_of chain_within commit_within entry_at closes crc_of next_bits

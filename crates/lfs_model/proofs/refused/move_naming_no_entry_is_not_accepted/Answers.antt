@@ -1,6 +1,6 @@
 use Rattle.std.proofs.Common.{[], ◌∷◌, None, false, refl}
-use Rattle.lfs_model.specs.Crc.{crc_of, next_bits}
-use Rattle.lfs_model.specs.Log.{chain_of, chain_within, commit_within, entry_at, closes}
+use Rattle.lfs_model.specs.format.Crc.{crc_of, next_bits}
+use Rattle.lfs_model.specs.format.Log.{chain_of, chain_within, commit_within, entry_at, closes}
 use Rattle.lfs_model.proofs.Examples.{pair, large_superblock}
 use Rattle.lfs_model.proofs.Refusals.{refused_with, fails_move}
 use Rattle.lfs_model.proofs.refused.move_naming_no_entry_is_not_accepted.Goals as goal

@@ -1,8 +1,8 @@
 use Rattle.std.proofs.Common.{refl, sym}
-use Rattle.lfs_model.specs.Fresh.{empty_tree}
-use Rattle.lfs_model.specs.State.{session_after_mount}
-use Rattle.lfs_model.specs.examples.Images.{small_fresh_image}
-use Rattle.lfs_model.specs.examples.Runs.{fresh_system_state}
+use Rattle.lfs_model.specs.tree.Fresh.{empty_tree}
+use Rattle.lfs_model.specs.session.State.{mounted_session}
+use Rattle.lfs_model.specs.examples.Images.{small_image}
+use Rattle.lfs_model.specs.examples.Runs.{fresh_state}
 use Rattle.lfs_model.proofs.Fresh.{shows, writable}
 use Rattle.lfs_model.proofs.Example.{fresh}
 use Rattle.lfs_model.proofs.FreshSession.{pairs, are_accepted, none_accepted}
@@ -11,22 +11,22 @@ use Rattle.lfs_model.proofs.Kept.{session_shows}
 use Rattle.lfs_model.proofs.runs.applied_operations_determine_session.Goals as goal
 
 pub returns-clause-fresh : goal.returns-clause-fresh
-returns-clause-fresh c = record { from = fresh_system_state; fresh = fresh; mounts = refl; session_steps = (fresh_system_state, (turn, refl)) }
+returns-clause-fresh c = record { from = fresh_state; fresh = fresh; mounts = refl; session_steps = (fresh_state, (turn, refl)) }
 
 pub returns-clause-shown : goal.returns-clause-shown
-returns-clause-shown c = record { session = session_after_mount empty_tree; healthy = refl; shows = (pairs, (are_accepted, sym (shows small_fresh_image))) }
+returns-clause-shown c = record { session = mounted_session empty_tree; healthy = refl; shows = (pairs, (are_accepted, sym (shows small_image))) }
 
 pub returns-clause-failed : goal.returns-clause-failed
 returns-clause-failed c = λ h. absurd (let e = h.healthy in cc)
 
 pub returns-clause-kept : goal.returns-clause-kept
-returns-clause-kept c = session_shows fresh_system_state fresh_system_state _ _ (returns-clause-shown c) (fresh_system_state, (turn, refl))
+returns-clause-kept c = session_shows fresh_state fresh_state _ _ (returns-clause-shown c) (fresh_state, (turn, refl))
 
 pub returns-clause-lost : goal.returns-clause-lost
 returns-clause-lost c = λ h. returns-clause-failed c h.shows
 
 pub returns-clause-settled : goal.returns-clause-settled
-returns-clause-settled c = record { pairs = pairs; accepted = are_accepted; writable = writable small_fresh_image fresh; recovered = record { gstate = refl; reached = are_accepted.reached refl } }
+returns-clause-settled c = record { pairs = pairs; accepted = are_accepted; writable = writable small_image fresh; recovered = record { gstate = refl; reached = are_accepted.reached refl } }
 
 pub returns-clause-not_settled : goal.returns-clause-not_settled
 returns-clause-not_settled c = λ h. none_accepted h.pairs h.accepted

@@ -1,10 +1,10 @@
 use Rattle.std.proofs.Common.{◌≡◌, [], ◌∷◌, None, refl, sym, ◌∙◌}
-use Rattle.lfs_model.specs.Fresh.{only_pair_of_fresh_disk, empty_tree}
-use Rattle.lfs_model.specs.Operations as ops
-use Rattle.lfs_model.specs.State.{session_after_mount}
-use Rattle.lfs_model.specs.Run.{SystemState, IsSessionStep}
-use Rattle.lfs_model.specs.examples.Images.{small_fresh_image, image_of_two_commits}
-use Rattle.lfs_model.specs.examples.Runs.{fresh_system_state}
+use Rattle.lfs_model.specs.tree.Fresh.{fresh_pair, empty_tree}
+use Rattle.lfs_model.specs.session.Operations as ops
+use Rattle.lfs_model.specs.session.State.{mounted_session}
+use Rattle.lfs_model.specs.session.Run.{SystemState, IsStep}
+use Rattle.lfs_model.specs.examples.Images.{small_image, two_commit_image}
+use Rattle.lfs_model.specs.examples.Runs.{fresh_state}
 use Rattle.lfs_model.proofs.Fresh.{accepted}
 use Rattle.lfs_model.proofs.Example.{fresh}
 use Rattle.lfs_model.proofs.SessionSteps.{session_step_is_healthy, true_from}
@@ -16,12 +16,12 @@ pub returns-clause-answered : goal.returns-clause-answered
 returns-clause-answered c = turn
 
 pub returns-clause-run : goal.returns-clause-run
-returns-clause-run c = (fresh_system_state, (turn, refl))
+returns-clause-run c = (fresh_state, (turn, refl))
 
-no_change : (to : SystemState) → to.disk ≡ image_of_two_commits → IsSessionStep fresh_system_state op (ops.StatIs None) to → ⊥
+no_change : (to : SystemState) → to.disk ≡ two_commit_image → IsStep fresh_state op (ops.StatIs None) to → ⊥
 no_change to e h =
-    let known = true_from to (session_step_is_healthy fresh_system_state to op (ops.StatIs None) h tt) h.agrees in
-    let done = h.effect_on_disk refl (session_after_mount empty_tree) refl (only_pair_of_fresh_disk small_fresh_image ∷ []) known.shows.0 (accepted small_fresh_image fresh) known.shows.1.0 in
+    let known = true_from to (session_step_is_healthy fresh_state to op (ops.StatIs None) h tt) h.agrees in
+    let done = h.effect_on_disk refl (mounted_session empty_tree) refl (fresh_pair small_image ∷ []) known.shows.0 (accepted small_image fresh) known.shows.1.0 in
     differ (sym (done.asks refl).0 ∙ e)
 
 pub returns-clause-no_change : goal.returns-clause-no_change

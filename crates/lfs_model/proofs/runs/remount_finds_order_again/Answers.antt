@@ -1,26 +1,26 @@
 use Rattle.std.proofs.Common.{◌≡◌, [], refl, subst}
 use Rattle.lfs_model.specs.declared.order.NameOrder.TheVariants.{LongerFirst, ShorterFirst}
-use Rattle.lfs_model.specs.Disk.{disk_in_order}
-use Rattle.lfs_model.specs.View.{IsAcceptedImage}
-use Rattle.lfs_model.specs.Operations as ops
-use Rattle.lfs_model.specs.State.{HasFailed, Healthy, session_after_mount}
-use Rattle.lfs_model.specs.Tree.{Tree}
-use Rattle.lfs_model.specs.Run.{IsSessionStep}
-use Rattle.lfs_model.specs.examples.Images.{small_fresh_image}
-use Rattle.lfs_model.specs.examples.Runs.{fresh_system_state}
+use Rattle.lfs_model.specs.format.Disk.{ordered_disk}
+use Rattle.lfs_model.specs.tree.View.{IsAccepted}
+use Rattle.lfs_model.specs.session.Operations as ops
+use Rattle.lfs_model.specs.session.State.{HasFailed, Healthy, mounted_session}
+use Rattle.lfs_model.specs.tree.Tree.{Tree}
+use Rattle.lfs_model.specs.session.Run.{IsStep}
+use Rattle.lfs_model.specs.examples.Images.{small_image}
+use Rattle.lfs_model.specs.examples.Runs.{fresh_state}
 use Rattle.lfs_model.proofs.Fresh.{accepted, shows}
 use Rattle.lfs_model.proofs.Example.{fresh}
 use Rattle.lfs_model.proofs.FreshSession.{around, are_accepted, none_in_order, pairs, surrounds}
 use Rattle.lfs_model.proofs.StepsMade.{remounted_step}
 use Rattle.lfs_model.proofs.runs.remount_finds_order_again.Goals as goal
 
-fits_longer : IsAcceptedImage (disk_in_order LongerFirst small_fresh_image) pairs
-fits_longer = accepted (disk_in_order LongerFirst small_fresh_image) (record { geometry = fresh.geometry; content = fresh.content; first = fresh.first })
+fits_longer : IsAccepted (ordered_disk LongerFirst small_image) pairs
+fits_longer = accepted (ordered_disk LongerFirst small_image) (record { geometry = fresh.geometry; content = fresh.content; first = fresh.first })
 
 pub returns-clause-found : goal.returns-clause-found
 returns-clause-found c =
-    subst (λ (tree : Tree). IsSessionStep fresh_system_state ops.Remount ops.Done (record { disk = disk_in_order LongerFirst small_fresh_image; calls = []; state = Healthy (session_after_mount tree) })) (shows small_fresh_image)
-    (remounted_step small_fresh_image LongerFirst pairs around fresh_system_state.state [] [] (λ s e. (pairs, (are_accepted, surrounds))) fits_longer (λ e. absurd (cc)) (refl, refl))
+    subst (λ (tree : Tree). IsStep fresh_state ops.Remount ops.Done (record { disk = ordered_disk LongerFirst small_image; calls = []; state = Healthy (mounted_session tree) })) (shows small_image)
+    (remounted_step small_image LongerFirst pairs around fresh_state.state [] [] (λ s e. (pairs, (are_accepted, surrounds))) fits_longer (λ e. absurd (cc)) (refl, refl))
 
 pub returns-clause-not_kept : goal.returns-clause-not_kept
 returns-clause-not_kept c = λ h. (h.remounted refl).longer refl pairs fits_longer

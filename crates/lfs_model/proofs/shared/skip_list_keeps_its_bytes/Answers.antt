@@ -1,12 +1,12 @@
-use Rattle.lfs_model.proofs.ListSizes.{length-bytes_of_skip_list, list_block_count_for_size-more}
+use Rattle.lfs_model.proofs.ListSizes.{length-list_bytes, block_count_for-more}
 use Rattle.lfs_model.proofs.Staying.{list-stays, bytes-stay}
 use Rattle.lfs_model.proofs.shared.skip_list_keeps_its_bytes.Goals as goal
 
 pub returns-clause-size : goal.returns-clause-size
-returns-clause-size c = length-bytes_of_skip_list
+returns-clause-size c = length-list_bytes
 
 pub returns-clause-more : goal.returns-clause-more
-returns-clause-more c = list_block_count_for_size-more
+returns-clause-more c = block_count_for-more
 
 pub returns-clause-stays : goal.returns-clause-stays
 returns-clause-stays c = λ old new bs block_size head size same apart list.

@@ -1,18 +1,18 @@
 use Rattle.std.proofs.Common.{ℕ, ◌≡◌, inl, inr, List, [], ◌∷◌, refl, sym, ap, arith}
 use Rattle.std.specs.Prelude.{codes, slice_index}
 use Rattle.std.proofs.lemmas.Option.{same_Some}
-use Rattle.lfs_model.specs.Disk.{default_profile}
-use Rattle.lfs_model.specs.Slots.{Slot, Struct, Inline}
-use Rattle.lfs_model.specs.Fresh.{superblock_slot}
-use Rattle.lfs_model.specs.SlotEdits.{new_file_slot, new_directory_slot, MovesSlotToPath}
-use Rattle.lfs_model.specs.examples.Runs.{root_and_directory_with_slots, root_pair_with_file}
-use Rattle.lfs_model.proofs.Sites.{IsTrueOfSomeElement}
+use Rattle.lfs_model.specs.format.Disk.{default_profile}
+use Rattle.lfs_model.specs.format.Slots.{Slot, Struct, Inline}
+use Rattle.lfs_model.specs.tree.Fresh.{superblock_slot}
+use Rattle.lfs_model.specs.session.SlotEdits.{file_slot, directory_slot, MovesSlot}
+use Rattle.lfs_model.specs.examples.Runs.{root_and_directory, root_with_file}
+use Rattle.lfs_model.proofs.Sites.{HoldsOfSome}
 use Rattle.lfs_model.proofs.Spliced.{comes}
 use Rattle.lfs_model.proofs.slots.operations_edit_slots.Goals as goal
-use Rattle.lfs_model.specs.InDirectory.{slots_of_pairs_in_order}
+use Rattle.lfs_model.specs.session.InDirectory.{all_slots}
 
 abbrev root : List Slot
-root = superblock_slot default_profile 4096 16 ∷ new_directory_slot (codes "d") (4, 5) ∷ []
+root = superblock_slot default_profile 4096 16 ∷ directory_slot (codes "d") (4, 5) ∷ []
 
 pub returns-clause-made : goal.returns-clause-made
 returns-clause-made c = (refl, record { before = []; pair = _; after = _; left = root; right = []; was = refl; held = refl; is = refl })
@@ -21,9 +21,9 @@ pub returns-clause-moved : goal.returns-clause-moved
 returns-clause-moved c = (
   refl,
   (
-    new_file_slot (codes "a"),
-    root_and_directory_with_slots [] [],
-    root_and_directory_with_slots [] [],
+    file_slot (codes "a"),
+    root_and_directory [] [],
+    root_and_directory [] [],
     (
       refl,
       record { before = _ ∷ []; pair = _; after = _; left = []; right = []; was = refl; held = refl; is = refl },
@@ -34,7 +34,7 @@ returns-clause-moved c = (
 )
 
 pub returns-clause-removed : goal.returns-clause-removed
-returns-clause-removed c = (refl, new_file_slot (codes "a"), (refl, record { before = _ ∷ []; pair = _; after = _; left = []; right = []; was = refl; held = refl; is = refl }))
+returns-clause-removed c = (refl, file_slot (codes "a"), (refl, record { before = _ ∷ []; pair = _; after = _; left = []; right = []; was = refl; held = refl; is = refl }))
 
 pub returns-clause-committed : goal.returns-clause-committed
 returns-clause-committed c = (
@@ -42,8 +42,8 @@ returns-clause-committed c = (
   inr (
     refl,
     (
-      new_file_slot (codes "a"),
-      record (new_file_slot (codes "a")) { struct = Inline (codes "hi") },
+      file_slot (codes "a"),
+      record (file_slot (codes "a")) { struct = Inline (codes "hi") },
       (refl, (refl, (refl, omega arith)), record { before = []; pair = _; after = _; left = superblock_slot default_profile 4096 16 ∷ []; right = []; was = refl; held = refl; is = refl }),
     ),
   ),
@@ -60,13 +60,13 @@ abbrev first_byte : Slot → ℕ
 first_byte s = first_byte_of s.struct
 
 -- the moved slot says `x`, and none of these does
-other_bytes : MovesSlotToPath (root_pair_with_file (codes "a") (codes "x")) (codes "a" ∷ []) (codes "b" ∷ []) (root_pair_with_file (codes "a") (codes "x")) (root_pair_with_file (codes "b") (codes "y")) → ⊥
-other_bytes (u, left, cleared, (at, out, clear, into)) = go (comes (record u { name = codes "b" }) [] cleared (root_pair_with_file (codes "b") (codes "y")) into)
+other_bytes : MovesSlot (root_with_file (codes "a") (codes "x")) (codes "a" ∷ []) (codes "b" ∷ []) (root_with_file (codes "a") (codes "x")) (root_with_file (codes "b") (codes "y")) → ⊥
+other_bytes (u, left, cleared, (at, out, clear, into)) = go (comes (record u { name = codes "b" }) [] cleared (root_with_file (codes "b") (codes "y")) into)
   where
     says : first_byte u ≡ 120
-    says = sym (ap first_byte (same_Some (record (new_file_slot (codes "a")) { struct = Inline (codes "x") }) u at))
+    says = sym (ap first_byte (same_Some (record (file_slot (codes "a")) { struct = Inline (codes "x") }) u at))
 
-    go : IsTrueOfSomeElement (λ s. s ≡ record u { name = codes "b" }) (slots_of_pairs_in_order (root_pair_with_file (codes "b") (codes "y"))) → ⊥
+    go : HoldsOfSome (λ s. s ≡ record u { name = codes "b" }) (all_slots (root_with_file (codes "b") (codes "y"))) → ⊥
     go (inl e) = absurd (let k : 0 ≡ first_byte u = ap first_byte e in omega (arith, says))
     go (inr (inl e)) = absurd (let k : 121 ≡ first_byte u = ap first_byte e in omega (arith, says))
     go (inr (inr e)) = e

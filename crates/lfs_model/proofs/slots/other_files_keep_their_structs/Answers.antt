@@ -1,28 +1,28 @@
 use Rattle.std.proofs.Common.{ℕ, ◌≡◌, Bool, true, false, cond, ◌&&◌, List, [], ◌∷◌, Option, Some, None, refl, sym, ap, ◌∙◌, option_map, option_and_then}
 use Rattle.std.specs.Prelude.{codes}
-use Rattle.lfs_model.specs.Disk.{Disk}
-use Rattle.lfs_model.specs.Names.{same_name}
-use Rattle.lfs_model.specs.Slots.{Slot, Struct, Inline, Ctz}
-use Rattle.lfs_model.specs.Tree.{Path, slot_at_path}
-use Rattle.lfs_model.specs.TreeEdits.{same_path}
-use Rattle.lfs_model.specs.Shown.{entries_by_directory_in_thread}
-use Rattle.lfs_model.specs.Operations as ops
-use Rattle.lfs_model.specs.SlotEdits.{new_file_slot}
-use Rattle.lfs_model.specs.Keeping.{struct_of_path, KeepsStructsOfUntouchedFiles}
-use Rattle.lfs_model.specs.examples.Runs.{root_pair_with_file, session_with_writer_of_path}
+use Rattle.lfs_model.specs.format.Disk.{Disk}
+use Rattle.lfs_model.specs.format.Names.{same_name}
+use Rattle.lfs_model.specs.format.Slots.{Slot, Struct, Inline, Ctz}
+use Rattle.lfs_model.specs.tree.Tree.{Path, slot_at_path}
+use Rattle.lfs_model.specs.session.TreeEdits.{same_path}
+use Rattle.lfs_model.specs.tree.Shown.{all_entries}
+use Rattle.lfs_model.specs.session.Operations as ops
+use Rattle.lfs_model.specs.session.SlotEdits.{file_slot}
+use Rattle.lfs_model.specs.layers.Keeping.{struct_at, KeepsStructs}
+use Rattle.lfs_model.specs.examples.Runs.{root_with_file, with_writer}
 use Rattle.lfs_model.proofs.Paths.{Names, alike, unlike, names, same_itself}
 use Rattle.lfs_model.proofs.slots.other_files_keep_their_structs.Goals as goal
 
 -- what the file's slot leads on to
 abbrev below : List ℕ → Path → Bool → Option Struct
 below bytes r b = option_map (λ (u : Slot). u.struct)
-    (option_and_then (λ c. slot_at_path (entries_by_directory_in_thread (root_pair_with_file (codes "a") bytes)) c r) (cond b (Some (record (new_file_slot (codes "a")) { struct = Inline bytes })) None))
+    (option_and_then (λ c. slot_at_path (all_entries (root_with_file (codes "a") bytes)) c r) (cond b (Some (record (file_slot (codes "a")) { struct = Inline bytes })) None))
 
-committed : (disk : Disk) → KeepsStructsOfUntouchedFiles disk (root_pair_with_file (codes "a") []) (session_with_writer_of_path (codes "a" ∷ []) true (codes "hi")) (ops.Sync 0) (root_pair_with_file (codes "a") (codes "hi"))
+committed : (disk : Disk) → KeepsStructs disk (root_with_file (codes "a") []) (with_writer (codes "a" ∷ []) true (codes "hi")) (ops.Sync 0) (root_with_file (codes "a") (codes "hi"))
 committed disk [] file off elsewhere = absurd (cc)
 committed disk (n ∷ r) file off elsewhere = go (names n (codes "a")) r elsewhere
   where
-    go : Names n (codes "a") → (r : Path) → (same_name (codes "a") n && same_path [] r) ≡ false → struct_of_path (root_pair_with_file (codes "a") (codes "hi")) (n ∷ r) ≡ struct_of_path (root_pair_with_file (codes "a") []) (n ∷ r)
+    go : Names n (codes "a") → (r : Path) → (same_name (codes "a") n && same_path [] r) ≡ false → struct_at (root_with_file (codes "a") (codes "hi")) (n ∷ r) ≡ struct_at (root_with_file (codes "a") []) (n ∷ r)
     go (unlike ne e) r h = ap (below (codes "hi") r) e ∙ sym (ap (below [] r) e)
     go (alike f e) [] h = absurd (let k = sym (ap (λ z. same_name (codes "a") z && true) f ∙ ap (λ b. b && true) (same_itself (codes "a"))) ∙ h in cc)
     go (alike f e) (m ∷ r) h = ap (below (codes "hi") (m ∷ r)) e ∙ sym (ap (below [] (m ∷ r)) e)

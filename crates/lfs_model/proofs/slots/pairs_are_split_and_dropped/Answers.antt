@@ -1,11 +1,11 @@
 use Rattle.std.proofs.Common.{◌≤◌, [], ◌∷◌, None, refl, arith}
 use Rattle.std.specs.Prelude.{codes}
-use Rattle.lfs_model.specs.Layout.{IsContentFittingPairOnDisk}
-use Rattle.lfs_model.specs.examples.Images.{small_fresh_image}
-use Rattle.lfs_model.specs.examples.Runs.{pair_with_slots_and_tail, file_slot_with_long_attribute}
+use Rattle.lfs_model.specs.session.Layout.{FitsPair}
+use Rattle.lfs_model.specs.examples.Images.{small_image}
+use Rattle.lfs_model.specs.examples.Runs.{pair_with_tail, long_attribute_slot}
 use Rattle.lfs_model.proofs.slots.pairs_are_split_and_dropped.Goals as goal
 
-too_much : IsContentFittingPairOnDisk small_fresh_image (pair_with_slots_and_tail (2, 3) (file_slot_with_long_attribute (codes "a") ∷ file_slot_with_long_attribute (codes "b") ∷ []) None) → ⊥
+too_much : FitsPair small_image (pair_with_tail (2, 3) (long_attribute_slot (codes "a") ∷ long_attribute_slot (codes "b") ∷ []) None) → ⊥
 too_much h = let k : 1026 ≤ 857 = h.size in omega arith
 
 pub returns-clause-cut : goal.returns-clause-cut

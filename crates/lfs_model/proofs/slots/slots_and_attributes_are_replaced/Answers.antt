@@ -1,29 +1,29 @@
 use Rattle.std.proofs.Common.{ℕ, ◌+◌, ◌≡◌, ◌≤◌, inl, inr, true, List, [], ◌∷◌, length, refl, sym, ap, ◌∙◌, arith}
 use Rattle.std.specs.Prelude.{codes}
 use Rattle.std.proofs.lemmas.Option.{same_Some}
-use Rattle.lfs_model.specs.Disk.{default_profile}
-use Rattle.lfs_model.specs.Slots.{Slot, Struct, Inline, Ctz, Branch}
-use Rattle.lfs_model.specs.Content.{attributes_with_attribute}
-use Rattle.lfs_model.specs.Fresh.{superblock_slot}
-use Rattle.lfs_model.specs.Session.{open_file_with_number}
-use Rattle.lfs_model.specs.SlotEdits.{new_file_slot, new_directory_slot, ReplacesSlotOfPath, IsStructStoringBytes, StoresDirtyWriter}
-use Rattle.lfs_model.specs.examples.Images.{large_fresh_image}
-use Rattle.lfs_model.specs.examples.Runs.{root_and_directory_with_slots, root_and_directory_of_two_pairs, root_pair_with_file, file_slot_with_long_attribute, session_with_writer_of_path}
-use Rattle.lfs_model.proofs.Sites.{IsTrueOfSomeElement}
+use Rattle.lfs_model.specs.format.Disk.{default_profile}
+use Rattle.lfs_model.specs.format.Slots.{Slot, Struct, Inline, Ctz, Branch}
+use Rattle.lfs_model.specs.format.Content.{attributes_with}
+use Rattle.lfs_model.specs.tree.Fresh.{superblock_slot}
+use Rattle.lfs_model.specs.session.Session.{file_numbered}
+use Rattle.lfs_model.specs.session.SlotEdits.{file_slot, directory_slot, ReplacesSlot, StoresBytes, StoresWriter}
+use Rattle.lfs_model.specs.examples.Images.{large_image}
+use Rattle.lfs_model.specs.examples.Runs.{root_and_directory, root_and_two, root_with_file, long_attribute_slot, with_writer}
+use Rattle.lfs_model.proofs.Sites.{HoldsOfSome}
 use Rattle.lfs_model.proofs.Spliced.{comes}
 use Rattle.lfs_model.proofs.slots.slots_and_attributes_are_replaced.Goals as goal
-use Rattle.lfs_model.specs.InDirectory.{slots_of_pairs_in_order}
+use Rattle.lfs_model.specs.session.InDirectory.{all_slots}
 
 abbrev root : List Slot
-root = superblock_slot default_profile 4096 16 ∷ new_directory_slot (codes "d") (4, 5) ∷ []
+root = superblock_slot default_profile 4096 16 ∷ directory_slot (codes "d") (4, 5) ∷ []
 
 pub returns-clause-onto : goal.returns-clause-onto
 returns-clause-onto c = (
   refl,
   (
-    new_file_slot (codes "a"),
-    root_and_directory_with_slots (new_file_slot (codes "e") ∷ []) [],
-    root_and_directory_with_slots [] [],
+    file_slot (codes "a"),
+    root_and_directory (file_slot (codes "e") ∷ []) [],
+    root_and_directory [] [],
     (
       refl,
       record { before = _ ∷ []; pair = _; after = _; left = []; right = []; was = refl; held = refl; is = refl },
@@ -34,29 +34,29 @@ returns-clause-onto c = (
 )
 
 pub returns-clause-set : goal.returns-clause-set
-returns-clause-set c = (refl, (new_file_slot (codes "a"), file_slot_with_long_attribute (codes "a"), (refl, refl, record { before = _ ∷ []; pair = _; after = _; left = []; right = []; was = refl; held = refl; is = refl })))
+returns-clause-set c = (refl, (file_slot (codes "a"), long_attribute_slot (codes "a"), (refl, refl, record { before = _ ∷ []; pair = _; after = _; left = []; right = []; was = refl; held = refl; is = refl })))
 
 pub returns-clause-removed : goal.returns-clause-removed
-returns-clause-removed c = (refl, (file_slot_with_long_attribute (codes "a"), new_file_slot (codes "a"), (refl, refl, record { before = _ ∷ []; pair = _; after = _; left = []; right = []; was = refl; held = refl; is = refl })))
+returns-clause-removed c = (refl, (long_attribute_slot (codes "a"), file_slot (codes "a"), (refl, refl, record { before = _ ∷ []; pair = _; after = _; left = []; right = []; was = refl; held = refl; is = refl })))
 
 pub returns-clause-clean : goal.returns-clause-clean
 returns-clause-clean c = (refl, inl (refl, refl))
 
 -- no slot has an attribute
-unset : ReplacesSlotOfPath (λ u v. v ≡ record u { attributes = attributes_with_attribute 0x41 (codes "x") u.attributes }) root_and_directory_of_two_pairs (codes "d" ∷ codes "a" ∷ []) root_and_directory_of_two_pairs root_and_directory_of_two_pairs → ⊥
-unset (u, v, (at, is, spliced)) = go (comes v (u ∷ []) root_and_directory_of_two_pairs root_and_directory_of_two_pairs spliced)
+unset : ReplacesSlot (λ u v. v ≡ record u { attributes = attributes_with 0x41 (codes "x") u.attributes }) root_and_two (codes "d" ∷ codes "a" ∷ []) root_and_two root_and_two → ⊥
+unset (u, v, (at, is, spliced)) = go (comes v (u ∷ []) root_and_two root_and_two spliced)
   where
     some : length v.attributes ≡ 1
-    some = ap (λ (s : Slot). length s.attributes) is ∙ sym (ap (λ (s : Slot). length (attributes_with_attribute 0x41 (codes "x") s.attributes)) (same_Some (new_file_slot (codes "a")) u at))
+    some = ap (λ (s : Slot). length s.attributes) is ∙ sym (ap (λ (s : Slot). length (attributes_with 0x41 (codes "x") s.attributes)) (same_Some (file_slot (codes "a")) u at))
 
     none : (s : Slot) → length s.attributes ≡ 0 → s ≡ v → ⊥
     none s e f = absurd (let k = ap (λ (t : Slot). length t.attributes) f in omega (arith, some))
 
-    go : IsTrueOfSomeElement (λ s. s ≡ v) (slots_of_pairs_in_order root_and_directory_of_two_pairs) → ⊥
+    go : HoldsOfSome (λ s. s ≡ v) (all_slots root_and_two) → ⊥
     go (inl e) = none (superblock_slot default_profile 4096 16) refl e
-    go (inr (inl e)) = none (new_directory_slot (codes "d") (4, 5)) refl e
-    go (inr (inr (inl e))) = none (new_file_slot (codes "a")) refl e
-    go (inr (inr (inr (inl e)))) = none (new_file_slot (codes "z")) refl e
+    go (inr (inl e)) = none (directory_slot (codes "d") (4, 5)) refl e
+    go (inr (inr (inl e))) = none (file_slot (codes "a")) refl e
+    go (inr (inr (inr (inl e)))) = none (file_slot (codes "z")) refl e
     go (inr (inr (inr (inr e)))) = e
 
 pub returns-clause-unset : goal.returns-clause-unset
@@ -67,15 +67,15 @@ size : Struct → ℕ
 size (Inline bytes) = length bytes
 size _ = 0
 
-stored : (s : Struct) → IsStructStoringBytes large_fresh_image (codes "hi") s → size s ≡ 2
+stored : (s : Struct) → StoresBytes large_image (codes "hi") s → size s ≡ 2
 unfolding size
 stored (Inline own) h = ap length h.0
 stored (Ctz head long) h = absurd (let k : 512 + 1 ≤ 2 = h.2 in omega arith)
 stored (Branch to) h = absurd h
 
-uncommitted : ReplacesSlotOfPath (λ u v. (v ≡ record u { struct = v.struct }) × IsStructStoringBytes large_fresh_image (codes "hi") v.struct) (root_pair_with_file (codes "a") []) (codes "a" ∷ []) (root_pair_with_file (codes "a") []) (root_pair_with_file (codes "a") []) → ⊥
+uncommitted : ReplacesSlot (λ u v. (v ≡ record u { struct = v.struct }) × StoresBytes large_image (codes "hi") v.struct) (root_with_file (codes "a") []) (codes "a" ∷ []) (root_with_file (codes "a") []) (root_with_file (codes "a") []) → ⊥
 unfolding size
-uncommitted (u, v, (at, (is, said), spliced)) = go (comes v (u ∷ []) (root_pair_with_file (codes "a") []) (root_pair_with_file (codes "a") []) spliced)
+uncommitted (u, v, (at, (is, said), spliced)) = go (comes v (u ∷ []) (root_with_file (codes "a") []) (root_with_file (codes "a") []) spliced)
   where
     two : size v.struct ≡ 2
     two = stored v.struct said
@@ -83,12 +83,12 @@ uncommitted (u, v, (at, (is, said), spliced)) = go (comes v (u ∷ []) (root_pai
     other : (s : Slot) (n : ℕ) → size s.struct ≡ n → s ≡ v → n ≡ 2
     other s n e f = sym e ∙ ap (λ (t : Slot). size t.struct) f ∙ two
 
-    go : IsTrueOfSomeElement (λ s. s ≡ v) (slots_of_pairs_in_order (root_pair_with_file (codes "a") [])) → ⊥
+    go : HoldsOfSome (λ s. s ≡ v) (all_slots (root_with_file (codes "a") [])) → ⊥
     go (inl e) = absurd (let k : 24 ≡ 2 = other (superblock_slot default_profile 4096 16) 24 refl e in omega arith)
-    go (inr (inl e)) = absurd (let k : 0 ≡ 2 = other (new_file_slot (codes "a")) 0 refl e in omega arith)
+    go (inr (inl e)) = absurd (let k : 0 ≡ 2 = other (file_slot (codes "a")) 0 refl e in omega arith)
     go (inr (inr e)) = e
 
-either : StoresDirtyWriter large_fresh_image (root_pair_with_file (codes "a") []) (open_file_with_number (session_with_writer_of_path (codes "a" ∷ []) true (codes "hi")).files 0) (root_pair_with_file (codes "a") []) (root_pair_with_file (codes "a") []) → ⊥
+either : StoresWriter large_image (root_with_file (codes "a") []) (file_numbered (with_writer (codes "a" ∷ []) true (codes "hi")).files 0) (root_with_file (codes "a") []) (root_with_file (codes "a") []) → ⊥
 either (inl e) = absurd (let k = e.0 in cc)
 either (inr e) = uncommitted e.1
 

@@ -2,28 +2,28 @@ use Rattle.std.proofs.Common.{Bool, true, false, cond, ◌&&◌, [], ◌∷◌, 
 use Rattle.std.specs.Prelude.{codes}
 use Rattle.std.specs.Option.{option_and_then, option_map}
 use Rattle.std.proofs.lemmas.List.Sorted.{IsPermutation-refl}
-use Rattle.lfs_model.specs.Names.{Name, same_name}
-use Rattle.lfs_model.specs.Tree.{Path, Node, FileNode, DirectoryNode}
-use Rattle.lfs_model.specs.Source.{IsTreeNodeMadeFromSourceNode, SourceNode, AFile, source_path_in_folder, source_node_at_path_from_folder}
-use Rattle.lfs_model.specs.examples.Sources.{tree_source_of_one_file}
+use Rattle.lfs_model.specs.format.Names.{Name, same_name}
+use Rattle.lfs_model.specs.tree.Tree.{Path, Node, FileNode, DirectoryNode}
+use Rattle.lfs_model.specs.layers.Source.{IsSourceNode, SourceNode, AFile, path_in_folder, node_at}
+use Rattle.lfs_model.specs.examples.Sources.{file_source}
 use Rattle.lfs_model.specs.examples.Images.{tree_of_nodes}
 use Rattle.lfs_model.proofs.sources.tree_mirrors_source_folders.Goals as goal
 
 -- by whether the name is the file's, and whether anything follows
-here : (b : Bool) (deeper : Option SourceNode) → IsTreeNodeMadeFromSourceNode (option_and_then (λ f. cond f deeper (Some (AFile (codes "hello")))) (option_map (λ (g : Name × Bool). g.1) (cond b (Some (codes "a", false)) None)))
+here : (b : Bool) (deeper : Option SourceNode) → IsSourceNode (option_and_then (λ f. cond f deeper (Some (AFile (codes "hello")))) (option_map (λ (g : Name × Bool). g.1) (cond b (Some (codes "a", false)) None)))
     (option_map (λ (n : Path × Node). n.1) (cond (b && true) (Some (codes "a" ∷ [], FileNode [] (codes "hello"))) None))
 here true deeper = (refl, refl)
 here false deeper = tt
 
-beneath : (b : Bool) (deeper : Option SourceNode) → IsTreeNodeMadeFromSourceNode (option_and_then (λ f. cond f deeper None) (option_map (λ (g : Name × Bool). g.1) (cond b (Some (codes "a", false)) None)))
+beneath : (b : Bool) (deeper : Option SourceNode) → IsSourceNode (option_and_then (λ f. cond f deeper None) (option_map (λ (g : Name × Bool). g.1) (cond b (Some (codes "a", false)) None)))
     (option_map (λ (n : Path × Node). n.1) (cond (b && false) (Some (codes "a" ∷ [], FileNode [] (codes "hello"))) None))
 beneath true deeper = tt
 beneath false deeper = tt
 
-shown : (path : Path) → IsTreeNodeMadeFromSourceNode (source_node_at_path_from_folder tree_source_of_one_file [] path) (tree_of_nodes (([], DirectoryNode [] (codes "a" ∷ [])) ∷ (codes "a" ∷ [], FileNode [] (codes "hello")) ∷ []) path)
+shown : (path : Path) → IsSourceNode (node_at file_source [] path) (tree_of_nodes (([], DirectoryNode [] (codes "a" ∷ [])) ∷ (codes "a" ∷ [], FileNode [] (codes "hello")) ∷ []) path)
 shown [] = (refl, IsPermutation-refl (codes "a" ∷ []), λ i j d m k. absurd (omega arith))
-shown (name ∷ []) = here (same_name name (codes "a")) (source_node_at_path_from_folder tree_source_of_one_file (source_path_in_folder [] name) [])
-shown (name ∷ next ∷ rest) = beneath (same_name name (codes "a")) (source_node_at_path_from_folder tree_source_of_one_file (source_path_in_folder [] name) (next ∷ rest))
+shown (name ∷ []) = here (same_name name (codes "a")) (node_at file_source (path_in_folder [] name) [])
+shown (name ∷ next ∷ rest) = beneath (same_name name (codes "a")) (node_at file_source (path_in_folder [] name) (next ∷ rest))
 
 pub returns-clause-one : goal.returns-clause-one
 returns-clause-one c = shown

@@ -1,10 +1,10 @@
 use Rattle.std.proofs.Common.{◌≡◌, List, [], ◌∷◌, ◌++◌, inl, refl}
 use Rattle.std.specs.Prelude.{ℕ, take}
 use Rattle.std.proofs.lemmas.List.{get_or-set_other}
-use Rattle.lfs_model.specs.Crc.{crc_of, next_bits}
-use Rattle.lfs_model.specs.Log.{log_of_block, chain_of, chain_within, commit_within, entry_at, closes}
-use Rattle.lfs_model.specs.BlockBytes.{unwritten_storage_bytes}
-use Rattle.lfs_model.specs.examples.Images.{fresh_commit_of_small_image, commit_that_appends_file}
+use Rattle.lfs_model.specs.format.Crc.{crc_of, next_bits}
+use Rattle.lfs_model.specs.format.Log.{block_log, chain_of, chain_within, commit_within, entry_at, closes}
+use Rattle.lfs_model.specs.layers.BlockBytes.{unwritten_bytes}
+use Rattle.lfs_model.specs.examples.Images.{small_commit, appending_commit}
 use Rattle.lfs_model.proofs.Stopped.{stops_before, stops_whole}
 use Rattle.lfs_model.proofs.stops.power_loss_in_call_leaves_log_before_or_after.Goals as goal
 
@@ -15,12 +15,12 @@ pub returns-clause-whole : goal.returns-clause-whole
 returns-clause-whole c = stops_whole
 
 abbrev first : List ℕ
-first = fresh_commit_of_small_image ++ unwritten_storage_bytes 896
+first = small_commit ++ unwritten_bytes 896
 
 abbrev torn : List ℕ
-torn = fresh_commit_of_small_image ++ take 10 commit_that_appends_file ++ unwritten_storage_bytes 886
+torn = small_commit ++ take 10 appending_commit ++ unwritten_bytes 886
 
-torn_log : log_of_block torn ≡ log_of_block first
+torn_log : block_log torn ≡ block_log first
 unfolding chain_of chain_within commit_within entry_at closes crc_of next_bits
 torn_log = refl
 

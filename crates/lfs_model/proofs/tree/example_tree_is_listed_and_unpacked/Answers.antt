@@ -1,20 +1,20 @@
 use Rattle.std.proofs.Common.{[], ◌∷◌, refl, arith}
 use Rattle.std.specs.Prelude.{List, codes}
 use Rattle.std.proofs.lemmas.Fmt.{decimal_digit}
-use Rattle.lfs_model.specs.Tree.{FileNode, DirectoryNode}
-use Rattle.lfs_model.specs.Listing.{PathAndNode, IsWalkOfTree, entry_paths_in_directory}
-use Rattle.lfs_model.specs.examples.Images.{tree_of_nodes, nodes_of_small_tree}
+use Rattle.lfs_model.specs.tree.Tree.{FileNode, DirectoryNode}
+use Rattle.lfs_model.specs.layers.Listing.{PathNode, IsWalk, entry_paths}
+use Rattle.lfs_model.specs.examples.Images.{tree_of_nodes, small_tree_nodes}
 use Rattle.lfs_model.proofs.Walked.{same_walk}
 use Rattle.lfs_model.proofs.tree.example_tree_is_listed_and_unpacked.Goals as goal
 
-abbrev entries : List PathAndNode
+abbrev entries : List PathNode
 entries =
     record { path = codes "a" ∷ []; node = FileNode [] (codes "hello") }
     ∷ record { path = codes "d" ∷ []; node = DirectoryNode [] (codes "x" ∷ []) }
     ∷ record { path = codes "d" ∷ codes "x" ∷ []; node = FileNode [] [] }
     ∷ []
 
-walk : IsWalkOfTree (tree_of_nodes nodes_of_small_tree) entries
+walk : IsWalk (tree_of_nodes small_tree_nodes) entries
 walk = (refl, refl, (refl, refl, (refl, refl, tt)))
 
 pub returns-clause-lines : goal.returns-clause-lines
@@ -30,4 +30,4 @@ pub returns-clause-escapes : goal.returns-clause-escapes
 returns-clause-escapes c = rw (decimal_digit 0 (omega arith)) refl
 
 pub returns-clause-one : goal.returns-clause-one
-returns-clause-one c = λ tree a b p q. same_walk tree (entry_paths_in_directory tree []) a b p q
+returns-clause-one c = λ tree a b p q. same_walk tree (entry_paths tree []) a b p q

@@ -1,12 +1,12 @@
 use Rattle.std.proofs.Common.{ℕ, ◌∙◌, List, sym, subst₂}
 use Rattle.std.specs.Prelude.{IfOk}
-use Rattle.lfs_model.specs.Disk.{disk_in_order}
-use Rattle.lfs_model.specs.Thread.{Pair}
+use Rattle.lfs_model.specs.format.Disk.{ordered_disk}
+use Rattle.lfs_model.specs.format.Thread.{Pair}
 use Rattle.lfs_model.specs.declared.order.NameOrder.{NameOrder}
 use Rattle.lfs_tag.specs.FieldsView.{move_view}
 use Rattle.lfs_thread.specs.Kept.{disk_of_device}
-use Rattle.lfs_mount.specs.Accepted.{IsImageAcceptedIfDirectoriesFitNameOrder}
-use Rattle.lfs_mount.specs.Checked.{IsThreadMatchingMapAndPairDescriptions}
+use Rattle.lfs_mount.specs.Accepted.{IsAcceptedIf}
+use Rattle.lfs_mount.specs.Checked.{IsDescribedThread}
 use Rattle.lfs_mount.specs.Orders.{violation_in_order}
 use Rattle.lfs_mount.specs.declared.pass.PairBeforeSlotsAreRead.{PairBeforeSlotsAreRead}
 use Rattle.lfs_mount.proofs.accepted_images.check_directories.Goals as goal
@@ -14,13 +14,13 @@ use Rattle.lfs_mount.proofs.accepted_images.check_directories.Goals as goal
 pub returns-clause-ok : goal.returns-clause-ok
 returns-clause-ok g c =
     let disk = disk_of_device g.D.BlockDevice c.args.device.now in
-    subst₂ (λ (firsts : List (ℕ × ℕ)) (ms : List PairBeforeSlotsAreRead). IfOk c.check_slots_and_mark_lists_of_thread.result (λ found. (order : NameOrder) (chain : List Pair) (p : Pair) (rest : List Pair)
-    → IsThreadMatchingMapAndPairDescriptions (disk_in_order order disk) c.args.map.now firsts ms (move_view c.args.state.now).sync chain p rest
-    → IsImageAcceptedIfDirectoriesFitNameOrder (disk_in_order order disk) (violation_in_order order found) c.args.map.now c.check_slots_and_mark_lists_of_thread.new.map chain p rest))
-    c.in-Ok-first_pair_addresses_of_all_directories.ensures.places (c.deref.ensures.value ∙ c.in-Ok.ensures.members) c.check_slots_and_mark_lists_of_thread.ensures.ok
+    subst₂ (λ (firsts : List (ℕ × ℕ)) (ms : List PairBeforeSlotsAreRead). IfOk c.check_and_mark.result (λ found. (order : NameOrder) (chain : List Pair) (p : Pair) (rest : List Pair)
+    → IsDescribedThread (ordered_disk order disk) c.args.map.now firsts ms (move_view c.args.state.now).sync chain p rest
+    → IsAcceptedIf (ordered_disk order disk) (violation_in_order order found) c.args.map.now c.check_and_mark.new.map chain p rest))
+    c.in-Ok-first_addresses.ensures.places (c.deref.ensures.value ∙ c.in-Ok.ensures.members) c.check_and_mark.ensures.ok
 
 pub returns-clause-broken : goal.returns-clause-broken
 returns-clause-broken g c = λ v is order chain p rest known.
-    c.check_slots_and_mark_lists_of_thread.ensures.broken v is order chain p rest
-    (subst₂ (λ (firsts : List (ℕ × ℕ)) (ms : List PairBeforeSlotsAreRead). IsThreadMatchingMapAndPairDescriptions (disk_in_order order (disk_of_device g.D.BlockDevice c.args.device.now)) c.args.map.now firsts ms (move_view c.args.state.now).sync chain p rest)
-    (sym c.in-Ok-first_pair_addresses_of_all_directories.ensures.places) (sym (c.deref.ensures.value ∙ c.in-Ok.ensures.members)) known)
+    c.check_and_mark.ensures.broken v is order chain p rest
+    (subst₂ (λ (firsts : List (ℕ × ℕ)) (ms : List PairBeforeSlotsAreRead). IsDescribedThread (ordered_disk order (disk_of_device g.D.BlockDevice c.args.device.now)) c.args.map.now firsts ms (move_view c.args.state.now).sync chain p rest)
+    (sym c.in-Ok-first_addresses.ensures.places) (sym (c.deref.ensures.value ∙ c.in-Ok.ensures.members)) known)

@@ -1,16 +1,16 @@
 use Rattle.std.proofs.Common.{◌≡◌, ◌∙◌, ◌≤◌, ◌+◌, inr, Err, List, true, sym, ap, ap₂, subst, subst₂, arith}
 use Rattle.std.specs.Prelude.{sum_by}
 use Rattle.std.proofs.lemmas.Result.{err_from_is_err_and}
-use Rattle.lfs_device.specs.Shown.{disk_of_geometry_and_blocks}
-use Rattle.lfs_model.specs.Disk.{disk_in_order, Disk}
-use Rattle.lfs_model.specs.History.{read_count_of_history}
-use Rattle.lfs_model.specs.Slots.{Gstate}
+use Rattle.lfs_device.specs.DeviceDisk.{disk_of_blocks}
+use Rattle.lfs_model.specs.format.Disk.{ordered_disk, Disk}
+use Rattle.lfs_model.specs.session.History.{read_count}
+use Rattle.lfs_model.specs.format.Slots.{Gstate}
 use Rattle.lfs_tag.specs.FieldsView.{move_view}
 use Rattle.lfs_thread.specs.Kept.{PairHeader, disk_of_device, pairs_of_headers}
-use Rattle.lfs_mount.specs.Accepted.{HasAcceptedImageIfNameOrderFits}
-use Rattle.lfs_mount.specs.Members.{AreDirectoryHeadersOfThread, pair_descriptions_of_headers}
+use Rattle.lfs_mount.specs.Accepted.{HasAcceptedIf}
+use Rattle.lfs_mount.specs.Members.{AreThreadDirectories, descriptions_of_headers}
 use Rattle.lfs_mount.specs.Orders.{violation_in_order}
-use Rattle.lfs_mount.specs.Reads.{pair_read_count}
+use Rattle.lfs_mount.specs.MountReads.{pair_reads}
 use Rattle.lfs_mount.proofs.Called.{only_read, passed_on, quiet, read_on, same_error}
 use Rattle.lfs_mount.proofs.InOrders.{head_in, read_in}
 use Rattle.lfs_mount.proofs.KnownMoves.{directories_within}
@@ -37,7 +37,7 @@ returns-in_err-check_move-clause-broken g c = λ v is order.
     let history = g.D.BlockDevice.history c.args.device.now in
     let state : Gstate = move_view c.args.state.now in
     let e = err_from_is_err_and c.from_residual-in_err-check_move.result c.from_residual-in_err-check_move.ensures.1 in
-    move_breaks (disk_in_order order disk) history c.args.pairs.now c.args.map.now state c.in_ok-count.count (read_in order disk history c.args.pairs.now c.args.map.now state c.requires)
+    move_breaks (ordered_disk order disk) history c.args.pairs.now c.args.map.now state c.in_ok-count.count (read_in order disk history c.args.pairs.now c.args.map.now state c.requires)
     (head_in order disk c.args.pairs.now c.in_ok-count.count c.in_ok-count.ensures.head)
     c.pairs_from_index-directories.result.now c.pairs_from_index-directories.ensures v (c.in_err-check_move.ensures.broken v (ap Err (same_error e.1 e.2 is)))
 
@@ -52,10 +52,10 @@ check_directories-requires g c =
     let now : Disk = disk_of_device g.D.BlockDevice c.superblock_chain_length.new.dev in
     let history = g.D.BlockDevice.history c.args.device.now in
     let read = c.in_ok-count.ensures.device.device in
-    let same : now ≡ disk = ap₂ disk_of_geometry_and_blocks read.geometry read.same in
+    let same : now ≡ disk = ap₂ disk_of_blocks read.geometry read.same in
     let state : Gstate = move_view c.args.state.now in
-    subst (λ d. AreDirectoryHeadersOfThread d c.args.map.now state c.pairs_from_index-directories.result.now) (sym same)
-    (subst (λ xs. AreDirectoryHeadersOfThread disk c.args.map.now state xs) (sym c.pairs_from_index-directories.ensures)
+    subst (λ d. AreThreadDirectories d c.args.map.now state c.pairs_from_index-directories.result.now) (sym same)
+    (subst (λ xs. AreThreadDirectories disk c.args.map.now state xs) (sym c.pairs_from_index-directories.ensures)
     (directories_are disk history c.args.pairs.now c.args.map.now state c.in_ok-count.count c.requires c.in_ok-count.ensures.head))
 
 pub returns-in_err-found-clause-broken : goal.returns-in_err-found-clause-broken
@@ -66,9 +66,9 @@ returns-in_err-found-clause-broken g c = λ v is order.
     let read = c.in_ok-count.ensures.device.device in
     let e = err_from_is_err_and c.from_residual-in_err-found.result c.from_residual-in_err-found.ensures.1 in
     let state : Gstate = move_view c.args.state.now in
-    pairs_break (disk_in_order order disk) history c.args.pairs.now c.args.map.now state c.in_ok-count.count (read_in order disk history c.args.pairs.now c.args.map.now state c.requires)
+    pairs_break (ordered_disk order disk) history c.args.pairs.now c.args.map.now state c.in_ok-count.count (read_in order disk history c.args.pairs.now c.args.map.now state c.requires)
     (head_in order disk c.args.pairs.now c.in_ok-count.count c.in_ok-count.ensures.head)
-    (disk_in_order order now) (ap (disk_in_order order) (ap₂ disk_of_geometry_and_blocks read.geometry read.same)) c.pairs_from_index-directories.result.now c.pairs_from_index-directories.ensures v (c.in_err-found.ensures.broken v (ap Err (same_error e.1 e.2 is)) order)
+    (ordered_disk order now) (ap (ordered_disk order) (ap₂ disk_of_blocks read.geometry read.same)) c.pairs_from_index-directories.result.now c.pairs_from_index-directories.ensures v (c.in_err-found.ensures.broken v (ap Err (same_error e.1 e.2 is)) order)
 
 pub returns-in_err-found-clause-device : goal.returns-in_err-found-clause-device
 returns-in_err-found-clause-device g c =
@@ -82,10 +82,10 @@ returns-clause-image g c = λ order.
     let history = g.D.BlockDevice.history c.args.device.now in
     let read = c.in_ok-count.ensures.device.device in
     let state : Gstate = move_view c.args.state.now in
-    subst (HasAcceptedImageIfNameOrderFits (disk_in_order order disk) c.args.pairs.now (violation_in_order order c.in_ok-found.found) c.args.map.now) (sym c.start_allocation_elsewhere.ensures.same)
-    (has_image (disk_in_order order disk) history c.args.pairs.now c.args.map.now state c.in_ok-count.count (read_in order disk history c.args.pairs.now c.args.map.now state c.requires)
+    subst (HasAcceptedIf (ordered_disk order disk) c.args.pairs.now (violation_in_order order c.in_ok-found.found) c.args.map.now) (sym c.start_allocation_elsewhere.ensures.same)
+    (has_image (ordered_disk order disk) history c.args.pairs.now c.args.map.now state c.in_ok-count.count (read_in order disk history c.args.pairs.now c.args.map.now state c.requires)
     (head_in order disk c.args.pairs.now c.in_ok-count.count c.in_ok-count.ensures.head)
-    (disk_in_order order now) (ap (disk_in_order order) (ap₂ disk_of_geometry_and_blocks read.geometry read.same)) c.check_directories.new.map c.pairs_from_index-directories.result.now c.pairs_from_index-directories.ensures
+    (ordered_disk order now) (ap (ordered_disk order) (ap₂ disk_of_blocks read.geometry read.same)) c.check_directories.new.map c.pairs_from_index-directories.result.now c.pairs_from_index-directories.ensures
     c.in_ok-check_move.ensures.right (violation_in_order order c.in_ok-found.found) (c.in_ok-found.ensures.ok order))
 
 pub returns-clause-device : goal.returns-clause-device
@@ -100,11 +100,11 @@ returns-clause-few g c = λ order fits.
     let disk : Disk = disk_of_device g.D.BlockDevice c.args.device.now in
     let history = g.D.BlockDevice.history c.args.device.now in
     let state : Gstate = move_view c.args.state.now in
-    let image : HasAcceptedImageIfNameOrderFits (disk_in_order order disk) c.args.pairs.now (violation_in_order order c.in_ok-found.found) c.args.map.now c.start_allocation_elsewhere.new.map = returns-clause-image g c order in
+    let image : HasAcceptedIf (ordered_disk order disk) c.args.pairs.now (violation_in_order order c.in_ok-found.found) c.args.map.now c.start_allocation_elsewhere.new.map = returns-clause-image g c order in
     let read = c.in_ok-count.ensures.device.device in
     let first = c.in_ok-count.ensures.reads in
-    let rest = subst₂ (λ (d : Disk) (hs : List PairHeader). read_count_of_history (g.D.BlockDevice.history c.check_directories.new.device) ≤ read_count_of_history (g.D.BlockDevice.history c.superblock_chain_length.new.dev) + sum_by (pair_read_count d) (pair_descriptions_of_headers state true hs))
-    (ap₂ disk_of_geometry_and_blocks read.geometry read.same) c.pairs_from_index-directories.ensures (c.in_ok-found.ensures.few) in
-    let most = directories_read (disk_in_order order disk) history c.args.pairs.now c.args.map.now state c.in_ok-count.count (read_in order disk history c.args.pairs.now c.args.map.now state c.requires)
+    let rest = subst₂ (λ (d : Disk) (hs : List PairHeader). read_count (g.D.BlockDevice.history c.check_directories.new.device) ≤ read_count (g.D.BlockDevice.history c.superblock_chain_length.new.dev) + sum_by (pair_reads d) (descriptions_of_headers state true hs))
+    (ap₂ disk_of_blocks read.geometry read.same) c.pairs_from_index-directories.ensures (c.in_ok-found.ensures.few) in
+    let most = directories_read (ordered_disk order disk) history c.args.pairs.now c.args.map.now state c.in_ok-count.count (read_in order disk history c.args.pairs.now c.args.map.now state c.requires)
     (head_in order disk c.args.pairs.now c.in_ok-count.count c.in_ok-count.ensures.head) (g.met.D.BlockDevice.bytes c.args.device.now) (image.accepted fits) in
     omega (arith, first, rest, most)

@@ -2,7 +2,7 @@ use Rattle.std.proofs.Common.{ℕ, ◌≡◌, ◌+◌, ◌%◌, ◌^◌, take, a
 use Rattle.std.specs.Prelude.{sum_by}
 use Rattle.std.proofs.lemmas.List.{take_all}
 use Rattle.std.proofs.lemmas.List.Sums.{sum_by_more}
-use Rattle.lfs_model.specs.BlockSets.{used_count}
+use Rattle.lfs_model.specs.layers.BlockSets.{used_count}
 use Rattle.lfs_thread.specs.Kept.{PairHeader}
 use Rattle.lfs_mount.specs.Start.{image_number}
 use Rattle.lfs_mount.proofs.accepted_images.image_number.Goals as goal

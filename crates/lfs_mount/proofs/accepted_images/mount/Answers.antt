@@ -1,6 +1,6 @@
 use Rattle.std.proofs.Common.{◌≡◌, ◌∙◌, Ok, ap, sym}
 use Rattle.std.proofs.lemmas.Result.{err_from_is_err_and}
-use Rattle.lfs_model.specs.Disk.{disk_in_order}
+use Rattle.lfs_model.specs.format.Disk.{ordered_disk}
 use Rattle.lfs_model.specs.declared.order.NameOrder.TheVariants.{LongerFirst, ShorterFirst}
 use Rattle.lfs_thread.specs.Kept.{ThreadView, disk_of_device}
 use Rattle.lfs_mount.specs.Orders.{violation_in_order}
@@ -17,13 +17,13 @@ pub returns-in_err-thread-clause-corrupt : goal.returns-in_err-thread-clause-cor
 returns-in_err-thread-clause-corrupt g c =
     let disk = disk_of_device g.D.BlockDevice c.args.device in
     let e = err_from_is_err_and c.from_residual.result c.from_residual.ensures.1 in
-    rw e.1 (rw e.2 (λ is order ps a. none_accepted (disk_in_order order disk) _ (c.in_err-thread.ensures.broken order) is ps a))
+    rw e.1 (rw e.2 (λ is order ps a. none_accepted (ordered_disk order disk) _ (c.in_err-thread.ensures.broken order) is ps a))
 
 pub returns-in-Ok-clause-longer : goal.returns-in-Ok-clause-longer
 returns-in-Ok-clause-longer g c = λ is ps a.
     let disk = disk_of_device g.D.BlockDevice c.args.device in
     let shorter : c.in-Ok.order ≡ ShorterFirst = sym (ap (λ (t : ThreadView). t.kept.disk.order) c.set_order.ensures) ∙ is in
-    found_broken (disk_in_order LongerFirst disk) (violation_in_order LongerFirst c.in_ok-thread.found) (c.in-Ok.ensures.longer (ap Ok shorter)) (c.in_ok-thread.ensures.read.broken LongerFirst) ps a
+    found_broken (ordered_disk LongerFirst disk) (violation_in_order LongerFirst c.in_ok-thread.found) (c.in-Ok.ensures.longer (ap Ok shorter)) (c.in_ok-thread.ensures.read.broken LongerFirst) ps a
 
 pub returns-in-Err-clause-broken : goal.returns-in-Err-clause-broken
 returns-in-Err-clause-broken g c = c.in_ok-thread.ensures.read.broken LongerFirst c.in-Err.violation c.in-Err.ensures.broken
@@ -31,7 +31,7 @@ returns-in-Err-clause-broken g c = c.in_ok-thread.ensures.read.broken LongerFirs
 pub returns-in-Err-clause-corrupt : goal.returns-in-Err-clause-corrupt
 returns-in-Err-clause-corrupt g c = λ is order ps a.
     let disk = disk_of_device g.D.BlockDevice c.args.device in
-    found_broken (disk_in_order order disk) (violation_in_order order c.in_ok-thread.found) (c.in-Err.ensures.neither order) (c.in_ok-thread.ensures.read.broken order) ps a
+    found_broken (ordered_disk order disk) (violation_in_order order c.in_ok-thread.found) (c.in-Err.ensures.neither order) (c.in_ok-thread.ensures.read.broken order) ps a
 
 pub returns-in-Err-clause-back : goal.returns-in-Err-clause-back
 returns-in-Err-clause-back g c = refused_back g.D.BlockDevice c.args.device c.into_device.result c.in_ok-thread.thread c.in_ok-thread.found c.in_ok-thread.ensures.read c.into_device.ensures.disk c.into_device.ensures.history

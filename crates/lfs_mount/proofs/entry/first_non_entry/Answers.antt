@@ -3,17 +3,17 @@ use Rattle.std.proofs.lemmas.Bool.{cases_eq}
 use Rattle.std.proofs.lemmas.List.{length-map}
 use Rattle.std.proofs.lemmas.Option.{same_Some, slice_get-map, slice_get_read, slice_get_within}
 use Rattle.lfs_tag.specs.ContentView.{slot_view}
-use Rattle.lfs_mount.specs.Entries.{directory_entry_of_raw_slot}
+use Rattle.lfs_mount.specs.DirectoryEntries.{raw_slot_entry}
 use Rattle.lfs_mount.proofs.Kept.{no_entry}
 use Rattle.lfs_mount.proofs.entry.first_non_entry.Goals as goal
 
-pub returns-then-not-is_file_or_directory_entry-clause-holds : goal.returns-then-not-is_file_or_directory_entry-clause-holds
-returns-then-not-is_file_or_directory_entry-clause-holds c = λ other h.
+pub returns-then-not-is_tree_entry-clause-holds : goal.returns-then-not-is_tree_entry-clause-holds
+returns-then-not-is_tree_entry-clause-holds c = λ other h.
     let at = slice_get_read c.args.slots.now _ c.loop-index.index c.index-slots-index.result refl c.loop-index-test.true c.index-slots-index.is in (
       slot_view c.index-slots-index.result,
       (
         slice_get-map slot_view c.args.slots.now c.loop-index.index ∙ ap (option_map slot_view) at,
-        no_entry (slot_view c.index-slots-index.result) (sym c.is_file_or_directory_entry.ensures ∙ c.if-not-is_file_or_directory_entry.true),
+        no_entry (slot_view c.index-slots-index.result) (sym c.is_tree_entry.ensures ∙ c.if-not-is_tree_entry.true),
       ),
     )
 
@@ -23,8 +23,8 @@ loop-index-preserved c = λ other h. ⊎_elim
     let at = slice_get_read c.args.slots.now _ c.loop-index.index c.index-slots-index.result refl c.loop-index-test.true c.index-slots-index.is in
     let here = slice_get-map slot_view c.args.slots.now c.loop-index.index ∙ ap (option_map slot_view) at in
     let same = same_Some h.0 (slot_view c.index-slots-index.result) (sym h.1.0 ∙ ap (slice_get (map slot_view c.args.slots.now)) (sym is) ∙ here) in
-    let some : is_some (directory_entry_of_raw_slot (slot_view c.index-slots-index.result)) ≡ true = sym c.is_file_or_directory_entry.ensures ∙ c.if-not-is_file_or_directory_entry.false in
-    let clash = ap (λ s. is_some (directory_entry_of_raw_slot s)) same ∙ some in
+    let some : is_some (raw_slot_entry (slot_view c.index-slots-index.result)) ≡ true = sym c.is_tree_entry.ensures ∙ c.if-not-is_tree_entry.false in
+    let clash = ap (λ s. is_some (raw_slot_entry s)) same ∙ some in
     let none = ap is_some h.1.1 in
     cc))
     (λ apart. let before = c.loop-index.invariant other h in omega arith)

@@ -1,15 +1,15 @@
 use Rattle.std.proofs.Common.{◌≡◌, ◌∙◌, subst, sym}
-use Rattle.lfs_model.specs.Violations.{BreaksPairs}
+use Rattle.lfs_model.specs.layers.Violations.{BreaksPairs}
 use Rattle.lfs_model.specs.declared.violations.Violation.TheVariants as violation
 use Rattle.lfs_tag.specs.FieldsView.{move_view}
 use Rattle.lfs_mount.proofs.KnownMoves.{known_right, unknown_breaks}
 use Rattle.lfs_mount.proofs.moves.check_move.Goals as goal
 
-pub returns-then-is_move_none_or_in_pairs-clause-right : goal.returns-then-is_move_none_or_in_pairs-clause-right
-returns-then-is_move_none_or_in_pairs-clause-right c = λ chain p rest has moved.
-    known_right (move_view c.args.state.now) c.args.pairs.now chain p rest has (sym c.is_move_none_or_in_pairs.ensures ∙ c.if-is_move_none_or_in_pairs.true) moved
+pub returns-then-moves_within-clause-right : goal.returns-then-moves_within-clause-right
+returns-then-moves_within-clause-right c = λ chain p rest has moved.
+    known_right (move_view c.args.state.now) c.args.pairs.now chain p rest has (sym c.moves_within.ensures ∙ c.if-moves_within.true) moved
 
-pub returns-else-is_move_none_or_in_pairs-clause-broken : goal.returns-else-is_move_none_or_in_pairs-clause-broken
-returns-else-is_move_none_or_in_pairs-clause-broken c = λ v is disk chain p rest has.
+pub returns-else-moves_within-clause-broken : goal.returns-else-moves_within-clause-broken
+returns-else-moves_within-clause-broken c = λ v is disk chain p rest has.
     let which : violation.Move ≡ v = cc in
-    subst (BreaksPairs disk _) which (unknown_breaks (move_view c.args.state.now) c.args.pairs.now disk chain p rest has (sym c.is_move_none_or_in_pairs.ensures ∙ c.if-is_move_none_or_in_pairs.false))
+    subst (BreaksPairs disk _) which (unknown_breaks (move_view c.args.state.now) c.args.pairs.now disk chain p rest has (sym c.moves_within.ensures ∙ c.if-moves_within.false))

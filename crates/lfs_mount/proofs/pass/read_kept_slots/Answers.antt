@@ -1,9 +1,9 @@
 use Rattle.std.proofs.Common.{inl, inr, ap, subst, ◌≡◌, arith, map, option_map, Some}
 use Rattle.std.proofs.lemmas.List.{length-map}
 use Rattle.std.proofs.lemmas.Result.{err_from_is_err_and}
-use Rattle.lfs_model.specs.Content.{RawPairContent}
+use Rattle.lfs_model.specs.format.Content.{RawContent}
 use Rattle.lfs_tag.specs.ContentView.{content_view, slot_view}
-use Rattle.lfs_mount.specs.Broken.{BreaksMovedSlot, raw_slots_in_block}
+use Rattle.lfs_mount.specs.Broken.{BreaksMovedSlot, raw_block_slots}
 use Rattle.lfs_mount.proofs.Called.{same_error}
 use Rattle.lfs_mount.proofs.SlotCounts.{few_slots}
 use Rattle.lfs_mount.proofs.pass.read_kept_slots.Goals as goal
@@ -13,7 +13,7 @@ returns-in_err-remove_moved_slot-clause-broken c = λ v is.
     let e = err_from_is_err_and c.from_residual.result c.from_residual.ensures.1 in
     let b = c.in_err-remove_moved_slot.ensures.broken in
     let same : b.0 ≡ v = let f = same_error e.1 e.2 is in let h = b.1.0 in cc in
-    let slots : raw_slots_in_block c.args.log.now ≡ Some (map slot_view c.in-Ok.content.slots.items) = ap (option_map (λ (x : RawPairContent). x.slots)) c.in-Ok.ensures.content in
+    let slots : raw_block_slots c.args.log.now ≡ Some (map slot_view c.in-Ok.content.slots.items) = ap (option_map (λ (x : RawContent). x.slots)) c.in-Ok.ensures.content in
     inr (_, (slots, inl (subst (BreaksMovedSlot c.args.member.now (map slot_view c.in-Ok.content.slots.items)) same b.1.1)))
 
 pub returns-clause-few : goal.returns-clause-few

@@ -1,7 +1,7 @@
 use Rattle.std.proofs.Common.{◌≡◌, ◌++◌, take, arith, ap, sym, ◌∙◌, refl, get_or, subst, set, Some, true}
 use Rattle.std.proofs.lemmas.List.{length-set, take_all}
 use Rattle.std.proofs.lemmas.Option.{slice_get_read}
-use Rattle.lfs_mount.specs.Reaching.{AreMarksOfFoundDirectories}
+use Rattle.lfs_mount.specs.Reaching.{AreFoundMarks}
 use Rattle.lfs_mount.proofs.Marks.{one_more, more_found, found_twice}
 use Rattle.lfs_mount.proofs.reachability.mark_branches_found.Goals as goal
 
@@ -21,7 +21,7 @@ loop-branch-preserved c =
     (omega (arith, c.requires.within c.loop-branch.branch-index 0 c.loop-branch-test.true, c.loop-branch.invariant.len)) c.index.ensures in
     record {
       found = pushed ∙ more_found c.args.found.now.items c.args.branches.now c.loop-branch.found.items c.loop-branch.branch-index branch c.loop-branch.invariant.found c.loop-branch-test.true refl;
-      marked = subst (AreMarksOfFoundDirectories (set c.loop-branch.is_found.items branch true)) (sym pushed)
+      marked = subst (AreFoundMarks (set c.loop-branch.is_found.items branch true)) (sym pushed)
           (one_more c.loop-branch.is_found.items c.loop-branch.found.items branch c.loop-branch.invariant.marked (here ∙ ap Some c.if-index.false));
       len = length-set c.loop-branch.is_found.items branch true ∙ c.loop-branch.invariant.len;
     }

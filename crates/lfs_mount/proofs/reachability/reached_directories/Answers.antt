@@ -4,13 +4,13 @@ use Rattle.std.specs.List.{IsDistinct}
 use Rattle.std.proofs.lemmas.List.{length-set, length-replicate, length-map}
 use Rattle.std.proofs.lemmas.Bool.{and_from}
 use Rattle.std.proofs.lemmas.Option.{slice_get_read}
-use Rattle.lfs_model.specs.Slots.{pair_address_of_array}
+use Rattle.lfs_model.specs.format.Slots.{array_address}
 use Rattle.lfs_model.specs.declared.violations.Violation.{Violation}
 use Rattle.lfs_thread.specs.declared.mount_error.MountError.{MountError}
 use Rattle.lfs_thread.specs.declared.mount_error.MountError.TheVariants.{Corrupt}
-use Rattle.lfs_mount.specs.Directories.{IsRuleBrokenInGraph}
-use Rattle.lfs_mount.specs.DirectoryView.{directory_graph_view, directory_vertex_view}
-use Rattle.lfs_mount.specs.Reaching.{AreMarksOfFoundDirectories, IsRepeatedNumber}
+use Rattle.lfs_mount.specs.Directories.{BreaksGraphRule}
+use Rattle.lfs_mount.specs.DirectoryView.{graph_view, vertex_view}
+use Rattle.lfs_mount.specs.Reaching.{AreFoundMarks, IsRepeatedNumber}
 use Rattle.lfs_mount.proofs.BrokenTrees.{first_at, some_in, names_broken, branch_broken, paths_broken}
 use Rattle.lfs_mount.proofs.Marks.{first_marked, marked_within, few_marked, sound_of, vertex_at, branches_found, next_sound, nothing_left, branches_within}
 use Rattle.lfs_mount.proofs.reachability.reached_directories.Goals as goal
@@ -26,7 +26,7 @@ loop-next-init c =
     let found = pushed ∙ ap (λ xs. xs ++ 0 ∷ []) empty in
     record {
       found = found;
-      marked = subst (AreMarksOfFoundDirectories (set c.in_ok-is_found.is_found.items 0 true)) (sym found) (first_marked c.in_ok-is_found.is_found.items (length c.args.directories.now) none c.requires.some);
+      marked = subst (AreFoundMarks (set c.in_ok-is_found.is_found.items 0 true)) (sym found) (first_marked c.in_ok-is_found.is_found.items (length c.args.directories.now) none c.requires.some);
       len = length-set c.in_ok-is_found.is_found.items 0 true ∙ ap length none ∙ length-replicate (length c.args.directories.now) false;
       sound = λ j u lt. absurd (omega arith);
       passed = omega arith;
@@ -48,9 +48,9 @@ returns-then-not-contains-clause-broken c = λ v sync is.
     let within = marked_within c.loop-next.is_found.items c.loop-next.found.items c.loop-next.invariant.marked c.loop-next.next c.index.result.now at in
     let lt : c.index.result.now < length c.args.directories.now = omega (arith, within, c.loop-next.invariant.len) in
     let here = slice_get_read c.args.directories.now _ c.index.result.now c.index-directories-place.result refl lt c.index-directories-place.is in
-    subst (IsRuleBrokenInGraph c.args.order (directory_graph_view c.args.order c.args.directories.now) (map pair_address_of_array c.args.addresses.now) sync) (same_violation is)
-    (names_broken (directory_graph_view c.args.order c.args.directories.now) (map pair_address_of_array c.args.addresses.now) sync (some_in c.args.order c.args.directories.now c.requires.some) c.loop-next.next c.index.result.now
-    (directory_vertex_view c.args.order c.index-directories-place.result) (get_or c.args.addresses.now c.index.result.now []) c.loop-next.invariant.sound
+    subst (BreaksGraphRule c.args.order (graph_view c.args.order c.args.directories.now) (map array_address c.args.addresses.now) sync) (same_violation is)
+    (names_broken (graph_view c.args.order c.args.directories.now) (map array_address c.args.addresses.now) sync (some_in c.args.order c.args.directories.now c.requires.some) c.loop-next.next c.index.result.now
+    (vertex_view c.args.order c.index-directories-place.result) (get_or c.args.addresses.now c.index.result.now []) c.loop-next.invariant.sound
     (ap (λ xs. slice_get xs c.loop-next.next) (sym c.loop-next.invariant.found) ∙ at) (vertex_at c.args.order c.args.directories.now c.index.result.now c.index-directories-place.result here)
     (sym c.contains.ensures ∙ c.if-not-contains.true) (first_at c.args.addresses.now c.index.result.now (omega (arith, lt, c.requires.places))))
 
@@ -60,9 +60,9 @@ returns-then-not-directory-clause-broken c = λ v sync is.
     let within = marked_within c.loop-next.is_found.items c.loop-next.found.items c.loop-next.invariant.marked c.loop-next.next c.index.result.now at in
     let lt : c.index.result.now < length c.args.directories.now = omega (arith, within, c.loop-next.invariant.len) in
     let here = slice_get_read c.args.directories.now _ c.index.result.now c.index-directories-place.result refl lt c.index-directories-place.is in
-    subst (IsRuleBrokenInGraph c.args.order (directory_graph_view c.args.order c.args.directories.now) (map pair_address_of_array c.args.addresses.now) sync) (same_violation is)
-    (branch_broken (directory_graph_view c.args.order c.args.directories.now) (map pair_address_of_array c.args.addresses.now) sync (some_in c.args.order c.args.directories.now c.requires.some) c.loop-next.next c.index.result.now
-    (directory_vertex_view c.args.order c.index-directories-place.result) (get_or c.args.addresses.now c.index.result.now []) c.loop-next.invariant.sound
+    subst (BreaksGraphRule c.args.order (graph_view c.args.order c.args.directories.now) (map array_address c.args.addresses.now) sync) (same_violation is)
+    (branch_broken (graph_view c.args.order c.args.directories.now) (map array_address c.args.addresses.now) sync (some_in c.args.order c.args.directories.now c.requires.some) c.loop-next.next c.index.result.now
+    (vertex_view c.args.order c.index-directories-place.result) (get_or c.args.addresses.now c.index.result.now []) c.loop-next.invariant.sound
     (ap (λ xs. slice_get xs c.loop-next.next) (sym c.loop-next.invariant.found) ∙ at) (vertex_at c.args.order c.args.directories.now c.index.result.now c.index-directories-place.result here)
     (sym c.contains.ensures ∙ c.if-not-contains.false) c.if-not-directory.true (first_at c.args.addresses.now c.index.result.now (omega (arith, lt, c.requires.places))))
 
@@ -92,10 +92,10 @@ returns-in-Some-clause-broken c = λ v sync is.
     let next = ap (λ xs. c.loop-next.found.items ++ xs) c.deref.ensures.value
     ∙ branches_found c.args.order c.args.directories.now c.loop-next.found.items c.loop-next.next c.index.result.now c.index-directories-place.result c.loop-next.invariant.found at here in
     let sound = sound_of c.args.order c.args.directories.now c.index.result.now c.index-directories-place.result here ∙ and_from _ _ (sym c.contains.ensures ∙ c.if-not-contains.false) c.if-not-directory.false in
-    subst (IsRuleBrokenInGraph c.args.order (directory_graph_view c.args.order c.args.directories.now) (map pair_address_of_array c.args.addresses.now) sync) (same_violation is)
-    (paths_broken (directory_graph_view c.args.order c.args.directories.now) (map pair_address_of_array c.args.addresses.now) sync (some_in c.args.order c.args.directories.now c.requires.some) c.loop-next.next c.in-Some.branch
+    subst (BreaksGraphRule c.args.order (graph_view c.args.order c.args.directories.now) (map array_address c.args.addresses.now) sync) (same_violation is)
+    (paths_broken (graph_view c.args.order c.args.directories.now) (map array_address c.args.addresses.now) sync (some_in c.args.order c.args.directories.now c.requires.some) c.loop-next.next c.in-Some.branch
     (get_or c.args.addresses.now c.in-Some.branch [])
-    (next_sound (directory_graph_view c.args.order c.args.directories.now) c.loop-next.next c.index.result.now (ap (λ xs. slice_get xs c.loop-next.next) (sym c.loop-next.invariant.found) ∙ at) c.loop-next.invariant.sound sound)
+    (next_sound (graph_view c.args.order c.args.directories.now) c.loop-next.next c.index.result.now (ap (λ xs. slice_get xs c.loop-next.next) (sym c.loop-next.invariant.found) ∙ at) c.loop-next.invariant.sound sound)
     (subst (IsDistinct nat_eq) c.loop-next.invariant.found c.loop-next.invariant.marked.distinct) (subst (λ xs. IsRepeatedNumber xs c.in-Some.branch) next twice)
     (first_at c.args.addresses.now c.in-Some.branch (omega (arith, below, c.loop-next.invariant.len, c.requires.places))))
 
@@ -116,14 +116,14 @@ loop-next-preserved c =
       found = joined ∙ branches_found c.args.order c.args.directories.now c.loop-next.found.items c.loop-next.next c.index.result.now c.index-directories-place.result c.loop-next.invariant.found at here;
       marked = new.marked;
       len = new.len ∙ c.loop-next.invariant.len;
-      sound = next_sound (directory_graph_view c.args.order c.args.directories.now) c.loop-next.next c.index.result.now (ap (λ xs. slice_get xs c.loop-next.next) (sym c.loop-next.invariant.found) ∙ at) c.loop-next.invariant.sound sound;
+      sound = next_sound (graph_view c.args.order c.args.directories.now) c.loop-next.next c.index.result.now (ap (λ xs. slice_get xs c.loop-next.next) (sym c.loop-next.invariant.found) ∙ at) c.loop-next.invariant.sound sound;
       passed = omega (arith, ap length joined, length-append c.loop-next.found.items c.index-directories-place.result.branches.items);
     }
 
 pub returns-clause-reached : goal.returns-clause-reached
 returns-clause-reached c = record {
   steps = c.loop-next.next;
-  finished = nothing_left (directory_graph_view c.args.order c.args.directories.now) c.loop-next.is_found.items c.loop-next.found.items c.loop-next.next c.loop-next.invariant.found (omega arith) c.loop-next.invariant.marked c.loop-next.invariant.sound;
-  marked = subst (AreMarksOfFoundDirectories c.loop-next.is_found.items) c.loop-next.invariant.found c.loop-next.invariant.marked;
-  len = c.loop-next.invariant.len ∙ sym (length-map c.args.directories.now (directory_vertex_view c.args.order));
+  finished = nothing_left (graph_view c.args.order c.args.directories.now) c.loop-next.is_found.items c.loop-next.found.items c.loop-next.next c.loop-next.invariant.found (omega arith) c.loop-next.invariant.marked c.loop-next.invariant.sound;
+  marked = subst (AreFoundMarks c.loop-next.is_found.items) c.loop-next.invariant.found c.loop-next.invariant.marked;
+  len = c.loop-next.invariant.len ∙ sym (length-map c.args.directories.now (vertex_view c.args.order));
 }

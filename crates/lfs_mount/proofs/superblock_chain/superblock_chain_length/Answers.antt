@@ -3,8 +3,8 @@ use Rattle.std.proofs.lemmas.List.{get_or_default}
 use Rattle.std.proofs.lemmas.Option.{slice_get_read}
 use Rattle.std.proofs.lemmas.Result.{err_from_is_err_and}
 use Rattle.lfs_device.specs.declared.geometry.Geometry.{Geometry}
-use Rattle.lfs_model.specs.Disk.{disk_in_order}
-use Rattle.lfs_model.specs.Violations.{BreaksPairs}
+use Rattle.lfs_model.specs.format.Disk.{ordered_disk}
+use Rattle.lfs_model.specs.layers.Violations.{BreaksPairs}
 use Rattle.lfs_model.specs.declared.violations.Violation.TheVariants as violation
 use Rattle.lfs_thread.specs.Kept.{PairHeader, disk_of_device, pairs_of_headers}
 use Rattle.lfs_mount.proofs.Called.{only_read, passed_on, quiet, read_on, same_error}
@@ -17,11 +17,11 @@ returns-in_default-clause-broken g c = λ v is order.
     let disk = disk_of_device g.D.BlockDevice c.args.dev.now in
     let has = has_headers_in order disk (g.D.BlockDevice.history c.args.dev.now) c.args.pairs.now c.requires in
     let which : violation.NoSuperblock ≡ v = cc in
-    subst (BreaksPairs (disk_in_order order disk) (pairs_of_headers disk c.args.pairs.now)) which
-    (no_superblock (disk_in_order order disk) (g.D.BlockDevice.history c.args.dev.now) c.args.pairs.now has (sym c.in_default.ensures.first))
+    subst (BreaksPairs (ordered_disk order disk) (pairs_of_headers disk c.args.pairs.now)) which
+    (no_superblock (ordered_disk order disk) (g.D.BlockDevice.history c.args.dev.now) c.args.pairs.now has (sym c.in_default.ensures.first))
 
-pub read_first_superblock_struct-requires : goal.read_first_superblock_struct-requires
-read_first_superblock_struct-requires g c =
+pub read_first_struct-requires : goal.read_first_struct-requires
+read_first_struct-requires g c =
     let low = active_within (disk_of_device g.D.BlockDevice c.args.dev.now) (g.D.BlockDevice.history c.args.dev.now) c.args.pairs.now c.requires c.in-Some.first (sym c.in-Some.ensures.first) c.index-pairs-first.result c.index-pairs-first.is in
     let count = (g.met.D.BlockDevice.shape c.args.dev.now).count in
     omega (arith, low, count)
@@ -31,7 +31,7 @@ returns-in_err-bytes-clause-broken g c = λ v is order.
     let e = err_from_is_err_and c.from_residual.result c.from_residual.ensures.1 in
     let disk = disk_of_device g.D.BlockDevice c.args.dev.now in
     let has = has_headers_in order disk (g.D.BlockDevice.history c.args.dev.now) c.args.pairs.now c.requires in
-    first_breaks (disk_in_order order disk) (g.D.BlockDevice.history c.args.dev.now) c.args.pairs.now has c.in-Some.first (sym c.in-Some.ensures.first) c.index-pairs-first.result c.index-pairs-first.is v
+    first_breaks (ordered_disk order disk) (g.D.BlockDevice.history c.args.dev.now) c.args.pairs.now has c.in-Some.first (sym c.in-Some.ensures.first) c.index-pairs-first.result c.index-pairs-first.is v
     (first_breaks_in order disk c.index-pairs-first.result v (c.in_err-bytes.ensures.broken v (ap Err (same_error e.1 e.2 is))))
 
 pub loop-index-init : goal.loop-index-init
@@ -43,14 +43,14 @@ loop-index-init g c = record {
   read = (let one = c.in_ok-bytes.ensures.reads in omega (arith, one));
 }
 
-pub returns-then-not-can_superblock_chain_continue-clause-head : goal.returns-then-not-can_superblock_chain_continue-clause-head
-returns-then-not-can_superblock_chain_continue-clause-head g c =
+pub returns-then-not-can_chain_continue-clause-head : goal.returns-then-not-can_chain_continue-clause-head
+returns-then-not-can_chain_continue-clause-head g c =
     let disk = disk_of_device g.D.BlockDevice c.args.dev.now in
     let low = c.loop-index.auto.index in
     let high = c.loop-index-test.true in
     let this = c.index-pairs-index in
     let here = slice_get_read c.args.pairs.now (length c.args.pairs.now) (c.loop-index.index - 1) this.result refl (omega (arith, low, high)) this.is in
-    let stays = sym c.can_superblock_chain_continue.ensures ∙ c.if-not-can_superblock_chain_continue.true in
+    let stays = sym c.can_chain_continue.ensures ∙ c.if-not-can_chain_continue.true in
     head_is disk (g.D.BlockDevice.history c.args.dev.now) c.args.pairs.now c.requires c.in-Some.first (sym c.in-Some.ensures.first) c.index-pairs-first.result c.index-pairs-first.is c.in_ok-bytes.bytes.items c.loop-index.root (c.loop-index.index - 1)
     c.in_ok-bytes.ensures.found c.loop-index.invariant.walked
     (halts disk (g.D.BlockDevice.history c.args.dev.now) c.args.pairs.now c.requires c.in_ok-bytes.bytes.items c.loop-index.root (c.loop-index.index - 1) this.result here c.loop-index.invariant.walked stays)
@@ -63,14 +63,14 @@ loop-index-preserved-then-pairs-index-eq0 g c =
     let step = step_at c.args.pairs.now c.loop-index.index this.result next.result (omega (arith, low)) c.loop-index-test.true this.is next.is in
     record {
       walked = passes (disk_of_device g.D.BlockDevice c.args.dev.now) (g.D.BlockDevice.history c.args.dev.now) c.args.pairs.now c.requires c.in_ok-bytes.bytes.items c.loop-index.root c.loop-index.index this.result next.result step c.loop-index.invariant.walked
-          (sym c.can_superblock_chain_continue.ensures ∙ c.if-not-can_superblock_chain_continue.false) (ap (λ (h : PairHeader). h.slot_count) next.is ∙ c.if-pairs-index-eq0.true);
+          (sym c.can_chain_continue.ensures ∙ c.if-not-can_chain_continue.false) (ap (λ (h : PairHeader). h.slot_count) next.is ∙ c.if-pairs-index-eq0.true);
       device = c.loop-index.invariant.device;
       no_fault = c.loop-index.invariant.no_fault;
       read = c.loop-index.invariant.read;
     }
 
-pub read_whether_pair_repeats_superblock-requires : goal.read_whether_pair_repeats_superblock-requires
-read_whether_pair_repeats_superblock-requires g c =
+pub pair_repeats_superblock-requires : goal.pair_repeats_superblock-requires
+pair_repeats_superblock-requires g c =
     let low = c.loop-index.auto.index in
     let this = c.index-pairs-index in
     let next = c.index-pairs-index-in-loop-index-2 in
@@ -85,27 +85,27 @@ read_whether_pair_repeats_superblock-requires g c =
           c.in_ok-bytes.ensures.found;
     }
 
-pub returns-in_err-read_whether_pair_repeats_superblock-clause-broken : goal.returns-in_err-read_whether_pair_repeats_superblock-clause-broken
-returns-in_err-read_whether_pair_repeats_superblock-clause-broken g c = λ v is order.
+pub returns-in_err-pair_repeats_superblock-clause-broken : goal.returns-in_err-pair_repeats_superblock-clause-broken
+returns-in_err-pair_repeats_superblock-clause-broken g c = λ v is order.
     let disk = disk_of_device g.D.BlockDevice c.args.dev.now in
     let history = g.D.BlockDevice.history c.args.dev.now in
     let has = has_headers_in order disk history c.args.pairs.now c.requires in
-    let e = err_from_is_err_and c.from_residual-in_err-read_whether_pair_repeats_superblock.result c.from_residual-in_err-read_whether_pair_repeats_superblock.ensures.1 in
+    let e = err_from_is_err_and c.from_residual-in_err-pair_repeats_superblock.result c.from_residual-in_err-pair_repeats_superblock.ensures.1 in
     let low = c.loop-index.auto.index in
     let this = c.index-pairs-index in
     let next = c.index-pairs-index-in-loop-index-2 in
     let step = step_at c.args.pairs.now c.loop-index.index this.result next.result (omega (arith, low)) c.loop-index-test.true this.is next.is in
-    let broken = c.in_err-read_whether_pair_repeats_superblock.ensures.broken v (ap Err (same_error e.1 e.2 is)) in
+    let broken = c.in_err-pair_repeats_superblock.ensures.broken v (ap Err (same_error e.1 e.2 is)) in
     let none = same_block _ _ _ _ _ _ next.result None c.loop-index.invariant.device.geometry c.loop-index.invariant.device.same c.deref.ensures.value broken.1 in
     let first = first_struct disk history c.args.pairs.now c.requires c.in-Some.first (sym c.in-Some.ensures.first) c.index-pairs-first.result c.index-pairs-first.is c.in_ok-bytes.bytes.items c.in_ok-bytes.ensures.found in
-    subst (BreaksPairs (disk_in_order order disk) (pairs_of_headers disk c.args.pairs.now)) (sym broken.0)
-    (differs (disk_in_order order disk) history c.args.pairs.now has c.in_ok-bytes.bytes.items c.loop-index.root c.loop-index.index this.result next.result step c.loop-index.invariant.walked
-    (sym c.can_superblock_chain_continue.ensures ∙ c.if-not-can_superblock_chain_continue.false) first none)
+    subst (BreaksPairs (ordered_disk order disk) (pairs_of_headers disk c.args.pairs.now)) (sym broken.0)
+    (differs (ordered_disk order disk) history c.args.pairs.now has c.in_ok-bytes.bytes.items c.loop-index.root c.loop-index.index this.result next.result step c.loop-index.invariant.walked
+    (sym c.can_chain_continue.ensures ∙ c.if-not-can_chain_continue.false) first none)
 
-pub returns-in_err-read_whether_pair_repeats_superblock-clause-device : goal.returns-in_err-read_whether_pair_repeats_superblock-clause-device
-returns-in_err-read_whether_pair_repeats_superblock-clause-device g c =
-    let e = err_from_is_err_and c.from_residual-in_err-read_whether_pair_repeats_superblock.result c.from_residual-in_err-read_whether_pair_repeats_superblock.ensures.1 in
-    passed_on g.D.BlockDevice e.1 e.2 c.loop-index.invariant.device c.loop-index.invariant.no_fault c.in_err-read_whether_pair_repeats_superblock.ensures.device
+pub returns-in_err-pair_repeats_superblock-clause-device : goal.returns-in_err-pair_repeats_superblock-clause-device
+returns-in_err-pair_repeats_superblock-clause-device g c =
+    let e = err_from_is_err_and c.from_residual-in_err-pair_repeats_superblock.result c.from_residual-in_err-pair_repeats_superblock.ensures.1 in
+    passed_on g.D.BlockDevice e.1 e.2 c.loop-index.invariant.device c.loop-index.invariant.no_fault c.in_err-pair_repeats_superblock.ensures.device
 
 pub returns-then-not-branch-clause-head : goal.returns-then-not-branch-clause-head
 returns-then-not-branch-clause-head g c =
@@ -115,16 +115,16 @@ returns-then-not-branch-clause-head g c =
     let this = c.index-pairs-index in
     let next = c.index-pairs-index-in-loop-index-2 in
     let step = step_at c.args.pairs.now c.loop-index.index this.result next.result (omega (arith, low)) c.loop-index-test.true this.is next.is in
-    let not_more : c.in_ok-read_whether_pair_repeats_superblock.field-0 ≡ false = search rules in
-    let ended = same_block _ _ _ _ _ _ next.result (Some false) c.loop-index.invariant.device.geometry c.loop-index.invariant.device.same c.deref.ensures.value (c.in_ok-read_whether_pair_repeats_superblock.ensures.ok ∙ ap (λ b. Some b) not_more) in
+    let not_more : c.in_ok-pair_repeats_superblock.field-0 ≡ false = search rules in
+    let ended = same_block _ _ _ _ _ _ next.result (Some false) c.loop-index.invariant.device.geometry c.loop-index.invariant.device.same c.deref.ensures.value (c.in_ok-pair_repeats_superblock.ensures.ok ∙ ap (λ b. Some b) not_more) in
     head_is disk history c.args.pairs.now c.requires c.in-Some.first (sym c.in-Some.ensures.first) c.index-pairs-first.result c.index-pairs-first.is c.in_ok-bytes.bytes.items c.loop-index.root (c.loop-index.index - 1)
     c.in_ok-bytes.ensures.found c.loop-index.invariant.walked
     (ends disk history c.args.pairs.now c.requires c.in_ok-bytes.bytes.items c.loop-index.root c.loop-index.index this.result next.result step c.loop-index.invariant.walked
-    (sym c.can_superblock_chain_continue.ensures ∙ c.if-not-can_superblock_chain_continue.false) (λ e. c.if-pairs-index-eq0.false (ap (λ (h : PairHeader). h.slot_count) (get_or_default c.args.pairs.now c.loop-index.index c.index-pairs-index-in-loop-index.result next.result c.loop-index-test.true ∙ sym next.is) ∙ e)) ended)
+    (sym c.can_chain_continue.ensures ∙ c.if-not-can_chain_continue.false) (λ e. c.if-pairs-index-eq0.false (ap (λ (h : PairHeader). h.slot_count) (get_or_default c.args.pairs.now c.loop-index.index c.index-pairs-index-in-loop-index.result next.result c.loop-index-test.true ∙ sym next.is) ∙ e)) ended)
 
 pub returns-then-not-branch-clause-device : goal.returns-then-not-branch-clause-device
 returns-then-not-branch-clause-device g c =
-    let read = c.in_ok-read_whether_pair_repeats_superblock.ensures.device in
+    let read = c.in_ok-pair_repeats_superblock.ensures.device in
     only_read g.D.BlockDevice (read_on g.D.BlockDevice c.loop-index.invariant.device read.device) (quiet g.D.BlockDevice read ∙ c.loop-index.invariant.no_fault) (λ io. absurd (cc))
 
 pub loop-index-preserved : goal.loop-index-preserved
@@ -133,16 +133,16 @@ loop-index-preserved g c =
     let this = c.index-pairs-index in
     let next = c.index-pairs-index-in-loop-index-2 in
     let step = step_at c.args.pairs.now c.loop-index.index this.result next.result (omega (arith, low)) c.loop-index-test.true this.is next.is in
-    let is_more : c.in_ok-read_whether_pair_repeats_superblock.field-0 ≡ true = search rules in
-    let went = same_block _ _ _ _ _ _ next.result (Some true) c.loop-index.invariant.device.geometry c.loop-index.invariant.device.same c.deref.ensures.value (c.in_ok-read_whether_pair_repeats_superblock.ensures.ok ∙ ap (λ b. Some b) is_more) in
-    let one = c.in_ok-read_whether_pair_repeats_superblock.ensures.reads in
+    let is_more : c.in_ok-pair_repeats_superblock.field-0 ≡ true = search rules in
+    let went = same_block _ _ _ _ _ _ next.result (Some true) c.loop-index.invariant.device.geometry c.loop-index.invariant.device.same c.deref.ensures.value (c.in_ok-pair_repeats_superblock.ensures.ok ∙ ap (λ b. Some b) is_more) in
+    let one = c.in_ok-pair_repeats_superblock.ensures.reads in
     let others = c.loop-index.invariant.read in
     let below = c.loop-index.invariant.walked.below in
     record {
       walked = more (disk_of_device g.D.BlockDevice c.args.dev.now) (g.D.BlockDevice.history c.args.dev.now) c.args.pairs.now c.requires c.in_ok-bytes.bytes.items c.loop-index.root c.loop-index.index this.result next.result step c.loop-index.invariant.walked
-          (sym c.can_superblock_chain_continue.ensures ∙ c.if-not-can_superblock_chain_continue.false) went;
-      device = read_on g.D.BlockDevice c.loop-index.invariant.device c.in_ok-read_whether_pair_repeats_superblock.ensures.device.device;
-      no_fault = quiet g.D.BlockDevice c.in_ok-read_whether_pair_repeats_superblock.ensures.device ∙ c.loop-index.invariant.no_fault;
+          (sym c.can_chain_continue.ensures ∙ c.if-not-can_chain_continue.false) went;
+      device = read_on g.D.BlockDevice c.loop-index.invariant.device c.in_ok-pair_repeats_superblock.ensures.device.device;
+      no_fault = quiet g.D.BlockDevice c.in_ok-pair_repeats_superblock.ensures.device ∙ c.loop-index.invariant.no_fault;
       read = omega (arith, one, others, below, low);
     }
 

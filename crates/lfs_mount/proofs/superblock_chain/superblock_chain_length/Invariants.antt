@@ -1,6 +1,6 @@
 use Rattle.std.proofs.Common.{◌≡◌, ◌≤◌, ◌+◌, ◌-◌}
-use Rattle.lfs_device.specs.Calls.{ReadsOnly}
-use Rattle.lfs_model.specs.History.{fault_count_of_history, read_count_of_history}
+use Rattle.lfs_device.specs.DeviceCalls.{ReadsOnly}
+use Rattle.lfs_model.specs.session.History.{fault_count, read_count}
 use Rattle.lfs_thread.specs.Kept.{disk_of_device, pairs_of_headers}
 use Rattle.lfs_mount.proofs.Heads.{IsWalked}
 use Rattle.lfs_mount.proofs.superblock_chain.superblock_chain_length.Given as goal
@@ -9,6 +9,6 @@ abbrev pub invariant-loop-index : goal.invariant-loop-index
 invariant-loop-index g l = record {
   walked : IsWalked (g.D.BlockDevice.geometry l.fn.dev).profile.versions l.bytes.items (pairs_of_headers (disk_of_device g.D.BlockDevice l.fn.dev) l.pairs) l.root (l.index - 1);
   device : ReadsOnly g.D.BlockDevice l.fn.dev l.dev;
-  no_fault : fault_count_of_history (g.D.BlockDevice.history l.dev) ≡ fault_count_of_history (g.D.BlockDevice.history l.fn.dev);
-  read : read_count_of_history (g.D.BlockDevice.history l.dev) ≤ read_count_of_history (g.D.BlockDevice.history l.fn.dev) + 1 + l.root;
+  no_fault : fault_count (g.D.BlockDevice.history l.dev) ≡ fault_count (g.D.BlockDevice.history l.fn.dev);
+  read : read_count (g.D.BlockDevice.history l.dev) ≤ read_count (g.D.BlockDevice.history l.fn.dev) + 1 + l.root;
 }

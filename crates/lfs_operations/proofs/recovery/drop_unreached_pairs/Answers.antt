@@ -1,6 +1,6 @@
 use Rattle.std.proofs.Common.{suc, ◌≡◌, ◌+◌, ◌-◌, ap, sym, subst, ◌∙◌, drop, length, arith, refl, Err}
 use Rattle.std.specs.Prelude.{slice_index_or}
-use Rattle.lfs_operations.proofs.Common.{err_from_is_err_and, blocks_of_pairs, gstate_of_pairs, KeptThread}
+use Rattle.lfs_operations.proofs.Common.{err_from_is_err_and, blocks_of_pairs, pairs_gstate, KeptThread}
 use Rattle.lfs_tag.specs.FieldsView.{move_view}
 use Rattle.lfs_operations.proofs.RecoverEnd.{can_end, end_survives, ends, none_reported, reports_steps}
 use Rattle.lfs_operations.proofs.RecoverUnderWay.{IsUnderWay, begins, can_take, drop_all, indexes, moves_on, next_at, stays_by, survives_on, wanted, way_at, writes_on}
@@ -31,8 +31,8 @@ drop_pair_at-requires-clause-can g c =
     let d = c.loop-dropped.dropped in
     let n = next_at old now xs d c.loop-dropped-test.true c.loop-dropped.invariant.way in
     let i = indexes old now d (slice_index_or xs d 0) (drop (suc d) xs) n in
-    can_take old now d (slice_index_or xs d 0) (drop (suc d) xs) n (move_view c.gstate_zero_after_dropping_last_unreached_pair-wanted.result)
-    (wanted now xs d (move_view c.gstate_zero_after_dropping_last_unreached_pair-wanted.result) c.loop-dropped-test.true c.gstate_zero_after_dropping_last_unreached_pair-wanted.ensures)
+    can_take old now d (slice_index_or xs d 0) (drop (suc d) xs) n (move_view c.lemma_gstate_zero-wanted.result)
+    (wanted now xs d (move_view c.lemma_gstate_zero-wanted.result) c.loop-dropped-test.true c.lemma_gstate_zero-wanted.ensures)
     (slice_index_or xs d 0 - d) i.sum
 
 pub returns-in_err-drop_pair_at-clause-errors : goal.returns-in_err-drop_pair_at-clause-errors
@@ -48,8 +48,8 @@ returns-in_err-drop_pair_at-clause-device g c =
     let d = c.loop-dropped.dropped in
     let n = next_at old now xs d c.loop-dropped-test.true c.loop-dropped.invariant.way in
     let i = indexes old now d (slice_index_or xs d 0) (drop (suc d) xs) n in
-    writes_on old now d (slice_index_or xs d 0) (drop (suc d) xs) n (move_view c.gstate_zero_after_dropping_last_unreached_pair-wanted.result)
-    (wanted now xs d (move_view c.gstate_zero_after_dropping_last_unreached_pair-wanted.result) c.loop-dropped-test.true c.gstate_zero_after_dropping_last_unreached_pair-wanted.ensures)
+    writes_on old now d (slice_index_or xs d 0) (drop (suc d) xs) n (move_view c.lemma_gstate_zero-wanted.result)
+    (wanted now xs d (move_view c.lemma_gstate_zero-wanted.result) c.loop-dropped-test.true c.lemma_gstate_zero-wanted.ensures)
     (slice_index_or xs d 0 - d) i.sum c.drop_pair_at.new.thread.kept (way_at old now xs d c.loop-dropped-test.true c.loop-dropped.invariant.way) c.drop_pair_at.ensures.device
 
 pub returns-in_err-drop_pair_at-clause-survives : goal.returns-in_err-drop_pair_at-clause-survives
@@ -60,8 +60,8 @@ returns-in_err-drop_pair_at-clause-survives g c =
     let d = c.loop-dropped.dropped in
     let n = next_at old now xs d c.loop-dropped-test.true c.loop-dropped.invariant.way in
     let i = indexes old now d (slice_index_or xs d 0) (drop (suc d) xs) n in
-    survives_on old now d (slice_index_or xs d 0) (drop (suc d) xs) n (move_view c.gstate_zero_after_dropping_last_unreached_pair-wanted.result)
-    (wanted now xs d (move_view c.gstate_zero_after_dropping_last_unreached_pair-wanted.result) c.loop-dropped-test.true c.gstate_zero_after_dropping_last_unreached_pair-wanted.ensures)
+    survives_on old now d (slice_index_or xs d 0) (drop (suc d) xs) n (move_view c.lemma_gstate_zero-wanted.result)
+    (wanted now xs d (move_view c.lemma_gstate_zero-wanted.result) c.loop-dropped-test.true c.lemma_gstate_zero-wanted.ensures)
     (slice_index_or xs d 0 - d) i.sum c.drop_pair_at.new.thread.kept (way_at old now xs d c.loop-dropped-test.true c.loop-dropped.invariant.way)
     (stays_by _ now c.drop_pair_at.new.thread.kept c.drop_pair_at.ensures.device) c.drop_pair_at.ensures.stops
 
@@ -82,8 +82,8 @@ loop-dropped-preserved g c =
       no_fault = c.in_ok-drop_pair_at.ensures.errors.reported.no_fault (λ e. absurd (let k : _ = e in cc)) ∙ c.loop-dropped.invariant.no_fault;
       still = λ none. absurd (omega arith);
       way = subst (λ k. IsUnderWay old c.drop_pair_at.new.thread.kept k (drop k xs)) one
-          (moves_on old now d (slice_index_or xs d 0) (drop (suc d) xs) n (move_view c.gstate_zero_after_dropping_last_unreached_pair-wanted.result)
-          (wanted now xs d (move_view c.gstate_zero_after_dropping_last_unreached_pair-wanted.result) c.loop-dropped-test.true c.gstate_zero_after_dropping_last_unreached_pair-wanted.ensures)
+          (moves_on old now d (slice_index_or xs d 0) (drop (suc d) xs) n (move_view c.lemma_gstate_zero-wanted.result)
+          (wanted now xs d (move_view c.lemma_gstate_zero-wanted.result) c.loop-dropped-test.true c.lemma_gstate_zero-wanted.ensures)
           (slice_index_or xs d 0 - d) i.sum c.drop_pair_at.new.thread.kept (way_at old now xs d c.loop-dropped-test.true c.loop-dropped.invariant.way)
           c.in_ok-drop_pair_at.ensures.is_dropped c.drop_pair_at.ensures.device c.drop_pair_at.ensures.stops);
     }
@@ -138,11 +138,11 @@ returns-in_err-clear_sync_bit-clause-nothing g c recovered =
     let none = ap length (none_reported c.args.thread.now.kept.pairs c.args.unreached.now recovered c.requires.can.reported) in
     let in_all = c.loop-dropped.invariant.within in
     let same = c.loop-dropped.invariant.still (omega arith) in
-    c.clear_sync_bit.ensures.nothing (ap (λ (t : KeptThread). gstate_of_pairs t.pairs) same ∙ recovered.gstate) ∙ same
+    c.clear_sync_bit.ensures.nothing (ap (λ (t : KeptThread). pairs_gstate t.pairs) same ∙ recovered.gstate) ∙ same
 
 pub returns-clause-nothing : goal.returns-clause-nothing
 returns-clause-nothing g c recovered =
     let none = ap length (none_reported c.args.thread.now.kept.pairs c.args.unreached.now recovered c.requires.can.reported) in
     let in_all = c.loop-dropped.invariant.within in
     let same = c.loop-dropped.invariant.still (omega arith) in
-    c.clear_sync_bit.ensures.nothing (ap (λ (t : KeptThread). gstate_of_pairs t.pairs) same ∙ recovered.gstate) ∙ same
+    c.clear_sync_bit.ensures.nothing (ap (λ (t : KeptThread). pairs_gstate t.pairs) same ∙ recovered.gstate) ∙ same

@@ -1,5 +1,5 @@
 use Rattle.std.proofs.Common.{◌≡◌, ◌≤◌, drop, false, length}
-use Rattle.lfs_operations.proofs.Common.{fault_count_of_history}
+use Rattle.lfs_operations.proofs.Common.{fault_count}
 use Rattle.lfs_operations.proofs.RecoverUnderWay.{IsUnderWay}
 use Rattle.lfs_operations.proofs.recovery.drop_unreached_pairs.Given as goal
 
@@ -8,7 +8,7 @@ invariant-loop-dropped g l = record {
   end : l.dropped-end ≡ length l.fn.unreached;
   within : l.dropped ≤ l.dropped-end;
   works : l.thread.failed ≡ false;
-  no_fault : fault_count_of_history l.thread.kept.history ≡ fault_count_of_history l.fn.thread.kept.history;
+  no_fault : fault_count l.thread.kept.history ≡ fault_count l.fn.thread.kept.history;
   still : l.dropped ≡ 0 → l.thread.kept ≡ l.fn.thread.kept;
   way : IsUnderWay l.fn.thread.kept l.thread.kept l.dropped (drop l.dropped l.fn.unreached);
 }

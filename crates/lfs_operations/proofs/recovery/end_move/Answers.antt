@@ -1,6 +1,6 @@
 use Rattle.std.proofs.Common.{ℕ, ◌≡◌, Bool, ap, sym, subst₂, ◌∙◌, Err, refl}
-use Rattle.lfs_operations.proofs.Common.{err_from_is_err_and, Gstate, blocks_of_pairs, gstate_of_pairs, thread_pair_at_index}
-use Rattle.lfs_operations.specs.MoveEnds.{CanEndMoveAt, HasEndedMoveAt, pair_written_at_move_end}
+use Rattle.lfs_operations.proofs.Common.{err_from_is_err_and, Gstate, blocks_of_pairs, pairs_gstate, thread_pair_at}
+use Rattle.lfs_operations.specs.MoveEnds.{CanEndAt, HasEndedAt, written_at_end}
 use Rattle.lfs_operations.proofs.MakingContents.{logged_there}
 use Rattle.lfs_operations.proofs.RecoverEnd.{reports_steps}
 use Rattle.lfs_operations.proofs.RecoverEnded.{can_at, ended_at, written_below}
@@ -11,9 +11,9 @@ pub end_move-requires-clause-can : goal.end_move-requires-clause-can
 end_move-requires-clause-can g c =
     let t = c.args.thread.now.kept in
     let i = c.in-Some.index in
-    let n : c.state-state.result.id ≡ (gstate_of_pairs t.pairs).id = ap (λ (x : Gstate). x.id) c.state-state.ensures in
-    subst₂ (λ (k : ℕ) (b : Bool). CanEndMoveAt t i k b) (sym n) (sym c.is_one_slot_after_hard_tail-goes.ensures)
-    (can_at t c.requires.can i c.in-Some.ensures.there (logged_there t.disk (thread_pair_at_index t i).at c.show_device_facts_to_proof.ensures.bytes))
+    let n : c.state-state.result.id ≡ (pairs_gstate t.pairs).id = ap (λ (x : Gstate). x.id) c.state-state.ensures in
+    subst₂ (λ (k : ℕ) (b : Bool). CanEndAt t i k b) (sym n) (sym c.one_after_tail-goes.ensures)
+    (can_at t c.requires.can i c.in-Some.ensures.there (logged_there t.disk (thread_pair_at t i).at c.lemma_device_facts.ensures.bytes))
 
 pub returns-in_err-end_move-clause-errors : goal.returns-in_err-end_move-clause-errors
 returns-in_err-end_move-clause-errors g c =
@@ -22,16 +22,16 @@ returns-in_err-end_move-clause-errors g c =
 
 pub returns-in_err-end_move-clause-device : goal.returns-in_err-end_move-clause-device
 returns-in_err-end_move-clause-device g c =
-    writes_fewer _ (blocks_of_pairs c.args.thread.now.kept.pairs) (two_fewer c.args.thread.now.kept.pairs (pair_written_at_move_end c.in-Some.index c.is_one_slot_after_hard_tail-goes.result) (written_below c.args.thread.now.kept c.in-Some.index c.is_one_slot_after_hard_tail-goes.result c.in-Some.ensures.there.below)) c.end_move.ensures.device
+    writes_fewer _ (blocks_of_pairs c.args.thread.now.kept.pairs) (two_fewer c.args.thread.now.kept.pairs (written_at_end c.in-Some.index c.one_after_tail-goes.result) (written_below c.args.thread.now.kept c.in-Some.index c.one_after_tail-goes.result c.in-Some.ensures.there.below)) c.end_move.ensures.device
 
 pub returns-clause-device : goal.returns-clause-device
 returns-clause-device g c =
-    writes_fewer _ (blocks_of_pairs c.args.thread.now.kept.pairs) (two_fewer c.args.thread.now.kept.pairs (pair_written_at_move_end c.in-Some.index c.is_one_slot_after_hard_tail-goes.result) (written_below c.args.thread.now.kept c.in-Some.index c.is_one_slot_after_hard_tail-goes.result c.in-Some.ensures.there.below)) c.end_move.ensures.device
+    writes_fewer _ (blocks_of_pairs c.args.thread.now.kept.pairs) (two_fewer c.args.thread.now.kept.pairs (written_at_end c.in-Some.index c.one_after_tail-goes.result) (written_below c.args.thread.now.kept c.in-Some.index c.one_after_tail-goes.result c.in-Some.ensures.there.below)) c.end_move.ensures.device
 
 pub returns-clause-ended : goal.returns-clause-ended
 returns-clause-ended g c =
     let t = c.args.thread.now.kept in
     let i = c.in-Some.index in
-    let n : c.state-state.result.id ≡ (gstate_of_pairs t.pairs).id = ap (λ (x : Gstate). x.id) c.state-state.ensures in
+    let n : c.state-state.result.id ≡ (pairs_gstate t.pairs).id = ap (λ (x : Gstate). x.id) c.state-state.ensures in
     ended_at t c.requires.can i c.in-Some.ensures.there c.end_move.new.thread.kept
-    (subst₂ (λ (k : ℕ) (b : Bool). HasEndedMoveAt t i k b c.end_move.new.thread.kept) n c.is_one_slot_after_hard_tail-goes.ensures c.in_ok-end_move.ensures.ended)
+    (subst₂ (λ (k : ℕ) (b : Bool). HasEndedAt t i k b c.end_move.new.thread.kept) n c.one_after_tail-goes.ensures c.in_ok-end_move.ensures.ended)

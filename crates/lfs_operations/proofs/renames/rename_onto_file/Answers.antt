@@ -1,86 +1,86 @@
 use Rattle.std.proofs.Common.{ap, sym, subst, ◌∙◌, ◌∷◌, Err}
-use Rattle.lfs_operations.proofs.Common.{err_from_is_err_and, Delete, changes_view, PowerLossLeavesSuchBlocksAfterCleanErases}
+use Rattle.lfs_operations.proofs.Common.{err_from_is_err_and, Delete, changes_view, LossLeavesCleanly}
 use Rattle.lfs_device.specs.declared.error.Error.TheVariants as Error
-use Rattle.lfs_operations.specs.Changing.{CanChangeOrSplitPair, IsLeftByStoppedChangeOrSplit, IsPairChangedOrSplit, ReportsErrorsOfChangeOrSplit}
-use Rattle.lfs_operations.specs.Renaming.{ReportsErrorsOfReadThenChangeOrSplit, id_after_slot_removal, rename_onto_file_in_pair_changes, tree_with_renamed_entry}
-use Rattle.lfs_operations.specs.RenamingSlots.{slot_creation_changes}
+use Rattle.lfs_operations.specs.Changing.{CanTurn, LeftByTurn, IsTurned, ReportsErrorsOfChangeOrSplit}
+use Rattle.lfs_operations.specs.Renaming.{ReportsErrorsOfReadThenChangeOrSplit, id_after_removal, onto_changes, tree_renamed}
+use Rattle.lfs_operations.specs.RenamingSlots.{slot_changes}
 use Rattle.lfs_operations.proofs.Putting.{not_both}
 use Rattle.lfs_operations.proofs.RenameRead.{can_after_read, moves_after_read, moves_unread, put_after_read, read_survives, read_writes, stops_after_read, writes_after_read}
 use Rattle.lfs_operations.proofs.RenameReplaced.{can_put_replaced, has_slot, onto_survives, renamed_onto}
 use Rattle.lfs_operations.proofs.renames.rename_onto_file.Goals as goal
 
-pub copy_slot_of_pair-requires-clause-there : goal.copy_slot_of_pair-requires-clause-there
-copy_slot_of_pair-requires-clause-there g c = has_slot c.args.thread.now.kept c.args.pair c.args.id c.args.place c.args.name.now c.requires.can
+pub copy_pair_slot-requires-clause-there : goal.copy_pair_slot-requires-clause-there
+copy_pair_slot-requires-clause-there g c = has_slot c.args.thread.now.kept c.args.pair c.args.id c.args.place c.args.name.now c.requires.can
 
 pub returns-in_err-copy-clause-errors : goal.returns-in_err-copy-clause-errors
 returns-in_err-copy-clause-errors g c =
     let p = err_from_is_err_and c.from_residual.result c.from_residual.ensures.1 in
-    moves_unread c.args.thread.now c.copy_slot_of_pair.new.thread c.args.pair (rename_onto_file_in_pair_changes c.args.thread.now.kept c.args.pair c.args.id c.args.place c.args.name.now) p.0 c.copy_slot_of_pair.result c.from_residual.result
-    (c.in_err-copy.was ∙ ap Err (sym p.2)) p.1 c.copy_slot_of_pair.ensures.works c.copy_slot_of_pair.ensures.only c.copy_slot_of_pair.ensures.errors
+    moves_unread c.args.thread.now c.copy_pair_slot.new.thread c.args.pair (onto_changes c.args.thread.now.kept c.args.pair c.args.id c.args.place c.args.name.now) p.0 c.copy_pair_slot.result c.from_residual.result
+    (c.in_err-copy.was ∙ ap Err (sym p.2)) p.1 c.copy_pair_slot.ensures.works c.copy_pair_slot.ensures.only c.copy_pair_slot.ensures.errors
 
 pub returns-in_err-copy-clause-device : goal.returns-in_err-copy-clause-device
-returns-in_err-copy-clause-device g c = read_writes c.args.thread.now.kept c.copy_slot_of_pair.new.thread.kept c.copy_slot_of_pair.ensures.only c.args.pair
+returns-in_err-copy-clause-device g c = read_writes c.args.thread.now.kept c.copy_pair_slot.new.thread.kept c.copy_pair_slot.ensures.only c.args.pair
 
 pub returns-in_err-copy-clause-survives : goal.returns-in_err-copy-clause-survives
 returns-in_err-copy-clause-survives g c rename =
-    read_survives c.args.thread.now.kept c.copy_slot_of_pair.new.thread.kept.history c.copy_slot_of_pair.ensures.only.reads rename.can.ready (tree_with_renamed_entry c.args.thread.now.kept rename.can.path rename.can.name c.args.name.now)
+    read_survives c.args.thread.now.kept c.copy_pair_slot.new.thread.kept.history c.copy_pair_slot.ensures.only.reads rename.can.ready (tree_renamed c.args.thread.now.kept rename.can.path rename.can.name c.args.name.now)
 
 pub returns-in_err-changes-clause-device : goal.returns-in_err-changes-clause-device
-returns-in_err-changes-clause-device g c = read_writes c.args.thread.now.kept c.copy_slot_of_pair.new.thread.kept c.copy_slot_of_pair.ensures.only c.args.pair
+returns-in_err-changes-clause-device g c = read_writes c.args.thread.now.kept c.copy_pair_slot.new.thread.kept c.copy_pair_slot.ensures.only c.args.pair
 
 pub returns-in_err-changes-clause-survives : goal.returns-in_err-changes-clause-survives
 returns-in_err-changes-clause-survives g c rename =
-    read_survives c.args.thread.now.kept c.copy_slot_of_pair.new.thread.kept.history c.copy_slot_of_pair.ensures.only.reads rename.can.ready (tree_with_renamed_entry c.args.thread.now.kept rename.can.path rename.can.name c.args.name.now)
+    read_survives c.args.thread.now.kept c.copy_pair_slot.new.thread.kept.history c.copy_pair_slot.ensures.only.reads rename.can.ready (tree_renamed c.args.thread.now.kept rename.can.path rename.can.name c.args.name.now)
 
-pub change_or_split_pair-requires-clause-can : goal.change_or_split_pair-requires-clause-can
-change_or_split_pair-requires-clause-can g c =
-    let are = ap changes_view c.deref.ensures.value ∙ c.in_ok-changes.ensures ∙ ap (λ z. Delete c.args.id ∷ Delete (id_after_slot_removal c.args.id c.args.place) ∷ slot_creation_changes (id_after_slot_removal c.args.id c.args.place) c.args.name.now z) c.in_ok-copy.ensures.copied in
-    subst (CanChangeOrSplitPair c.copy_slot_of_pair.new.thread.kept c.args.pair) (sym are)
-    (can_after_read c.args.thread.now.kept c.copy_slot_of_pair.new.thread.kept c.args.pair (rename_onto_file_in_pair_changes c.args.thread.now.kept c.args.pair c.args.id c.args.place c.args.name.now) c.copy_slot_of_pair.ensures.only
+pub change_or_split-requires-clause-can : goal.change_or_split-requires-clause-can
+change_or_split-requires-clause-can g c =
+    let are = ap changes_view c.deref.ensures.value ∙ c.in_ok-changes.ensures ∙ ap (λ z. Delete c.args.id ∷ Delete (id_after_removal c.args.id c.args.place) ∷ slot_changes (id_after_removal c.args.id c.args.place) c.args.name.now z) c.in_ok-copy.ensures.copied in
+    subst (CanTurn c.copy_pair_slot.new.thread.kept c.args.pair) (sym are)
+    (can_after_read c.args.thread.now.kept c.copy_pair_slot.new.thread.kept c.args.pair (onto_changes c.args.thread.now.kept c.args.pair c.args.id c.args.place c.args.name.now) c.copy_pair_slot.ensures.only
     (can_put_replaced c.args.thread.now.kept c.args.pair c.args.id c.args.place c.args.name.now c.requires.can))
 
-pub returns-in_err-change_or_split_pair-clause-errors : goal.returns-in_err-change_or_split_pair-clause-errors
-returns-in_err-change_or_split_pair-clause-errors g c =
-    let p = err_from_is_err_and c.from_residual-in_err-change_or_split_pair.result c.from_residual-in_err-change_or_split_pair.ensures.1 in
-    let are = ap changes_view c.deref.ensures.value ∙ c.in_ok-changes.ensures ∙ ap (λ z. Delete c.args.id ∷ Delete (id_after_slot_removal c.args.id c.args.place) ∷ slot_creation_changes (id_after_slot_removal c.args.id c.args.place) c.args.name.now z) c.in_ok-copy.ensures.copied in
-    subst (λ r. ReportsErrorsOfReadThenChangeOrSplit c.args.thread.now c.change_or_split_pair.new.thread c.args.pair (rename_onto_file_in_pair_changes c.args.thread.now.kept c.args.pair c.args.id c.args.place c.args.name.now) r) (c.in_err-change_or_split_pair.was ∙ ap Err (sym p.2) ∙ sym p.1)
-    (moves_after_read c.args.thread.now c.copy_slot_of_pair.new.thread c.change_or_split_pair.new.thread c.args.pair (rename_onto_file_in_pair_changes c.args.thread.now.kept c.args.pair c.args.id c.args.place c.args.name.now) c.change_or_split_pair.result c.copy_slot_of_pair.ensures.only
-    (c.copy_slot_of_pair.ensures.errors.no_fault (λ io. not_both c.copy_slot_of_pair.result c.in_ok-copy.copy Error.Io c.in_ok-copy.was io))
-    (subst (λ z. ReportsErrorsOfChangeOrSplit c.copy_slot_of_pair.new.thread c.change_or_split_pair.new.thread c.args.pair z c.change_or_split_pair.result) are c.change_or_split_pair.ensures.errors))
+pub returns-in_err-change_or_split-clause-errors : goal.returns-in_err-change_or_split-clause-errors
+returns-in_err-change_or_split-clause-errors g c =
+    let p = err_from_is_err_and c.from_residual-in_err-change_or_split.result c.from_residual-in_err-change_or_split.ensures.1 in
+    let are = ap changes_view c.deref.ensures.value ∙ c.in_ok-changes.ensures ∙ ap (λ z. Delete c.args.id ∷ Delete (id_after_removal c.args.id c.args.place) ∷ slot_changes (id_after_removal c.args.id c.args.place) c.args.name.now z) c.in_ok-copy.ensures.copied in
+    subst (λ r. ReportsErrorsOfReadThenChangeOrSplit c.args.thread.now c.change_or_split.new.thread c.args.pair (onto_changes c.args.thread.now.kept c.args.pair c.args.id c.args.place c.args.name.now) r) (c.in_err-change_or_split.was ∙ ap Err (sym p.2) ∙ sym p.1)
+    (moves_after_read c.args.thread.now c.copy_pair_slot.new.thread c.change_or_split.new.thread c.args.pair (onto_changes c.args.thread.now.kept c.args.pair c.args.id c.args.place c.args.name.now) c.change_or_split.result c.copy_pair_slot.ensures.only
+    (c.copy_pair_slot.ensures.errors.no_fault (λ io. not_both c.copy_pair_slot.result c.in_ok-copy.copy Error.Io c.in_ok-copy.was io))
+    (subst (λ z. ReportsErrorsOfChangeOrSplit c.copy_pair_slot.new.thread c.change_or_split.new.thread c.args.pair z c.change_or_split.result) are c.change_or_split.ensures.errors))
 
-pub returns-in_err-change_or_split_pair-clause-device : goal.returns-in_err-change_or_split_pair-clause-device
-returns-in_err-change_or_split_pair-clause-device g c = writes_after_read c.args.thread.now.kept c.copy_slot_of_pair.new.thread.kept c.change_or_split_pair.new.thread.kept c.args.pair c.copy_slot_of_pair.ensures.only c.change_or_split_pair.ensures.device
+pub returns-in_err-change_or_split-clause-device : goal.returns-in_err-change_or_split-clause-device
+returns-in_err-change_or_split-clause-device g c = writes_after_read c.args.thread.now.kept c.copy_pair_slot.new.thread.kept c.change_or_split.new.thread.kept c.args.pair c.copy_pair_slot.ensures.only c.change_or_split.ensures.device
 
-pub returns-in_err-change_or_split_pair-clause-survives : goal.returns-in_err-change_or_split_pair-clause-survives
-returns-in_err-change_or_split_pair-clause-survives g c rename =
-    let are = ap changes_view c.deref.ensures.value ∙ c.in_ok-changes.ensures ∙ ap (λ z. Delete c.args.id ∷ Delete (id_after_slot_removal c.args.id c.args.place) ∷ slot_creation_changes (id_after_slot_removal c.args.id c.args.place) c.args.name.now z) c.in_ok-copy.ensures.copied in
-    onto_survives c.args.thread.now.kept c.args.pair c.args.id c.args.place c.args.name.now rename c.change_or_split_pair.new.thread.kept.history
-    (stops_after_read c.args.thread.now.kept c.copy_slot_of_pair.new.thread.kept c.change_or_split_pair.new.thread.kept c.args.pair (rename_onto_file_in_pair_changes c.args.thread.now.kept c.args.pair c.args.id c.args.place c.args.name.now) c.copy_slot_of_pair.ensures.only
-    rename.can.ready rename.can.first rename.can.stands.pair rename.can.stands.rest rename.can.stands.place c.change_or_split_pair.ensures.device
-    (subst (λ z. PowerLossLeavesSuchBlocksAfterCleanErases c.copy_slot_of_pair.new.thread.kept.history c.change_or_split_pair.new.thread.kept.history (IsLeftByStoppedChangeOrSplit c.copy_slot_of_pair.new.thread.kept c.args.pair z)) are c.change_or_split_pair.ensures.stops))
+pub returns-in_err-change_or_split-clause-survives : goal.returns-in_err-change_or_split-clause-survives
+returns-in_err-change_or_split-clause-survives g c rename =
+    let are = ap changes_view c.deref.ensures.value ∙ c.in_ok-changes.ensures ∙ ap (λ z. Delete c.args.id ∷ Delete (id_after_removal c.args.id c.args.place) ∷ slot_changes (id_after_removal c.args.id c.args.place) c.args.name.now z) c.in_ok-copy.ensures.copied in
+    onto_survives c.args.thread.now.kept c.args.pair c.args.id c.args.place c.args.name.now rename c.change_or_split.new.thread.kept.history
+    (stops_after_read c.args.thread.now.kept c.copy_pair_slot.new.thread.kept c.change_or_split.new.thread.kept c.args.pair (onto_changes c.args.thread.now.kept c.args.pair c.args.id c.args.place c.args.name.now) c.copy_pair_slot.ensures.only
+    rename.can.ready rename.can.first rename.can.stands.pair rename.can.stands.rest rename.can.stands.place c.change_or_split.ensures.device
+    (subst (λ z. LossLeavesCleanly c.copy_pair_slot.new.thread.kept.history c.change_or_split.new.thread.kept.history (LeftByTurn c.copy_pair_slot.new.thread.kept c.args.pair z)) are c.change_or_split.ensures.stops))
 
 pub returns-clause-renamed : goal.returns-clause-renamed
 returns-clause-renamed g c rename =
-    let are = ap changes_view c.deref.ensures.value ∙ c.in_ok-changes.ensures ∙ ap (λ z. Delete c.args.id ∷ Delete (id_after_slot_removal c.args.id c.args.place) ∷ slot_creation_changes (id_after_slot_removal c.args.id c.args.place) c.args.name.now z) c.in_ok-copy.ensures.copied in
-    renamed_onto c.args.thread.now.kept c.args.pair c.args.id c.args.place c.args.name.now rename c.change_or_split_pair.new.thread.kept
-    (put_after_read c.args.thread.now.kept c.copy_slot_of_pair.new.thread.kept c.change_or_split_pair.new.thread.kept c.args.pair (rename_onto_file_in_pair_changes c.args.thread.now.kept c.args.pair c.args.id c.args.place c.args.name.now) c.copy_slot_of_pair.ensures.only
-    (subst (λ z. IsPairChangedOrSplit c.copy_slot_of_pair.new.thread.kept c.args.pair z c.change_or_split_pair.new.thread.kept) are c.in_ok-change_or_split_pair.ensures.is_put))
+    let are = ap changes_view c.deref.ensures.value ∙ c.in_ok-changes.ensures ∙ ap (λ z. Delete c.args.id ∷ Delete (id_after_removal c.args.id c.args.place) ∷ slot_changes (id_after_removal c.args.id c.args.place) c.args.name.now z) c.in_ok-copy.ensures.copied in
+    renamed_onto c.args.thread.now.kept c.args.pair c.args.id c.args.place c.args.name.now rename c.change_or_split.new.thread.kept
+    (put_after_read c.args.thread.now.kept c.copy_pair_slot.new.thread.kept c.change_or_split.new.thread.kept c.args.pair (onto_changes c.args.thread.now.kept c.args.pair c.args.id c.args.place c.args.name.now) c.copy_pair_slot.ensures.only
+    (subst (λ z. IsTurned c.copy_pair_slot.new.thread.kept c.args.pair z c.change_or_split.new.thread.kept) are c.in_ok-change_or_split.ensures.is_put))
 
 pub returns-clause-errors : goal.returns-clause-errors
 returns-clause-errors g c =
-    let are = ap changes_view c.deref.ensures.value ∙ c.in_ok-changes.ensures ∙ ap (λ z. Delete c.args.id ∷ Delete (id_after_slot_removal c.args.id c.args.place) ∷ slot_creation_changes (id_after_slot_removal c.args.id c.args.place) c.args.name.now z) c.in_ok-copy.ensures.copied in
-    subst (λ r. ReportsErrorsOfReadThenChangeOrSplit c.args.thread.now c.change_or_split_pair.new.thread c.args.pair (rename_onto_file_in_pair_changes c.args.thread.now.kept c.args.pair c.args.id c.args.place c.args.name.now) r) c.in_ok-change_or_split_pair.was
-    (moves_after_read c.args.thread.now c.copy_slot_of_pair.new.thread c.change_or_split_pair.new.thread c.args.pair (rename_onto_file_in_pair_changes c.args.thread.now.kept c.args.pair c.args.id c.args.place c.args.name.now) c.change_or_split_pair.result c.copy_slot_of_pair.ensures.only
-    (c.copy_slot_of_pair.ensures.errors.no_fault (λ io. not_both c.copy_slot_of_pair.result c.in_ok-copy.copy Error.Io c.in_ok-copy.was io))
-    (subst (λ z. ReportsErrorsOfChangeOrSplit c.copy_slot_of_pair.new.thread c.change_or_split_pair.new.thread c.args.pair z c.change_or_split_pair.result) are c.change_or_split_pair.ensures.errors))
+    let are = ap changes_view c.deref.ensures.value ∙ c.in_ok-changes.ensures ∙ ap (λ z. Delete c.args.id ∷ Delete (id_after_removal c.args.id c.args.place) ∷ slot_changes (id_after_removal c.args.id c.args.place) c.args.name.now z) c.in_ok-copy.ensures.copied in
+    subst (λ r. ReportsErrorsOfReadThenChangeOrSplit c.args.thread.now c.change_or_split.new.thread c.args.pair (onto_changes c.args.thread.now.kept c.args.pair c.args.id c.args.place c.args.name.now) r) c.in_ok-change_or_split.was
+    (moves_after_read c.args.thread.now c.copy_pair_slot.new.thread c.change_or_split.new.thread c.args.pair (onto_changes c.args.thread.now.kept c.args.pair c.args.id c.args.place c.args.name.now) c.change_or_split.result c.copy_pair_slot.ensures.only
+    (c.copy_pair_slot.ensures.errors.no_fault (λ io. not_both c.copy_pair_slot.result c.in_ok-copy.copy Error.Io c.in_ok-copy.was io))
+    (subst (λ z. ReportsErrorsOfChangeOrSplit c.copy_pair_slot.new.thread c.change_or_split.new.thread c.args.pair z c.change_or_split.result) are c.change_or_split.ensures.errors))
 
 pub returns-clause-device : goal.returns-clause-device
-returns-clause-device g c = writes_after_read c.args.thread.now.kept c.copy_slot_of_pair.new.thread.kept c.change_or_split_pair.new.thread.kept c.args.pair c.copy_slot_of_pair.ensures.only c.change_or_split_pair.ensures.device
+returns-clause-device g c = writes_after_read c.args.thread.now.kept c.copy_pair_slot.new.thread.kept c.change_or_split.new.thread.kept c.args.pair c.copy_pair_slot.ensures.only c.change_or_split.ensures.device
 
 pub returns-clause-survives : goal.returns-clause-survives
 returns-clause-survives g c rename =
-    let are = ap changes_view c.deref.ensures.value ∙ c.in_ok-changes.ensures ∙ ap (λ z. Delete c.args.id ∷ Delete (id_after_slot_removal c.args.id c.args.place) ∷ slot_creation_changes (id_after_slot_removal c.args.id c.args.place) c.args.name.now z) c.in_ok-copy.ensures.copied in
-    onto_survives c.args.thread.now.kept c.args.pair c.args.id c.args.place c.args.name.now rename c.change_or_split_pair.new.thread.kept.history
-    (stops_after_read c.args.thread.now.kept c.copy_slot_of_pair.new.thread.kept c.change_or_split_pair.new.thread.kept c.args.pair (rename_onto_file_in_pair_changes c.args.thread.now.kept c.args.pair c.args.id c.args.place c.args.name.now) c.copy_slot_of_pair.ensures.only
-    rename.can.ready rename.can.first rename.can.stands.pair rename.can.stands.rest rename.can.stands.place c.change_or_split_pair.ensures.device
-    (subst (λ z. PowerLossLeavesSuchBlocksAfterCleanErases c.copy_slot_of_pair.new.thread.kept.history c.change_or_split_pair.new.thread.kept.history (IsLeftByStoppedChangeOrSplit c.copy_slot_of_pair.new.thread.kept c.args.pair z)) are c.change_or_split_pair.ensures.stops))
+    let are = ap changes_view c.deref.ensures.value ∙ c.in_ok-changes.ensures ∙ ap (λ z. Delete c.args.id ∷ Delete (id_after_removal c.args.id c.args.place) ∷ slot_changes (id_after_removal c.args.id c.args.place) c.args.name.now z) c.in_ok-copy.ensures.copied in
+    onto_survives c.args.thread.now.kept c.args.pair c.args.id c.args.place c.args.name.now rename c.change_or_split.new.thread.kept.history
+    (stops_after_read c.args.thread.now.kept c.copy_pair_slot.new.thread.kept c.change_or_split.new.thread.kept c.args.pair (onto_changes c.args.thread.now.kept c.args.pair c.args.id c.args.place c.args.name.now) c.copy_pair_slot.ensures.only
+    rename.can.ready rename.can.first rename.can.stands.pair rename.can.stands.rest rename.can.stands.place c.change_or_split.ensures.device
+    (subst (λ z. LossLeavesCleanly c.copy_pair_slot.new.thread.kept.history c.change_or_split.new.thread.kept.history (LeftByTurn c.copy_pair_slot.new.thread.kept c.args.pair z)) are c.change_or_split.ensures.stops))

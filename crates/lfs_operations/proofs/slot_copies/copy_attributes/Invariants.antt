@@ -1,7 +1,7 @@
 use Rattle.std.proofs.Common.{◌≡◌, map, take}
 use Rattle.lfs_tag.specs.ContentView.{attribute_view}
-use Rattle.lfs_operations.specs.RenamingView.{attribute_copy_view}
+use Rattle.lfs_operations.specs.RenamingView.{attribute_copy}
 use Rattle.lfs_operations.proofs.slot_copies.copy_attributes.Given as goal
 
 abbrev pub invariant-loop-attribute : goal.invariant-loop-attribute
-invariant-loop-attribute l = map attribute_copy_view l.copies.items ≡ map attribute_view (take l.attribute-index l.attributes)
+invariant-loop-attribute l = map attribute_copy l.copies.items ≡ map attribute_view (take l.attribute-index l.attributes)

@@ -1,8 +1,8 @@
 use Rattle.std.proofs.Common.{◌≡◌, ◌++◌, map, take}
 use Rattle.lfs_operations.proofs.Common.{changes_view}
-use Rattle.lfs_operations.specs.RenamingView.{attribute_copy_view}
-use Rattle.lfs_operations.specs.RenamingSlots.{put_attribute_changes}
+use Rattle.lfs_operations.specs.RenamingView.{attribute_copy}
+use Rattle.lfs_operations.specs.RenamingSlots.{attribute_changes}
 use Rattle.lfs_operations.proofs.slot_copies.push_attribute_changes.Given as goal
 
 abbrev pub invariant-loop-attribute : goal.invariant-loop-attribute
-invariant-loop-attribute l = changes_view l.changes.items ≡ changes_view l.fn.changes.items ++ put_attribute_changes l.id (map attribute_copy_view (take l.attribute-index l.attributes))
+invariant-loop-attribute l = changes_view l.changes.items ≡ changes_view l.fn.changes.items ++ attribute_changes l.id (map attribute_copy (take l.attribute-index l.attributes))

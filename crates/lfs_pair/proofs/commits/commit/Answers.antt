@@ -1,11 +1,11 @@
 use Rattle.std.proofs.lemmas.Result.{err_from_is_err_and}
 use Rattle.lfs_pair.proofs.Erring.{fails_on}
 use Rattle.std.proofs.Common.{arith, ap₂, subst}
-use Rattle.lfs_device.specs.Shown.{disk_of_geometry_and_blocks}
-use Rattle.lfs_model.proofs.Histories.{goes_on_by, IsTrueAfterAnyPowerLossSince-read_count_of_history, IsTrueAfterAnyPowerLossSince-weaker, IsTrueOfEachCallSince-behind, AreBlocksLeftByPowerLossInCall-read}
-use Rattle.lfs_pair.specs.Pair.{pair_address_in_header}
+use Rattle.lfs_device.specs.DeviceDisk.{disk_of_blocks}
+use Rattle.lfs_model.proofs.Histories.{goes_on_by, HoldsAtLosses-read_count, HoldsAtLosses-weaker, AllCallsSince-behind, LeftByLoss-read}
+use Rattle.lfs_pair.specs.Pair.{header_address}
 use Rattle.lfs_pair.specs.ChangeView.{changes_view}
-use Rattle.lfs_pair.specs.Commit.{PowerLossLeavesOldOrChangedContent}
+use Rattle.lfs_pair.specs.Commits.{LossLeavesChanged}
 use Rattle.lfs_pair.proofs.Calls.{few_at_error, few_by_read, reading_by_read, reading_trans}
 use Rattle.lfs_pair.proofs.Changed.{active_below, left_alone}
 use Rattle.lfs_pair.proofs.Behind.{commits_behind, full_behind}
@@ -15,26 +15,26 @@ pub read_block-requires : goal.read_block-requires
 read_block-requires g c = active_below _ _ c.args.pair.now c.requires.held _ c.requires.address c.requires.is_pair (g.met.D.BlockDevice.shape c.args.dev.now).count
 
 pub returns-in_err-block-clause-stops : goal.returns-in_err-block-clause-stops
-returns-in_err-block-clause-stops g c cleanly = IsTrueAfterAnyPowerLossSince-read_count_of_history AreBlocksLeftByPowerLossInCall-read c.in_err-block.ensures.device.reads (left_alone _ _ _)
+returns-in_err-block-clause-stops g c cleanly = HoldsAtLosses-read_count LeftByLoss-read c.in_err-block.ensures.device.reads (left_alone _ _ _)
 
 pub returns-in_err-outcome-clause-stops : goal.returns-in_err-outcome-clause-stops
 returns-in_err-outcome-clause-stops g c cleanly =
-    let same_disk = ap₂ disk_of_geometry_and_blocks c.in_ok-block.ensures.device.geometry c.in_ok-block.ensures.device.same in
-    goes_on_by (IsTrueAfterAnyPowerLossSince-read_count_of_history AreBlocksLeftByPowerLossInCall-read c.in_ok-block.ensures.device.reads (left_alone _ _ _))
-    (IsTrueAfterAnyPowerLossSince-weaker (λ disk left. subst (λ old. PowerLossLeavesOldOrChangedContent old (pair_address_in_header c.args.pair.now) (changes_view c.args.changes.now) disk) same_disk left)
-    (c.in_err-outcome.ensures.stops (IsTrueOfEachCallSince-behind cleanly c.in_ok-block.ensures.device.reads c.in_err-outcome.ensures.device.only.at_worst)))
+    let same_disk = ap₂ disk_of_blocks c.in_ok-block.ensures.device.geometry c.in_ok-block.ensures.device.same in
+    goes_on_by (HoldsAtLosses-read_count LeftByLoss-read c.in_ok-block.ensures.device.reads (left_alone _ _ _))
+    (HoldsAtLosses-weaker (λ disk left. subst (λ old. LossLeavesChanged old (header_address c.args.pair.now) (changes_view c.args.changes.now) disk) same_disk left)
+    (c.in_err-outcome.ensures.stops (AllCallsSince-behind cleanly c.in_ok-block.ensures.device.reads c.in_err-outcome.ensures.device.only.at_worst)))
 
 pub returns-clause-stops : goal.returns-clause-stops
 returns-clause-stops g c cleanly =
-    let same_disk = ap₂ disk_of_geometry_and_blocks c.in_ok-block.ensures.device.geometry c.in_ok-block.ensures.device.same in
-    goes_on_by (IsTrueAfterAnyPowerLossSince-read_count_of_history AreBlocksLeftByPowerLossInCall-read c.in_ok-block.ensures.device.reads (left_alone _ _ _))
-    (IsTrueAfterAnyPowerLossSince-weaker (λ disk left. subst (λ old. PowerLossLeavesOldOrChangedContent old (pair_address_in_header c.args.pair.now) (changes_view c.args.changes.now) disk) same_disk left)
-    (c.in_ok-outcome.ensures.stops (IsTrueOfEachCallSince-behind cleanly c.in_ok-block.ensures.device.reads c.in_ok-outcome.ensures.device.only.at_worst)))
+    let same_disk = ap₂ disk_of_blocks c.in_ok-block.ensures.device.geometry c.in_ok-block.ensures.device.same in
+    goes_on_by (HoldsAtLosses-read_count LeftByLoss-read c.in_ok-block.ensures.device.reads (left_alone _ _ _))
+    (HoldsAtLosses-weaker (λ disk left. subst (λ old. LossLeavesChanged old (header_address c.args.pair.now) (changes_view c.args.changes.now) disk) same_disk left)
+    (c.in_ok-outcome.ensures.stops (AllCallsSince-behind cleanly c.in_ok-block.ensures.device.reads c.in_ok-outcome.ensures.device.only.at_worst)))
 
 pub returns-clause-done : goal.returns-clause-done
 returns-clause-done g c done =
     let read = c.in_ok-block.ensures.device in
-    commits_behind (ap₂ disk_of_geometry_and_blocks read.geometry read.same) read.reads (c.in_ok-outcome.ensures.done done)
+    commits_behind (ap₂ disk_of_blocks read.geometry read.same) read.reads (c.in_ok-outcome.ensures.done done)
 
 pub returns-clause-full : goal.returns-clause-full
 returns-clause-full g c full = full_behind c.in_ok-block.ensures.device (c.in_ok-outcome.ensures.full full)

@@ -1,13 +1,13 @@
-use Rattle.lfs_model.specs.Blocks.{block_bytes_by_number}
-use Rattle.lfs_pair.specs.Writing.{IsBlockWrittenAnew}
+use Rattle.lfs_model.specs.format.Blocks.{block_bytes}
+use Rattle.lfs_pair.specs.Writing.{IsWrittenAnew}
 use Rattle.std.proofs.Common.{rules, ℕ, ◌+◌, ◌%◌, ◌^◌, refl, sym, ap, ◌∙◌, subst, arith}
-use Rattle.lfs_device.specs.Shown.{disk_of_geometry_and_blocks}
-use Rattle.lfs_model.specs.Slots.{pair_address_of_array}
+use Rattle.lfs_device.specs.DeviceDisk.{disk_of_blocks}
+use Rattle.lfs_model.specs.format.Slots.{array_address}
 use Rattle.lfs_tag.specs.ContentView.{content_view}
 use Rattle.std.proofs.Common.{Some}
-use Rattle.lfs_pair.specs.Commit.{KeepsFirstEntryOfPairLog}
-use Rattle.lfs_model.proofs.Histories.{IsTrueAfterAnyPowerLossSince-weaker}
-use Rattle.lfs_pair.specs.Pair.{pair_address_in_header}
+use Rattle.lfs_pair.specs.Commits.{KeepsFirstEntry}
+use Rattle.lfs_model.proofs.Histories.{HoldsAtLosses-weaker}
+use Rattle.lfs_pair.specs.Pair.{header_address}
 use Rattle.lfs_pair.proofs.TwoBlocks.{other_is, below_count}
 use Rattle.lfs_pair.proofs.Calls.{only_block}
 use Rattle.lfs_pair.proofs.Changed.{IsIn, is_compacting, compacted, compacted_first, now_holds, left_by_compaction}
@@ -23,26 +23,26 @@ write_block_anew-requires-clause-in_device g c =
 pub returns-in_err-written-clause-stops : goal.returns-in_err-written-clause-stops
 returns-in_err-written-clause-stops g c cleanly =
     let ready = is_compacting _ c.args.pair.now c.inactive_block-other.result ((c.args.pair.now.revision + 1) % 2 ^ 32) c.requires.address c.requires.active c.inactive_block-other.ensures (omega arith) refl in
-    IsTrueAfterAnyPowerLossSince-weaker (λ disk left. left_by_compaction _ _ _ _ _ _ disk ready left) (c.in_err-written.ensures.stops cleanly)
+    HoldsAtLosses-weaker (λ disk left. left_by_compaction _ _ _ _ _ _ disk ready left) (c.in_err-written.ensures.stops cleanly)
 
 pub returns-clause-done : goal.returns-clause-done
 returns-clause-done g c =
     let ready = is_compacting _ c.args.pair.now c.inactive_block-other.result ((c.args.pair.now.revision + 1) % 2 ^ 32) c.requires.address c.requires.active c.inactive_block-other.ensures (omega arith) refl in
     let device = c.in_ok-written.ensures.writes.device in
     let anew = c.in_ok-written.ensures.anew in
-    let holds = subst (λ k. IsIn (disk_of_geometry_and_blocks k (g.D.BlockDevice.blocks c.write_block_anew.new.dev)) (pair_address_in_header c.args.pair.now) c.inactive_block-other.result (content_view c.args.content.now)) (sym device.geometry)
+    let holds = subst (λ k. IsIn (disk_of_blocks k (g.D.BlockDevice.blocks c.write_block_anew.new.dev)) (header_address c.args.pair.now) c.inactive_block-other.result (content_view c.args.content.now)) (sym device.geometry)
     (compacted _ _ _ _ _ _ (g.D.BlockDevice.blocks c.write_block_anew.new.dev) ready device.others anew.holds) in
     record {
       holds = now_holds _ _ _ c.written.result c.inactive_block-other.result _ holds
-          (ap pair_address_of_array c.written.ensures.blocks) c.written.ensures.active c.written.ensures.fetched
+          (ap array_address c.written.ensures.blocks) c.written.ensures.active c.written.ensures.fetched
           (c.written.ensures.revision ∙ sym anew.holds.revision_is)
           c.written.ensures.ends c.in_ok-written.ensures.written c.written.ensures.sums c.requires.logged;
-      first = subst (λ k. KeepsFirstEntryOfPairLog (disk_of_geometry_and_blocks (g.D.BlockDevice.geometry c.args.dev.now) (g.D.BlockDevice.blocks c.args.dev.now)) (pair_address_in_header c.args.pair.now) (Some (content_view c.args.content.now)) (disk_of_geometry_and_blocks k (g.D.BlockDevice.blocks c.write_block_anew.new.dev)))
+      first = subst (λ k. KeepsFirstEntry (disk_of_blocks (g.D.BlockDevice.geometry c.args.dev.now) (g.D.BlockDevice.blocks c.args.dev.now)) (header_address c.args.pair.now) (Some (content_view c.args.content.now)) (disk_of_blocks k (g.D.BlockDevice.blocks c.write_block_anew.new.dev)))
           (sym device.geometry)
           (compacted_first _ _ _ _ _ _ (g.D.BlockDevice.blocks c.write_block_anew.new.dev) ready device.others anew.holds);
       compacted = record {
         active = λ same. ready.apart (sym same ∙ c.written.ensures.active);
-        anew = subst (λ (b : ℕ). IsBlockWrittenAnew ((c.args.pair.now.revision + 1) % 2 ^ 32) (content_view c.args.content.now) (block_bytes_by_number (g.D.BlockDevice.blocks c.write_block_anew.new.dev) b)
+        anew = subst (λ (b : ℕ). IsWrittenAnew ((c.args.pair.now.revision + 1) % 2 ^ 32) (content_view c.args.content.now) (block_bytes (g.D.BlockDevice.blocks c.write_block_anew.new.dev) b)
             (g.D.BlockDevice.history c.args.dev.now) (g.D.BlockDevice.history c.write_block_anew.new.dev)) (sym c.written.ensures.active) anew;
         end = c.written.ensures.ends.end_is ∙ c.in_ok-written.ensures.size;
         kept = device.others.others c.args.pair.now.active ready.apart;
@@ -52,14 +52,14 @@ returns-clause-done g c =
 pub returns-clause-stops : goal.returns-clause-stops
 returns-clause-stops g c cleanly =
     let ready = is_compacting _ c.args.pair.now c.inactive_block-other.result ((c.args.pair.now.revision + 1) % 2 ^ 32) c.requires.address c.requires.active c.inactive_block-other.ensures (omega arith) refl in
-    IsTrueAfterAnyPowerLossSince-weaker (λ disk left. left_by_compaction _ _ _ _ _ _ disk ready left) (c.in_ok-written.ensures.stops cleanly)
+    HoldsAtLosses-weaker (λ disk left. left_by_compaction _ _ _ _ _ _ disk ready left) (c.in_ok-written.ensures.stops cleanly)
 
 pub returns-in_err-written-clause-writes : goal.returns-in_err-written-clause-writes
 returns-in_err-written-clause-writes g c =
     let ready = is_compacting _ c.args.pair.now c.inactive_block-other.result ((c.args.pair.now.revision + 1) % 2 ^ 32) c.requires.address c.requires.active c.inactive_block-other.ensures (omega arith) refl in
-    record { device = only_block (pair_address_in_header c.args.pair.now) (other_is _ _ _ _ ready.sides) c.in_err-written.ensures.writes.device; few = c.in_err-written.ensures.writes.few; errors = search rules; faults = search rules }
+    record { device = only_block (header_address c.args.pair.now) (other_is _ _ _ _ ready.sides) c.in_err-written.ensures.writes.device; few = c.in_err-written.ensures.writes.few; errors = search rules; faults = search rules }
 
 pub returns-clause-writes : goal.returns-clause-writes
 returns-clause-writes g c =
     let ready = is_compacting _ c.args.pair.now c.inactive_block-other.result ((c.args.pair.now.revision + 1) % 2 ^ 32) c.requires.address c.requires.active c.inactive_block-other.ensures (omega arith) refl in
-    record { device = only_block (pair_address_in_header c.args.pair.now) (other_is _ _ _ _ ready.sides) c.in_ok-written.ensures.writes.device; few = c.in_ok-written.ensures.writes.few; errors = search rules; faults = search rules }
+    record { device = only_block (header_address c.args.pair.now) (other_is _ _ _ _ ready.sides) c.in_ok-written.ensures.writes.device; few = c.in_ok-written.ensures.writes.few; errors = search rules; faults = search rules }

@@ -1,8 +1,8 @@
 use Rattle.std.proofs.Common.{◌≡◌, take, map}
-use Rattle.lfs_model.specs.WrittenContent.{log_entries_of_attributes}
+use Rattle.lfs_model.specs.layers.WrittenContent.{attribute_entries}
 use Rattle.lfs_tag.specs.ContentView.{attribute_view}
-use Rattle.lfs_pair.specs.Writing.{commit_with_more_entries}
+use Rattle.lfs_pair.specs.Writing.{commit_with_more}
 use Rattle.lfs_pair.proofs.entries.push_attributes.Given as goal
 
 abbrev pub invariant-loop-attribute : goal.invariant-loop-attribute
-invariant-loop-attribute l = l.builder ≡ commit_with_more_entries (log_entries_of_attributes l.id (map attribute_view (take l.attribute-index l.attributes))) l.fn.builder
+invariant-loop-attribute l = l.builder ≡ commit_with_more (attribute_entries l.id (map attribute_view (take l.attribute-index l.attributes))) l.fn.builder

@@ -1,8 +1,8 @@
 use Rattle.std.proofs.Common.{◌≡◌, take}
-use Rattle.lfs_model.specs.Changes.{log_entries_of_changes}
+use Rattle.lfs_model.specs.layers.Changes.{entries_of_changes}
 use Rattle.lfs_pair.specs.ChangeView.{changes_view}
-use Rattle.lfs_pair.specs.Writing.{commit_with_more_entries}
+use Rattle.lfs_pair.specs.Writing.{commit_with_more}
 use Rattle.lfs_pair.proofs.entries.push_changes.Given as goal
 
 abbrev pub invariant-loop-change : goal.invariant-loop-change
-invariant-loop-change l = l.builder ≡ commit_with_more_entries (log_entries_of_changes (changes_view (take l.change-index l.changes))) l.fn.builder
+invariant-loop-change l = l.builder ≡ commit_with_more (entries_of_changes (changes_view (take l.change-index l.changes))) l.fn.builder

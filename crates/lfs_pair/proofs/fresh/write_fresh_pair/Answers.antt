@@ -1,8 +1,8 @@
 use Rattle.std.proofs.Common.{rules, arith, ◌≡◌, false, inl, inr, refl, sym, ap, ◌∙◌}
-use Rattle.lfs_device.specs.Shown.{disk_of_geometry_and_blocks}
-use Rattle.lfs_model.specs.Blocks.{block_bytes_by_number}
-use Rattle.lfs_model.specs.Content.{has_commit}
-use Rattle.lfs_model.specs.Slots.{pair_address_of_array}
+use Rattle.lfs_device.specs.DeviceDisk.{disk_of_blocks}
+use Rattle.lfs_model.specs.format.Blocks.{block_bytes}
+use Rattle.lfs_model.specs.format.Content.{has_commit}
+use Rattle.lfs_model.specs.format.Slots.{array_address}
 use Rattle.lfs_tag.specs.ContentView.{content_view}
 use Rattle.lfs_pair.proofs.Changed.{first_in, now_holds}
 use Rattle.lfs_pair.proofs.Parted.{clears_more}
@@ -14,42 +14,42 @@ returns-clause-fresh g c = record {
   active = c.written.ensures.active;
   revision_is = c.written.ensures.revision;
   anew = c.in_ok-written.ensures.anew.holds;
-  cleared = ap has_commit (c.in_ok-written.ensures.writes.device.others.others (pair_address_of_array c.args.blocks).1 (λ same. c.requires.address.apart (sym same))) ∙ c.in_ok-erase_block_leaving_no_log.ensures.cleared;
+  cleared = ap has_commit (c.in_ok-written.ensures.writes.device.others.others (array_address c.args.blocks).1 (λ same. c.requires.address.apart (sym same))) ∙ c.in_ok-erase_cleanly.ensures.cleared;
 }
 
 pub returns-clause-holds : goal.returns-clause-holds
 returns-clause-holds g c =
-    let cleared : has_commit (block_bytes_by_number (g.D.BlockDevice.blocks c.write_block_anew.new.dev) (pair_address_of_array c.args.blocks).1) ≡ false
-    = ap has_commit (c.in_ok-written.ensures.writes.device.others.others (pair_address_of_array c.args.blocks).1 (λ same. c.requires.address.apart (sym same))) ∙ c.in_ok-erase_block_leaving_no_log.ensures.cleared in
-    let holds = first_in (disk_of_geometry_and_blocks (g.D.BlockDevice.geometry c.write_block_anew.new.dev) (g.D.BlockDevice.blocks c.write_block_anew.new.dev)) (pair_address_of_array c.args.blocks) 1 (content_view c.args.content.now) cleared c.in_ok-written.ensures.anew.holds in
-    now_holds _ (g.D.BlockDevice.history c.write_block_anew.new.dev) _ c.written.result (pair_address_of_array c.args.blocks).0 _ holds
-    (ap pair_address_of_array c.written.ensures.blocks) c.written.ensures.active c.written.ensures.fetched
+    let cleared : has_commit (block_bytes (g.D.BlockDevice.blocks c.write_block_anew.new.dev) (array_address c.args.blocks).1) ≡ false
+    = ap has_commit (c.in_ok-written.ensures.writes.device.others.others (array_address c.args.blocks).1 (λ same. c.requires.address.apart (sym same))) ∙ c.in_ok-erase_cleanly.ensures.cleared in
+    let holds = first_in (disk_of_blocks (g.D.BlockDevice.geometry c.write_block_anew.new.dev) (g.D.BlockDevice.blocks c.write_block_anew.new.dev)) (array_address c.args.blocks) 1 (content_view c.args.content.now) cleared c.in_ok-written.ensures.anew.holds in
+    now_holds _ (g.D.BlockDevice.history c.write_block_anew.new.dev) _ c.written.result (array_address c.args.blocks).0 _ holds
+    (ap array_address c.written.ensures.blocks) c.written.ensures.active c.written.ensures.fetched
     (c.written.ensures.revision ∙ sym c.in_ok-written.ensures.anew.holds.revision_is)
     c.written.ensures.ends c.in_ok-written.ensures.written c.written.ensures.sums c.requires.logged
 
-pub returns-in_err-erase_block_leaving_no_log-clause-writes : goal.returns-in_err-erase_block_leaving_no_log-clause-writes
-returns-in_err-erase_block_leaving_no_log-clause-writes g c = record {
-  device = only_block (pair_address_of_array c.args.blocks) (inr refl) c.erase_block_leaving_no_log.ensures.writes.device;
-  few = let first = c.erase_block_leaving_no_log.ensures.writes.few in omega (arith, first);
+pub returns-in_err-erase_cleanly-clause-writes : goal.returns-in_err-erase_cleanly-clause-writes
+returns-in_err-erase_cleanly-clause-writes g c = record {
+  device = only_block (array_address c.args.blocks) (inr refl) c.erase_cleanly.ensures.writes.device;
+  few = let first = c.erase_cleanly.ensures.writes.few in omega (arith, first);
   errors = search rules;
   faults = search rules;
 }
 
 pub returns-in_err-written-clause-writes : goal.returns-in_err-written-clause-writes
 returns-in_err-written-clause-writes g c = record {
-  device = only_trans (only_block (pair_address_of_array c.args.blocks) (inr refl) c.erase_block_leaving_no_log.ensures.writes.device) (only_block (pair_address_of_array c.args.blocks) (inl refl) c.write_block_anew.ensures.writes.device);
-  few = let first = c.erase_block_leaving_no_log.ensures.writes.few in let second = c.write_block_anew.ensures.writes.few in omega (arith, first, second);
+  device = only_trans (only_block (array_address c.args.blocks) (inr refl) c.erase_cleanly.ensures.writes.device) (only_block (array_address c.args.blocks) (inl refl) c.write_block_anew.ensures.writes.device);
+  few = let first = c.erase_cleanly.ensures.writes.few in let second = c.write_block_anew.ensures.writes.few in omega (arith, first, second);
   errors = search rules;
   faults = search rules;
 }
 
 pub returns-clause-writes : goal.returns-clause-writes
 returns-clause-writes g c = record {
-  device = only_trans (only_block (pair_address_of_array c.args.blocks) (inr refl) c.erase_block_leaving_no_log.ensures.writes.device) (only_block (pair_address_of_array c.args.blocks) (inl refl) c.write_block_anew.ensures.writes.device);
-  few = let first = c.erase_block_leaving_no_log.ensures.writes.few in let second = c.write_block_anew.ensures.writes.few in omega (arith, first, second);
+  device = only_trans (only_block (array_address c.args.blocks) (inr refl) c.erase_cleanly.ensures.writes.device) (only_block (array_address c.args.blocks) (inl refl) c.write_block_anew.ensures.writes.device);
+  few = let first = c.erase_cleanly.ensures.writes.few in let second = c.write_block_anew.ensures.writes.few in omega (arith, first, second);
   errors = search rules;
   faults = search rules;
 }
 
 pub returns-clause-clears : goal.returns-clause-clears
-returns-clause-clears g c = clears_more c.in_ok-erase_block_leaving_no_log.ensures.writes.device.at_worst c.in_ok-written.ensures.writes.device.at_worst c.in_ok-erase_block_leaving_no_log.ensures.clears c.in_ok-written.ensures.anew
+returns-clause-clears g c = clears_more c.in_ok-erase_cleanly.ensures.writes.device.at_worst c.in_ok-written.ensures.writes.device.at_worst c.in_ok-erase_cleanly.ensures.clears c.in_ok-written.ensures.anew

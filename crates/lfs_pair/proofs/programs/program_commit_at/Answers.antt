@@ -1,13 +1,13 @@
 use Rattle.std.proofs.Common.{rules, ◌≡◌, ◌+◌, ◌-◌, ◌^◌, ◌≤◌, ℕ, refl, sym, ap, ◌∙◌, inl, arith, subst}
 use Rattle.std.specs.Prelude.{min, take}
 use Rattle.lfs_device.specs.declared.geometry.Geometry.{Geometry}
-use Rattle.lfs_model.specs.Blocks.{block_bytes_by_number, bytes_after_overwrite_at, programmed}
-use Rattle.lfs_model.specs.Geometry.{IsValidGeometry}
-use Rattle.lfs_model.specs.History.{AreBytesUnprogrammed, blank_count_of_history, erase_count_of_history, program_count_of_history, read_count_of_history}
-use Rattle.lfs_tag.specs.Builder.{padded_commit_end}
+use Rattle.lfs_model.specs.format.Blocks.{block_bytes, overwritten_at, programmed}
+use Rattle.lfs_model.specs.format.Geometry.{IsValidGeometry}
+use Rattle.lfs_model.specs.session.History.{AreUnprogrammed, blank_count, erase_count, program_count, read_count}
+use Rattle.lfs_tag.specs.Builder.{padded_end_of}
 use Rattle.lfs_pair.specs.Writing.{LogGetsCommit}
-use Rattle.lfs_model.proofs.Histories.{goes_on, IsTrueAfterAnyPowerLossSince-read_count_of_history, AreBlocksLeftByPowerLossInCall-read, AreBytesUnprogrammed-read_count_of_history, AreBytesUnprogrammed-part, is_byte_unprogrammed-program, blank_count_of_history-read_count_of_history, erase_count_of_history-read_count_of_history, program_count_of_history-read_count_of_history}
-use Rattle.lfs_model.proofs.Overwrites.{AreBlocksEqualExceptOne-refl, block_bytes_by_number-programmed, take-overwritten}
+use Rattle.lfs_model.proofs.Histories.{goes_on, HoldsAtLosses-read_count, LeftByLoss-read, AreUnprogrammed-read_count, AreUnprogrammed-part, is_unprogrammed_byte-program, blank_count-read_count, erase_count-read_count, program_count-read_count}
+use Rattle.lfs_model.proofs.Overwrites.{SameExcept-refl, block_bytes-programmed, take-overwritten}
 use Rattle.lfs_pair.proofs.Committed.{gets_commit, goes_into, left_in_block}
 use Rattle.lfs_pair.proofs.Calls.{block_by_program, block_by_reads, block_trans}
 use Rattle.lfs_pair.proofs.programs.program_commit_at.Goals as goal
@@ -15,12 +15,12 @@ use Rattle.lfs_pair.proofs.programs.program_commit_at.Goals as goal
 -- before the program
 
 pub returns-in_err-next-clause-stops : goal.returns-in_err-next-clause-stops
-returns-in_err-next-clause-stops g c = IsTrueAfterAnyPowerLossSince-read_count_of_history AreBlocksLeftByPowerLossInCall-read c.read_four_block_bytes_at_offset.ensures.device.reads (AreBlocksEqualExceptOne-refl _ _, inl refl)
+returns-in_err-next-clause-stops g c = HoldsAtLosses-read_count LeftByLoss-read c.read_four_bytes.ensures.device.reads (SameExcept-refl _ _, inl refl)
 
 pub prog-requires-clause-unprogrammed : goal.prog-requires-clause-unprogrammed
 prog-requires-clause-unprogrammed g c =
-    AreBytesUnprogrammed-part (g.D.BlockDevice.history c.read_four_block_bytes_at_offset.new.dev) c.args.block
-    (AreBytesUnprogrammed-read_count_of_history c.args.block c.read_four_block_bytes_at_offset.ensures.device.reads c.requires.unprogrammed) (omega arith) (omega (arith, c.requires.ends, c.in_ok-pages.ensures.size))
+    AreUnprogrammed-part (g.D.BlockDevice.history c.read_four_bytes.new.dev) c.args.block
+    (AreUnprogrammed-read_count c.args.block c.read_four_bytes.ensures.device.reads c.requires.unprogrammed) (omega arith) (omega (arith, c.requires.ends, c.in_ok-pages.ensures.size))
 
 -- the program
 
@@ -33,46 +33,46 @@ at_least at padded long end same is = omega arith
 
 pub returns-in_err-prog-clause-stops : goal.returns-in_err-prog-clause-stops
 returns-in_err-prog-clause-stops g c =
-    let end : c.args.at + c.end_of_padded_commit.result ≡ c.args.at + padded_commit_end c.args.builder = whole_end _ _ _ _ _ _ c.end_of_padded_commit.ensures c.requires.ends (g.D.BlockDevice.geometry c.args.dev.now).valid in
+    let end : c.args.at + c.end_on_page.result ≡ c.args.at + padded_end_of c.args.builder = whole_end _ _ _ _ _ _ c.end_on_page.ensures c.requires.ends (g.D.BlockDevice.geometry c.args.dev.now).valid in
     let size = (g.met.D.BlockDevice.shape c.args.dev.now).sizes c.args.block c.requires.in_device in
-    goes_on (IsTrueAfterAnyPowerLossSince-read_count_of_history AreBlocksLeftByPowerLossInCall-read c.read_four_block_bytes_at_offset.ensures.device.reads (AreBlocksEqualExceptOne-refl _ _, inl refl)) c.prog.ensures.history
-    (λ disk left. left_in_block disk c.read_four_block_bytes_at_offset.ensures.device.same (goes_into c.in_ok-pages.ensures.commit c.in_ok-pages.ensures.size c.requires.goes size c.requires.ends end c.in_ok-next.ensures.bytes) left)
+    goes_on (HoldsAtLosses-read_count LeftByLoss-read c.read_four_bytes.ensures.device.reads (SameExcept-refl _ _, inl refl)) c.prog.ensures.history
+    (λ disk left. left_in_block disk c.read_four_bytes.ensures.device.same (goes_into c.in_ok-pages.ensures.commit c.in_ok-pages.ensures.size c.requires.goes size c.requires.ends end c.in_ok-next.ensures.bytes) left)
 
 pub returns-clause-adds : goal.returns-clause-adds
 returns-clause-adds g c =
-    let end : c.args.at + c.end_of_padded_commit.result ≡ c.args.at + padded_commit_end c.args.builder = whole_end _ _ _ _ _ _ c.end_of_padded_commit.ensures c.requires.ends (g.D.BlockDevice.geometry c.args.dev.now).valid in
+    let end : c.args.at + c.end_on_page.result ≡ c.args.at + padded_end_of c.args.builder = whole_end _ _ _ _ _ _ c.end_on_page.ensures c.requires.ends (g.D.BlockDevice.geometry c.args.dev.now).valid in
     let shape = g.met.D.BlockDevice.shape c.args.dev.now in
     let size = shape.sizes c.args.block c.requires.in_device in
     let old = g.D.BlockDevice.blocks c.args.dev.now in
-    let is : block_bytes_by_number (g.D.BlockDevice.blocks c.prog.new.self) c.args.block ≡ bytes_after_overwrite_at (block_bytes_by_number old c.args.block) c.args.at c.in_ok-pages.pages.now =
-    ap (λ d. block_bytes_by_number d c.args.block) c.in_ok-prog.ensures.ok
-    ∙ ap (λ d. block_bytes_by_number (programmed d c.args.block c.args.at c.in_ok-pages.pages.now) c.args.block) c.read_four_block_bytes_at_offset.ensures.device.same
-    ∙ block_bytes_by_number-programmed old c.args.block c.args.at c.in_ok-pages.pages.now (omega (arith, shape.count, c.requires.in_device)) in
+    let is : block_bytes (g.D.BlockDevice.blocks c.prog.new.self) c.args.block ≡ overwritten_at (block_bytes old c.args.block) c.args.at c.in_ok-pages.pages.now =
+    ap (λ d. block_bytes d c.args.block) c.in_ok-prog.ensures.ok
+    ∙ ap (λ d. block_bytes (programmed d c.args.block c.args.at c.in_ok-pages.pages.now) c.args.block) c.read_four_bytes.ensures.device.same
+    ∙ block_bytes-programmed old c.args.block c.args.at c.in_ok-pages.pages.now (omega (arith, shape.count, c.requires.in_device)) in
     record {
-      commit = subst (LogGetsCommit c.args.builder (block_bytes_by_number old c.args.block)) (sym is) (gets_commit (goes_into c.in_ok-pages.ensures.commit c.in_ok-pages.ensures.size c.requires.goes size c.requires.ends end c.in_ok-next.ensures.bytes));
+      commit = subst (LogGetsCommit c.args.builder (block_bytes old c.args.block)) (sym is) (gets_commit (goes_into c.in_ok-pages.ensures.commit c.in_ok-pages.ensures.size c.requires.goes size c.requires.ends end c.in_ok-next.ensures.bytes));
       end_is = search rules;
-      kept = ap (take c.args.at) is ∙ take-overwritten (block_bytes_by_number old c.args.block) c.args.at c.in_ok-pages.pages.now (omega (arith, size, c.requires.ends));
+      kept = ap (take c.args.at) is ∙ take-overwritten (block_bytes old c.args.block) c.args.at c.in_ok-pages.pages.now (omega (arith, size, c.requires.ends));
     }
 
 pub returns-clause-written : goal.returns-clause-written
 returns-clause-written g c =
-    let old : AreBytesUnprogrammed (g.D.BlockDevice.history c.read_four_block_bytes_at_offset.new.dev) c.args.block c.args.at (g.D.BlockDevice.geometry c.args.dev.now).block_size =
-    AreBytesUnprogrammed-read_count_of_history c.args.block c.read_four_block_bytes_at_offset.ensures.device.reads c.requires.unprogrammed in
-    let end : c.args.at + c.end_of_padded_commit.result ≡ c.args.at + padded_commit_end c.args.builder = whole_end _ _ _ _ _ _ c.end_of_padded_commit.ensures c.requires.ends (g.D.BlockDevice.geometry c.args.dev.now).valid in
+    let old : AreUnprogrammed (g.D.BlockDevice.history c.read_four_bytes.new.dev) c.args.block c.args.at (g.D.BlockDevice.geometry c.args.dev.now).block_size =
+    AreUnprogrammed-read_count c.args.block c.read_four_bytes.ensures.device.reads c.requires.unprogrammed in
+    let end : c.args.at + c.end_on_page.result ≡ c.args.at + padded_end_of c.args.builder = whole_end _ _ _ _ _ _ c.end_on_page.ensures c.requires.ends (g.D.BlockDevice.geometry c.args.dev.now).valid in
     record {
       end_is = search rules;
       last_is = search rules;
       whole_pages = search rules;
-      unprogrammed = subst (λ (k : Geometry). AreBytesUnprogrammed (g.D.BlockDevice.history c.prog.new.self) c.args.block (c.args.at + c.end_of_padded_commit.result) k.block_size) (sym (c.prog.ensures.geometry ∙ c.read_four_block_bytes_at_offset.ensures.device.geometry))
-          (is_byte_unprogrammed-program {low = c.args.at} c.prog.ensures.history old (omega arith) (at_least _ _ _ _ c.in_ok-pages.ensures.size end));
+      unprogrammed = subst (λ (k : Geometry). AreUnprogrammed (g.D.BlockDevice.history c.prog.new.self) c.args.block (c.args.at + c.end_on_page.result) k.block_size) (sym (c.prog.ensures.geometry ∙ c.read_four_bytes.ensures.device.geometry))
+          (is_unprogrammed_byte-program {low = c.args.at} c.prog.ensures.history old (omega arith) (at_least _ _ _ _ c.in_ok-pages.ensures.size end));
     }
 
 pub returns-clause-stops : goal.returns-clause-stops
 returns-clause-stops g c =
-    let end : c.args.at + c.end_of_padded_commit.result ≡ c.args.at + padded_commit_end c.args.builder = whole_end _ _ _ _ _ _ c.end_of_padded_commit.ensures c.requires.ends (g.D.BlockDevice.geometry c.args.dev.now).valid in
+    let end : c.args.at + c.end_on_page.result ≡ c.args.at + padded_end_of c.args.builder = whole_end _ _ _ _ _ _ c.end_on_page.ensures c.requires.ends (g.D.BlockDevice.geometry c.args.dev.now).valid in
     let size = (g.met.D.BlockDevice.shape c.args.dev.now).sizes c.args.block c.requires.in_device in
-    goes_on (IsTrueAfterAnyPowerLossSince-read_count_of_history AreBlocksLeftByPowerLossInCall-read c.read_four_block_bytes_at_offset.ensures.device.reads (AreBlocksEqualExceptOne-refl _ _, inl refl)) c.prog.ensures.history
-    (λ disk left. left_in_block disk c.read_four_block_bytes_at_offset.ensures.device.same (goes_into c.in_ok-pages.ensures.commit c.in_ok-pages.ensures.size c.requires.goes size c.requires.ends end c.in_ok-next.ensures.bytes) left)
+    goes_on (HoldsAtLosses-read_count LeftByLoss-read c.read_four_bytes.ensures.device.reads (SameExcept-refl _ _, inl refl)) c.prog.ensures.history
+    (λ disk left. left_in_block disk c.read_four_bytes.ensures.device.same (goes_into c.in_ok-pages.ensures.commit c.in_ok-pages.ensures.size c.requires.goes size c.requires.ends end c.in_ok-next.ensures.bytes) left)
 
 pub returns-in_err-next-clause-writes : goal.returns-in_err-next-clause-writes
 returns-in_err-next-clause-writes g c = record { device = block_by_reads c.in_err-next.ensures.device; few = c.in_err-next.ensures.few; errors = search rules; faults = search rules }
@@ -80,7 +80,7 @@ returns-in_err-next-clause-writes g c = record { device = block_by_reads c.in_er
 pub returns-in_err-prog-clause-writes : goal.returns-in_err-prog-clause-writes
 returns-in_err-prog-clause-writes g c = record {
   device = block_trans (block_by_reads c.in_ok-next.ensures.device) (block_by_program c.in_err-prog.ensures.others c.in_err-prog.ensures.geometry c.in_err-prog.ensures.history);
-  few = let here = ap read_count_of_history c.prog.ensures.history in let before = c.read_four_block_bytes_at_offset.ensures.few in omega (arith, here, before);
+  few = let here = ap read_count c.prog.ensures.history in let before = c.read_four_bytes.ensures.few in omega (arith, here, before);
   errors = search rules;
   faults = search rules;
 }
@@ -88,16 +88,16 @@ returns-in_err-prog-clause-writes g c = record {
 pub returns-clause-writes : goal.returns-clause-writes
 returns-clause-writes g c = record {
   device = block_trans (block_by_reads c.in_ok-next.ensures.device) (block_by_program c.in_ok-prog.ensures.others c.in_ok-prog.ensures.geometry c.in_ok-prog.ensures.history);
-  few = let here = ap read_count_of_history c.prog.ensures.history in let before = c.read_four_block_bytes_at_offset.ensures.few in omega (arith, here, before);
+  few = let here = ap read_count c.prog.ensures.history in let before = c.read_four_bytes.ensures.few in omega (arith, here, before);
   errors = search rules;
   faults = search rules;
 }
 
 pub returns-clause-programs : goal.returns-clause-programs
 returns-clause-programs g c =
-    let reads = c.read_four_block_bytes_at_offset.ensures.device.reads in
+    let reads = c.read_four_bytes.ensures.device.reads in
     record {
-      erases = let here = ap erase_count_of_history c.prog.ensures.history in let before = erase_count_of_history-read_count_of_history reads in omega arith;
-      programs = let here = ap program_count_of_history c.prog.ensures.history in let before = program_count_of_history-read_count_of_history reads in omega arith;
-      blanks = let here = ap blank_count_of_history c.prog.ensures.history in let before = blank_count_of_history-read_count_of_history reads in omega arith;
+      erases = let here = ap erase_count c.prog.ensures.history in let before = erase_count-read_count reads in omega arith;
+      programs = let here = ap program_count c.prog.ensures.history in let before = program_count-read_count reads in omega arith;
+      blanks = let here = ap blank_count c.prog.ensures.history in let before = blank_count-read_count reads in omega arith;
     }

@@ -1,8 +1,8 @@
 use Rattle.std.proofs.Common.{rules, arith, ◌+◌, ◌≤◌, ap, sym, subst}
 use Rattle.lfs_device.specs.declared.geometry.Geometry.{Geometry}
-use Rattle.lfs_model.specs.Blocks.{block_bytes_by_number}
-use Rattle.lfs_model.specs.History.{read_count_of_history}
-use Rattle.lfs_tag.specs.Builder.{padded_commit_end}
+use Rattle.lfs_model.specs.format.Blocks.{block_bytes}
+use Rattle.lfs_model.specs.session.History.{read_count}
+use Rattle.lfs_tag.specs.Builder.{padded_end_of}
 use Rattle.lfs_tag.specs.ContentView.{content_view}
 use Rattle.lfs_pair.proofs.Anew.{is_anew, fits_sound, anew_room, anew_within, anew_holds, anew_end, leaves_erase, leaves_anew}
 use Rattle.lfs_pair.proofs.Calls.{block_by_erase, block_trans}
@@ -18,7 +18,7 @@ program_commit_at-requires-clause-room g c =
 
 pub program_commit_at-requires-clause-ends : goal.program_commit_at-requires-clause-ends
 program_commit_at-requires-clause-ends g c =
-    subst (λ (k : Geometry). 0 + padded_commit_end c.push_content.new.builder ≤ k.block_size) (sym c.erase.ensures.geometry)
+    subst (λ (k : Geometry). 0 + padded_end_of c.push_content.new.builder ≤ k.block_size) (sym c.erase.ensures.geometry)
     (anew_within (is_anew (content_view c.args.content.now) c.push_content.ensures c.new-builder.ensures c.requires.buf (ap (λ (k : Geometry). k.page) c.geometry-page.ensures) c.from_bits-before.ensures)
     (g.D.BlockDevice.geometry c.args.dev.now).valid c.requires.fits)
 
@@ -29,7 +29,7 @@ returns-in_err-written-clause-stops g c =
 
 pub returns-clause-anew : goal.returns-clause-anew
 returns-clause-anew g c =
-    let holds = anew_holds (block_bytes_by_number (g.D.BlockDevice.blocks c.program_commit_at.new.dev) c.args.block)
+    let holds = anew_holds (block_bytes (g.D.BlockDevice.blocks c.program_commit_at.new.dev) c.args.block)
     (is_anew (content_view c.args.content.now) c.push_content.ensures c.new-builder.ensures c.requires.buf (ap (λ (k : Geometry). k.page) c.geometry-page.ensures) c.from_bits-before.ensures)
     (fits_sound c.requires.logged c.requires.names c.requires.fits) c.in_ok-written.ensures.adds.commit in
     record { holds = holds; erases = search rules; programs = search rules; blanks = search rules }
@@ -47,7 +47,7 @@ returns-clause-size g c =
 pub returns-in_err-erase-clause-writes : goal.returns-in_err-erase-clause-writes
 returns-in_err-erase-clause-writes g c = record {
   device = block_by_erase c.erase.ensures.others c.erase.ensures.geometry c.erase.ensures.history;
-  few = let here = ap read_count_of_history c.erase.ensures.history in omega (arith, here);
+  few = let here = ap read_count c.erase.ensures.history in omega (arith, here);
   errors = search rules;
   faults = search rules;
 }
@@ -55,7 +55,7 @@ returns-in_err-erase-clause-writes g c = record {
 pub returns-in_err-written-clause-writes : goal.returns-in_err-written-clause-writes
 returns-in_err-written-clause-writes g c = record {
   device = block_trans (block_by_erase c.erase.ensures.others c.erase.ensures.geometry c.erase.ensures.history) c.program_commit_at.ensures.writes.device;
-  few = let before = ap read_count_of_history c.erase.ensures.history in let here = c.program_commit_at.ensures.writes.few in omega (arith, before, here);
+  few = let before = ap read_count c.erase.ensures.history in let here = c.program_commit_at.ensures.writes.few in omega (arith, before, here);
   errors = search rules;
   faults = search rules;
 }
@@ -63,7 +63,7 @@ returns-in_err-written-clause-writes g c = record {
 pub returns-clause-writes : goal.returns-clause-writes
 returns-clause-writes g c = record {
   device = block_trans (block_by_erase c.erase.ensures.others c.erase.ensures.geometry c.erase.ensures.history) c.program_commit_at.ensures.writes.device;
-  few = let before = ap read_count_of_history c.erase.ensures.history in let here = c.program_commit_at.ensures.writes.few in omega (arith, before, here);
+  few = let before = ap read_count c.erase.ensures.history in let here = c.program_commit_at.ensures.writes.few in omega (arith, before, here);
   errors = search rules;
   faults = search rules;
 }

@@ -1,7 +1,7 @@
 use Rattle.std.proofs.Common.{◌≡◌, ◌-◌, ◌^◌, take, map, min, sum_by}
-use Rattle.lfs_model.specs.WrittenContent.{raw_slot_size}
+use Rattle.lfs_model.specs.layers.WrittenContent.{slot_size_raw}
 use Rattle.lfs_tag.specs.ContentView.{slot_view}
 use Rattle.lfs_pair.proofs.size.slots_size.Given as goal
 
 abbrev pub invariant-loop-slot : goal.invariant-loop-slot
-invariant-loop-slot l = l.total ≡ min (sum_by raw_slot_size (map slot_view (take l.slot-index l.slots))) (2 ^ 64 - 1)
+invariant-loop-slot l = l.total ≡ min (sum_by slot_size_raw (map slot_view (take l.slot-index l.slots))) (2 ^ 64 - 1)

@@ -2,12 +2,12 @@ use Rattle.std.proofs.Common.{arith, ◌∙◌}
 use Rattle.std.proofs.lemmas.Result.{err_from_is_err_and}
 use Rattle.lfs_pair.proofs.Erring.{fails_on, reports_ok, reports_on}
 use Rattle.std.proofs.Common.{ap₂, sym, subst}
-use Rattle.lfs_device.specs.Shown.{disk_of_geometry_and_blocks}
-use Rattle.lfs_model.specs.Slots.{pair_address_of_array}
-use Rattle.lfs_model.proofs.Histories.{goes_on_by, IsTrueOfEachCallSince-behind, IsTrueAfterAnyPowerLossSince-read_count_of_history, IsTrueAfterAnyPowerLossSince-weaker, AreBlocksLeftByPowerLossInCall-read}
-use Rattle.lfs_pair.specs.Pair.{pair_address_in_header}
+use Rattle.lfs_device.specs.DeviceDisk.{disk_of_blocks}
+use Rattle.lfs_model.specs.format.Slots.{array_address}
+use Rattle.lfs_model.proofs.Histories.{goes_on_by, AllCallsSince-behind, HoldsAtLosses-read_count, HoldsAtLosses-weaker, LeftByLoss-read}
+use Rattle.lfs_pair.specs.Pair.{header_address}
 use Rattle.lfs_pair.specs.ChangeView.{changes_view}
-use Rattle.lfs_pair.specs.Split.{CanSplitPair, PowerLossLeavesOldContentOrSplitPairs}
+use Rattle.lfs_pair.specs.Split.{CanSplitPair, LossLeavesSplit}
 use Rattle.lfs_pair.proofs.Behind.{splits_behind}
 use Rattle.lfs_pair.proofs.Calls.{few_at_error, few_by_read, reading_by_read, reading_trans}
 use Rattle.lfs_pair.proofs.Changed.{active_below}
@@ -18,32 +18,32 @@ pub read_block-requires : goal.read_block-requires
 read_block-requires g c = active_below _ _ c.args.pair.now c.requires.commit.held _ c.requires.commit.address c.requires.commit.is_pair (g.met.D.BlockDevice.shape c.args.dev.now).count
 
 pub returns-in_err-block-clause-stops : goal.returns-in_err-block-clause-stops
-returns-in_err-block-clause-stops g c cleanly = IsTrueAfterAnyPowerLossSince-read_count_of_history AreBlocksLeftByPowerLossInCall-read c.in_err-block.ensures.device.reads (left_before _ _ _ _)
+returns-in_err-block-clause-stops g c cleanly = HoldsAtLosses-read_count LeftByLoss-read c.in_err-block.ensures.device.reads (left_before _ _ _ _)
 
-pub split_with_block_bytes-requires-clause-can : goal.split_with_block_bytes-requires-clause-can
-split_with_block_bytes-requires-clause-can g c =
+pub split_bytes-requires-clause-can : goal.split_bytes-requires-clause-can
+split_bytes-requires-clause-can g c =
     let read = c.in_ok-block.ensures.device in
-    subst (λ disk. CanSplitPair disk (g.D.BlockDevice.history c.read_block.new.device) c.args.pair.now (pair_address_of_array c.args.fresh) (changes_view c.args.changes.now)) (sym (ap₂ disk_of_geometry_and_blocks read.geometry read.same))
+    subst (λ disk. CanSplitPair disk (g.D.BlockDevice.history c.read_block.new.device) c.args.pair.now (array_address c.args.fresh) (changes_view c.args.changes.now)) (sym (ap₂ disk_of_blocks read.geometry read.same))
     (CanSplitPair-reads read.reads c.requires)
 
 pub returns-in_err-fresh_pair-clause-stops : goal.returns-in_err-fresh_pair-clause-stops
 returns-in_err-fresh_pair-clause-stops g c cleanly =
     let read = c.in_ok-block.ensures.device in
-    goes_on_by (IsTrueAfterAnyPowerLossSince-read_count_of_history AreBlocksLeftByPowerLossInCall-read read.reads (left_before _ _ _ _))
-    (IsTrueAfterAnyPowerLossSince-weaker (λ disk left. subst (λ old. PowerLossLeavesOldContentOrSplitPairs old (pair_address_in_header c.args.pair.now) (pair_address_of_array c.args.fresh) (changes_view c.args.changes.now) disk) (ap₂ disk_of_geometry_and_blocks read.geometry read.same) left)
-    (c.in_err-fresh_pair.ensures.stops (IsTrueOfEachCallSince-behind cleanly read.reads c.in_err-fresh_pair.ensures.device.only.at_worst)))
+    goes_on_by (HoldsAtLosses-read_count LeftByLoss-read read.reads (left_before _ _ _ _))
+    (HoldsAtLosses-weaker (λ disk left. subst (λ old. LossLeavesSplit old (header_address c.args.pair.now) (array_address c.args.fresh) (changes_view c.args.changes.now) disk) (ap₂ disk_of_blocks read.geometry read.same) left)
+    (c.in_err-fresh_pair.ensures.stops (AllCallsSince-behind cleanly read.reads c.in_err-fresh_pair.ensures.device.only.at_worst)))
 
 pub returns-clause-stops : goal.returns-clause-stops
 returns-clause-stops g c cleanly =
     let read = c.in_ok-block.ensures.device in
-    goes_on_by (IsTrueAfterAnyPowerLossSince-read_count_of_history AreBlocksLeftByPowerLossInCall-read read.reads (left_before _ _ _ _))
-    (IsTrueAfterAnyPowerLossSince-weaker (λ disk left. subst (λ old. PowerLossLeavesOldContentOrSplitPairs old (pair_address_in_header c.args.pair.now) (pair_address_of_array c.args.fresh) (changes_view c.args.changes.now) disk) (ap₂ disk_of_geometry_and_blocks read.geometry read.same) left)
-    (c.in_ok-fresh_pair.ensures.stops (IsTrueOfEachCallSince-behind cleanly read.reads c.in_ok-fresh_pair.ensures.device.only.at_worst)))
+    goes_on_by (HoldsAtLosses-read_count LeftByLoss-read read.reads (left_before _ _ _ _))
+    (HoldsAtLosses-weaker (λ disk left. subst (λ old. LossLeavesSplit old (header_address c.args.pair.now) (array_address c.args.fresh) (changes_view c.args.changes.now) disk) (ap₂ disk_of_blocks read.geometry read.same) left)
+    (c.in_ok-fresh_pair.ensures.stops (AllCallsSince-behind cleanly read.reads c.in_ok-fresh_pair.ensures.device.only.at_worst)))
 
 pub returns-clause-splits : goal.returns-clause-splits
 returns-clause-splits g c =
     let read = c.in_ok-block.ensures.device in
-    splits_behind (ap₂ disk_of_geometry_and_blocks read.geometry read.same) read.reads c.in_ok-fresh_pair.ensures.device.only.at_worst c.in_ok-fresh_pair.ensures.splits
+    splits_behind (ap₂ disk_of_blocks read.geometry read.same) read.reads c.in_ok-fresh_pair.ensures.device.only.at_worst c.in_ok-fresh_pair.ensures.splits
 
 pub returns-in_err-block-clause-device : goal.returns-in_err-block-clause-device
 returns-in_err-block-clause-device g c = reading_by_read c.in_err-block.ensures.device (few_at_error c.in_err-block.ensures.errors c.in_err-block.ensures.io c.in_err-block.ensures.no_memory) (omega arith)

@@ -1,6 +1,6 @@
 use Rattle.std.proofs.Common.{arith, sym, ◌∙◌, ap, ◌≡◌, ◌-◌, length, take, drop, take-append-drop}
 use Rattle.std.proofs.lemmas.List.{take_all, length-drop}
-use Rattle.lfs_model.specs.Crc.{crc_of}
+use Rattle.lfs_model.specs.format.Crc.{crc_of}
 use Rattle.lfs_model.proofs.Checksums.{crc-append, crc_is_remainder, one_checksum, crc_lt}
 use Rattle.lfs_tag.proofs.checksum.crc.Goals as goal
 
@@ -9,7 +9,7 @@ loop-rest-preserved c =
     let sum = c.loop-rest.sum in
     let rest = c.loop-rest.rest.now in
     let all : take (length rest - 8) (drop 8 rest) ≡ drop 8 rest = take_all (length rest - 8) (drop 8 rest) (omega (arith, length-drop 8 rest)) in
-    rw (all, c.crc_after_eight_bytes-sum.ensures) (sym (crc-append sum (take 8 rest) (drop 8 rest)) ∙ ap (crc_of sum) (take-append-drop 8 rest) ∙ c.loop-rest.invariant)
+    rw (all, c.crc_after_eight-sum.ensures) (sym (crc-append sum (take 8 rest) (drop 8 rest)) ∙ ap (crc_of sum) (take-append-drop 8 rest) ∙ c.loop-rest.invariant)
 
 value : goal.returns-clause-value
 value c = c.crc_after_bytes.ensures ∙ c.loop-rest.invariant

@@ -1,5 +1,5 @@
 use Rattle.std.proofs.Common.{◌≡◌, length}
-use Rattle.lfs_model.specs.Crc.{crc_of}
+use Rattle.lfs_model.specs.format.Crc.{crc_of}
 use Rattle.lfs_tag.proofs.checksum.crc.Given as goal
 
 abbrev pub invariant-loop-rest : goal.invariant-loop-rest

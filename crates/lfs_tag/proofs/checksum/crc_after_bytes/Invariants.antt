@@ -1,5 +1,5 @@
 use Rattle.std.proofs.Common.{◌≡◌, drop}
-use Rattle.lfs_model.specs.Crc.{crc_of}
+use Rattle.lfs_model.specs.format.Crc.{crc_of}
 use Rattle.lfs_tag.proofs.checksum.crc_after_bytes.Given as goal
 
 abbrev pub invariant-loop-byte : goal.invariant-loop-byte

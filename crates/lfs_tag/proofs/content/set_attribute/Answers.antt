@@ -7,19 +7,19 @@ use Rattle.lfs_tag.proofs.content.set_attribute.Goals.{else-place-len-via-then-p
 
 pub insert-requires : goal.insert-requires
 insert-requires c =
-    let place : c.index_of_attribute_or_where_it_belongs-place.result ≡ index_for_attribute c.args.attribute.kind (map attribute_view c.args.attributes.now.items) = c.index_of_attribute_or_where_it_belongs-place.ensures ∙ rw c.deref.ensures.value refl in
+    let place : c.attribute_index-place.result ≡ index_for_attribute c.args.attribute.kind (map attribute_view c.args.attributes.now.items) = c.attribute_index-place.ensures ∙ rw c.deref.ensures.value refl in
     omega (arith, place, first_within c.args.attribute.kind (map attribute_view c.args.attributes.now.items), length-map c.args.attributes.now.items attribute_view)
 
 pub returns-then-index-attribute : goal.returns-then-index-attribute
 returns-then-index-attribute c =
     let now = c.args.attributes.now.items in
     let xs = map attribute_view now in
-    let place : c.index_of_attribute_or_where_it_belongs-place.result ≡ index_for_attribute c.args.attribute.kind xs = c.index_of_attribute_or_where_it_belongs-place.ensures ∙ rw c.deref.ensures.value refl in
+    let place : c.attribute_index-place.result ≡ index_for_attribute c.args.attribute.kind xs = c.attribute_index-place.ensures ∙ rw c.deref.ensures.value refl in
     let lt : index_for_attribute c.args.attribute.kind xs < length xs = omega (arith, place, length-map now attribute_view) in
-    let there = get_or-map attribute_view now c.index_of_attribute_or_where_it_belongs-place.result c.index.result.now (attribute_view c.index.result.now) (omega arith) in
-    let same : (get_or xs c.index_of_attribute_or_where_it_belongs-place.result (attribute_view c.index.result.now)).0 ≡ c.args.attribute.kind =
+    let there = get_or-map attribute_view now c.attribute_index-place.result c.index.result.now (attribute_view c.index.result.now) (omega arith) in
+    let same : (get_or xs c.attribute_index-place.result (attribute_view c.index.result.now)).0 ≡ c.args.attribute.kind =
     ap (λ (a : ℕ × List ℕ). a.0) (there ∙ ap attribute_view (sym c.index.ensures)) ∙ c.if-index-attribute.true in
-    map-set attribute_view now c.index_of_attribute_or_where_it_belongs-place.result c.args.attribute
+    map-set attribute_view now c.attribute_index-place.result c.args.attribute
     ∙ rw place (sym (put_same c.args.attribute.kind c.args.attribute.bytes.now xs (attribute_view c.index.result.now) lt (rw place at same)))
 
 pub returns-in_ok-insert : goal.returns-in_ok-insert
@@ -28,7 +28,7 @@ returns-in_ok-insert c =
     let xs = map attribute_view now in
     let kind = c.args.attribute.kind in
     let new = attribute_view c.args.attribute in
-    let place : c.index_of_attribute_or_where_it_belongs-place.result ≡ index_for_attribute kind xs = c.index_of_attribute_or_where_it_belongs-place.ensures ∙ rw c.deref.ensures.value refl in
+    let place : c.attribute_index-place.result ≡ index_for_attribute kind xs = c.attribute_index-place.ensures ∙ rw c.deref.ensures.value refl in
     let other : index_for_attribute kind xs < length xs → (get_or xs (index_for_attribute kind xs) new).0 ≡ kind → ⊥ = λ lt same.
     elim c.else-place-len.branch [
       | else-place-len-via-then-place-len+else-index-attribute w ↦

@@ -1,7 +1,7 @@
 use Rattle.std.proofs.Common.{ap, ◌∙◌, refl, arith, List, Some}
 use Rattle.lfs_tag.specs.declared.content.Slot.{Slot}
-use Rattle.lfs_model.specs.Content.{RawSlot, raw_slots_with_function_applied_at_id}
-use Rattle.lfs_tag.specs.ContentView.{name_or_struct_view}
+use Rattle.lfs_model.specs.format.Content.{RawSlot, changed_at}
+use Rattle.lfs_tag.specs.ContentView.{data_view}
 use Rattle.lfs_tag.proofs.Places.{changed_is}
 use Rattle.lfs_tag.proofs.content.set_slot_name.Goals as goal
 
@@ -9,6 +9,6 @@ pub returns : goal.returns
 returns c =
     let x : Slot = c.index_mut-slot.result.now in
     let y : Slot = record x { name = Some c.args.part } in
-    let f : RawSlot → RawSlot = λ s. record s { name = Some (name_or_struct_view c.args.part) } in
-    changed_is f c.pad_slots_to_id.new.slots.items c.args.id x y (omega (arith, c.in_ok-pad_slots_to_id.ensures.long)) c.index_mut-slot.ensures.value refl
-    ∙ ap (λ (xs : List RawSlot). raw_slots_with_function_applied_at_id f xs c.args.id) c.in_ok-pad_slots_to_id.ensures.filled
+    let f : RawSlot → RawSlot = λ s. record s { name = Some (data_view c.args.part) } in
+    changed_is f c.pad_slots.new.slots.items c.args.id x y (omega (arith, c.in_ok-pad_slots.ensures.long)) c.index_mut-slot.ensures.value refl
+    ∙ ap (λ (xs : List RawSlot). changed_at f xs c.args.id) c.in_ok-pad_slots.ensures.filled

@@ -1,24 +1,24 @@
 use Rattle.std.proofs.Common.{rules, ◌≡◌, sym, ap, ◌∙◌, Some, None, true, false}
 use Rattle.std.specs.Option.{option_map}
-use Rattle.lfs_model.specs.Log.{entry_at, is_checksum_entry, closes, commit_at, end_offset_of_log_entry}
+use Rattle.lfs_model.specs.format.Log.{entry_at, is_checksum_entry, closes, commit_at, entry_end}
 use Rattle.lfs_tag.specs.LogEntryView.{log_entry_view}
 use Rattle.lfs_model.proofs.Chains.{stop, commit_none, commit_closed, commit_refused, commit_on, stop-with}
 use Rattle.lfs_tag.proofs.log.commit_end.Goals as goal
 
-pub returns-then-is_valid_commit_checksum-clause-value : goal.returns-then-is_valid_commit_checksum-clause-value
-returns-then-is_valid_commit_checksum-clause-value c =
+pub returns-then-is_valid_checksum-clause-value : goal.returns-then-is_valid_checksum-clause-value
+returns-then-is_valid_checksum-clause-value c =
     let e = log_entry_view c.in-Some.entry in
     let is : entry_at c.args.block.now c.loop-entry.at c.loop-entry.before ≡ Some e = sym c.in-Some.ensures.value in
     let sum : is_checksum_entry e ≡ true = sym c.ends_commit.ensures ∙ c.if-ends_commit.true in
-    let right : closes c.args.block.now c.args.start c.loop-entry.at e ≡ true = sym c.is_valid_commit_checksum.ensures ∙ c.if-is_valid_commit_checksum.true in
-    rw c.as_previous_of_next_tag.ensures (sym (ap (option_map stop) (commit_closed c.args.block.now c.args.start c.loop-entry.at c.loop-entry.before e is sum right)) ∙ c.loop-entry.invariant.same)
+    let right : closes c.args.block.now c.args.start c.loop-entry.at e ≡ true = sym c.is_valid_checksum.ensures ∙ c.if-is_valid_checksum.true in
+    rw c.as_previous_tag.ensures (sym (ap (option_map stop) (commit_closed c.args.block.now c.args.start c.loop-entry.at c.loop-entry.before e is sum right)) ∙ c.loop-entry.invariant.same)
 
-pub returns-else-is_valid_commit_checksum-clause-value : goal.returns-else-is_valid_commit_checksum-clause-value
-returns-else-is_valid_commit_checksum-clause-value c =
+pub returns-else-is_valid_checksum-clause-value : goal.returns-else-is_valid_checksum-clause-value
+returns-else-is_valid_checksum-clause-value c =
     let e = log_entry_view c.in-Some.entry in
     let is : entry_at c.args.block.now c.loop-entry.at c.loop-entry.before ≡ Some e = sym c.in-Some.ensures.value in
     let sum : is_checksum_entry e ≡ true = sym c.ends_commit.ensures ∙ c.if-ends_commit.true in
-    let wrong : closes c.args.block.now c.args.start c.loop-entry.at e ≡ false = sym c.is_valid_commit_checksum.ensures ∙ c.if-is_valid_commit_checksum.false in
+    let wrong : closes c.args.block.now c.args.start c.loop-entry.at e ≡ false = sym c.is_valid_checksum.ensures ∙ c.if-is_valid_checksum.false in
     sym (ap (option_map stop) (commit_refused c.args.block.now c.args.start c.loop-entry.at c.loop-entry.before e is sum wrong)) ∙ c.loop-entry.invariant.same
 
 pub loop-entry-preserved : goal.loop-entry-preserved
@@ -29,7 +29,7 @@ loop-entry-preserved c =
     record {
       start = search rules;
       reached = search rules;
-      same = sym (stop-with e (commit_at c.args.block.now c.args.start (end_offset_of_log_entry c.loop-entry.at e) e.tag)) ∙ sym (ap (option_map stop) (commit_on c.args.block.now c.args.start c.loop-entry.at c.loop-entry.before e is other)) ∙ c.loop-entry.invariant.same;
+      same = sym (stop-with e (commit_at c.args.block.now c.args.start (entry_end c.loop-entry.at e) e.tag)) ∙ sym (ap (option_map stop) (commit_on c.args.block.now c.args.start c.loop-entry.at c.loop-entry.before e is other)) ∙ c.loop-entry.invariant.same;
     }
 
 pub returns-clause-value : goal.returns-clause-value

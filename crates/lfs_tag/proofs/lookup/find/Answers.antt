@@ -1,17 +1,17 @@
 use Rattle.std.proofs.Common.{ap, sym, subst, ◌∙◌}
-use Rattle.lfs_model.specs.Log.{log_entries_of_block}
-use Rattle.lfs_tag.specs.FindView.{IsLookupOfName, lookup_of_comparisons}
+use Rattle.lfs_model.specs.format.Log.{block_entries}
+use Rattle.lfs_tag.specs.FindView.{IsNameLookup, lookup_of_comparisons}
 use Rattle.lfs_tag.proofs.Ranks.{ranked, lookup_is}
 use Rattle.lfs_tag.proofs.lookup.find.Goals as goal
 
-pub returns-then-sought_name_comparisons_of_slots : goal.returns-then-sought_name_comparisons_of_slots
-returns-then-sought_name_comparisons_of_slots c = λ t is small.
+pub returns-then-comparisons_of_slots : goal.returns-then-comparisons_of_slots
+returns-then-comparisons_of_slots c = λ t is small.
     let order = c.args.order in
     let name = c.args.name.now in
-    let ranks = c.sought_name_comparisons_of_slots.ensures c.if-sought_name_comparisons_of_slots.true ∙ ranked order name (log_entries_of_block c.args.log.now) t is in
+    let ranks = c.comparisons_of_slots.ensures c.if-comparisons_of_slots.true ∙ ranked order name (block_entries c.args.log.now) t is in
     let found = c.find_in_ranks.ensures ∙ ap (lookup_of_comparisons c.args.skip) (c.deref.ensures.0 ∙ ranks) in
-    subst (IsLookupOfName order name c.args.skip t.slots) (sym found) (lookup_is order name c.args.skip t.slots)
+    subst (IsNameLookup order name c.args.skip t.slots) (sym found) (lookup_is order name c.args.skip t.slots)
 
-pub returns-else-sought_name_comparisons_of_slots : goal.returns-else-sought_name_comparisons_of_slots
-returns-else-sought_name_comparisons_of_slots c = λ t is small.
-    subst (IsLookupOfName c.args.order c.args.name.now c.args.skip t.slots) (sym (c.find_by_ids.ensures t is)) (lookup_is c.args.order c.args.name.now c.args.skip t.slots)
+pub returns-else-comparisons_of_slots : goal.returns-else-comparisons_of_slots
+returns-else-comparisons_of_slots c = λ t is small.
+    subst (IsNameLookup c.args.order c.args.name.now c.args.skip t.slots) (sym (c.find_by_ids.ensures t is)) (lookup_is c.args.order c.args.name.now c.args.skip t.slots)

@@ -1,28 +1,28 @@
 use Rattle.std.proofs.Common.{◌≡◌, ◌<◌, ◌≤◌, true, false, ltb, length, map, ap, ◌∙◌, arith}
 use Rattle.std.proofs.lemmas.Bool.Decides.{nat_tests}
 use Rattle.std.proofs.lemmas.List.{length-map}
-use Rattle.lfs_model.specs.Log.{log_entries_of_block}
+use Rattle.lfs_model.specs.format.Log.{block_entries}
 use Rattle.lfs_tag.specs.declared.lookup.Lookup.TheVariants.{Found, Place}
-use Rattle.lfs_tag.specs.Find.{comparison_of_sought_name_with_slot, first_unskipped_slot_comparing_as_wanted}
+use Rattle.lfs_tag.specs.Find.{comparison_with_slot, first_wanted_slot}
 use Rattle.lfs_tag.proofs.Counts.{counted}
 use Rattle.lfs_tag.proofs.lookup.find_by_ids.Goals as goal
 
 pub returns-then-found-count : goal.returns-then-found-count
 returns-then-found-count c = λ t is.
-    let ranks = map (comparison_of_sought_name_with_slot c.args.order c.args.name.now) t.slots in
-    let count = c.slot_count-count.ensures.count ∙ counted (log_entries_of_block c.args.log.now) t is in
-    let len = length-map t.slots (comparison_of_sought_name_with_slot c.args.order c.args.name.now) in
+    let ranks = map (comparison_with_slot c.args.order c.args.name.now) t.slots in
+    let count = c.slot_count-count.ensures.count ∙ counted (block_entries c.args.log.now) t is in
+    let len = length-map t.slots (comparison_with_slot c.args.order c.args.name.now) in
     let found = c.first_wanted_id-found.ensures.first t is count in
-    let below : first_unskipped_slot_comparing_as_wanted true c.args.skip 0 ranks < length ranks = omega (arith, count, len, found, c.if-found-count.true) in
-    let test : ltb (first_unskipped_slot_comparing_as_wanted true c.args.skip 0 ranks) (length ranks) ≡ true = grind (arith, nat_tests) in
+    let below : first_wanted_slot true c.args.skip 0 ranks < length ranks = omega (arith, count, len, found, c.if-found-count.true) in
+    let test : ltb (first_wanted_slot true c.args.skip 0 ranks) (length ranks) ≡ true = grind (arith, nat_tests) in
     rw test (ap Found found)
 
 pub returns-else-found-count : goal.returns-else-found-count
 returns-else-found-count c = λ t is.
-    let ranks = map (comparison_of_sought_name_with_slot c.args.order c.args.name.now) t.slots in
-    let count = c.slot_count-count.ensures.count ∙ counted (log_entries_of_block c.args.log.now) t is in
-    let len = length-map t.slots (comparison_of_sought_name_with_slot c.args.order c.args.name.now) in
+    let ranks = map (comparison_with_slot c.args.order c.args.name.now) t.slots in
+    let count = c.slot_count-count.ensures.count ∙ counted (block_entries c.args.log.now) t is in
+    let len = length-map t.slots (comparison_with_slot c.args.order c.args.name.now) in
     let found = c.first_wanted_id-found.ensures.first t is count in
-    let past : length ranks ≤ first_unskipped_slot_comparing_as_wanted true c.args.skip 0 ranks = omega (arith, count, len, found, c.if-found-count.false) in
-    let test : ltb (first_unskipped_slot_comparing_as_wanted true c.args.skip 0 ranks) (length ranks) ≡ false = grind (arith, nat_tests) in
+    let past : length ranks ≤ first_wanted_slot true c.args.skip 0 ranks = omega (arith, count, len, found, c.if-found-count.false) in
+    let test : ltb (first_wanted_slot true c.args.skip 0 ranks) (length ranks) ≡ false = grind (arith, nat_tests) in
     rw test (ap Place (c.first_wanted_id.ensures.first t is count))

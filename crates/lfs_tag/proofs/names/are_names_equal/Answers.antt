@@ -3,10 +3,10 @@ use Rattle.std.specs.declared.cmp.Ordering.{Ordering}
 use Rattle.std.specs.Cmp.Lexicographic.{slice_cmp}
 use Rattle.std.specs.Ordering.{is_eq, nat_cmp}
 use Rattle.std.proofs.lemmas.Map.Text.{is_eq-slice_cmp}
-use Rattle.lfs_model.specs.Names.{is_equal_ordering}
+use Rattle.lfs_model.specs.format.Names.{is_equal}
 use Rattle.lfs_tag.proofs.names.are_names_equal.Goals as goal
 
-equal : (o : Ordering) → is_eq o ≡ is_equal_ordering o
+equal : (o : Ordering) → is_eq o ≡ is_equal o
 equal Less = refl
 equal Equal = refl
 equal Greater = refl

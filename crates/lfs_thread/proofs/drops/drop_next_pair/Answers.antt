@@ -1,97 +1,97 @@
 use Rattle.std.proofs.Common.{length, ◌<◌, sym, ap, ap₂, subst, ◌∙◌, set, Ok}
 use Rattle.std.proofs.lemmas.List.{length-set}
-use Rattle.lfs_device.specs.Shown.{disk_of_geometry_and_blocks}
-use Rattle.lfs_model.specs.BlockSets.{BlockStateList, Free}
-use Rattle.lfs_model.proofs.Histories.{IsTrueAfterAnyPowerLossSince-weaker}
-use Rattle.lfs_pair.specs.Pair.{pair_address_in_header}
+use Rattle.lfs_device.specs.DeviceDisk.{disk_of_blocks}
+use Rattle.lfs_model.specs.layers.BlockSets.{BlockStates, Free}
+use Rattle.lfs_model.proofs.Histories.{HoldsAtLosses-weaker}
+use Rattle.lfs_pair.specs.Pair.{header_address}
 use Rattle.lfs_thread.specs.Kept.{PairHeader}
-use Rattle.lfs_thread.specs.Steps.{block_map_with_freed_pair}
+use Rattle.lfs_thread.specs.ThreadSteps.{map_freeing}
 use Rattle.lfs_thread.proofs.CachedPair.{reading_there}
 use Rattle.lfs_thread.proofs.Changing.{can_commit, left_in_thread, full_kept, refused}
 use Rattle.lfs_thread.proofs.Dropped.{next_there, here_at, gone_is, next_used, device_dropped, device_is_dropped}
 use Rattle.lfs_thread.proofs.drops.drop_next_pair.Goals as goal
-use Rattle.lfs_model.specs.Thread.{blocks_of_pair_address}
+use Rattle.lfs_model.specs.format.Thread.{address_blocks}
 
 pub commit_with_cache-requires-clause-can : goal.commit_with_cache-requires-clause-can
 commit_with_cache-requires-clause-can g c =
-    let n = next_there (disk_of_geometry_and_blocks (g.D.BlockDevice.geometry c.args.device.now) (g.D.BlockDevice.blocks c.args.device.now)) c.args.pairs.now.items c.args.index c.index_mut.result.now c.requires.can.below c.index_mut.ensures.value in
+    let n = next_there (disk_of_blocks (g.D.BlockDevice.geometry c.args.device.now) (g.D.BlockDevice.blocks c.args.device.now)) c.args.pairs.now.items c.args.index c.index_mut.result.now c.requires.can.below c.index_mut.ensures.value in
     can_commit _ _ c.args.pairs.now.items c.args.map.now c.args.index _ _ (here_at _ _ _ n) c.requires.kept c.requires.can.content c.requires.can.made
 
 pub returns-in_err-outcome-clause-stops : goal.returns-in_err-outcome-clause-stops
 returns-in_err-outcome-clause-stops g c cleanly =
-    let n = next_there (disk_of_geometry_and_blocks (g.D.BlockDevice.geometry c.args.device.now) (g.D.BlockDevice.blocks c.args.device.now)) c.args.pairs.now.items c.args.index c.index_mut.result.now c.requires.can.below c.index_mut.ensures.value in
-    IsTrueAfterAnyPowerLossSince-weaker (λ left l. left_in_thread (disk_of_geometry_and_blocks (g.D.BlockDevice.geometry c.args.device.now) (g.D.BlockDevice.blocks c.args.device.now)) _ c.args.pairs.now.items c.args.map.now c.args.index _ _ left (here_at _ _ _ n) c.requires.kept c.requires.can.content c.requires.can.made l) (c.in_err-outcome.ensures.stops cleanly)
+    let n = next_there (disk_of_blocks (g.D.BlockDevice.geometry c.args.device.now) (g.D.BlockDevice.blocks c.args.device.now)) c.args.pairs.now.items c.args.index c.index_mut.result.now c.requires.can.below c.index_mut.ensures.value in
+    HoldsAtLosses-weaker (λ left l. left_in_thread (disk_of_blocks (g.D.BlockDevice.geometry c.args.device.now) (g.D.BlockDevice.blocks c.args.device.now)) _ c.args.pairs.now.items c.args.map.now c.args.index _ _ left (here_at _ _ _ n) c.requires.kept c.requires.can.content c.requires.can.made l) (c.in_err-outcome.ensures.stops cleanly)
 
 pub returns-in-Full-clause-stops : goal.returns-in-Full-clause-stops
 returns-in-Full-clause-stops g c cleanly =
-    let n = next_there (disk_of_geometry_and_blocks (g.D.BlockDevice.geometry c.args.device.now) (g.D.BlockDevice.blocks c.args.device.now)) c.args.pairs.now.items c.args.index c.index_mut.result.now c.requires.can.below c.index_mut.ensures.value in
-    IsTrueAfterAnyPowerLossSince-weaker (λ left l. left_in_thread (disk_of_geometry_and_blocks (g.D.BlockDevice.geometry c.args.device.now) (g.D.BlockDevice.blocks c.args.device.now)) _ c.args.pairs.now.items c.args.map.now c.args.index _ _ left (here_at _ _ _ n) c.requires.kept c.requires.can.content c.requires.can.made l) (c.in_ok-outcome.ensures.stops cleanly)
+    let n = next_there (disk_of_blocks (g.D.BlockDevice.geometry c.args.device.now) (g.D.BlockDevice.blocks c.args.device.now)) c.args.pairs.now.items c.args.index c.index_mut.result.now c.requires.can.below c.index_mut.ensures.value in
+    HoldsAtLosses-weaker (λ left l. left_in_thread (disk_of_blocks (g.D.BlockDevice.geometry c.args.device.now) (g.D.BlockDevice.blocks c.args.device.now)) _ c.args.pairs.now.items c.args.map.now c.args.index _ _ left (here_at _ _ _ n) c.requires.kept c.requires.can.content c.requires.can.made l) (c.in_ok-outcome.ensures.stops cleanly)
 
 pub returns-clause-stops : goal.returns-clause-stops
 returns-clause-stops g c cleanly =
-    let n = next_there (disk_of_geometry_and_blocks (g.D.BlockDevice.geometry c.args.device.now) (g.D.BlockDevice.blocks c.args.device.now)) c.args.pairs.now.items c.args.index c.index_mut.result.now c.requires.can.below c.index_mut.ensures.value in
-    IsTrueAfterAnyPowerLossSince-weaker (λ left l. left_in_thread (disk_of_geometry_and_blocks (g.D.BlockDevice.geometry c.args.device.now) (g.D.BlockDevice.blocks c.args.device.now)) _ c.args.pairs.now.items c.args.map.now c.args.index _ _ left (here_at _ _ _ n) c.requires.kept c.requires.can.content c.requires.can.made l) (c.in_ok-outcome.ensures.stops cleanly)
+    let n = next_there (disk_of_blocks (g.D.BlockDevice.geometry c.args.device.now) (g.D.BlockDevice.blocks c.args.device.now)) c.args.pairs.now.items c.args.index c.index_mut.result.now c.requires.can.below c.index_mut.ensures.value in
+    HoldsAtLosses-weaker (λ left l. left_in_thread (disk_of_blocks (g.D.BlockDevice.geometry c.args.device.now) (g.D.BlockDevice.blocks c.args.device.now)) _ c.args.pairs.now.items c.args.map.now c.args.index _ _ left (here_at _ _ _ n) c.requires.kept c.requires.can.content c.requires.can.made l) (c.in_ok-outcome.ensures.stops cleanly)
 
 pub returns-in-Full-clause-kept : goal.returns-in-Full-clause-kept
 returns-in-Full-clause-kept g c =
-    let n = next_there (disk_of_geometry_and_blocks (g.D.BlockDevice.geometry c.args.device.now) (g.D.BlockDevice.blocks c.args.device.now)) c.args.pairs.now.items c.args.index c.index_mut.result.now c.requires.can.below c.index_mut.ensures.value in
+    let n = next_there (disk_of_blocks (g.D.BlockDevice.geometry c.args.device.now) (g.D.BlockDevice.blocks c.args.device.now)) c.args.pairs.now.items c.args.index c.index_mut.result.now c.requires.can.below c.index_mut.ensures.value in
     let e = c.in_ok-outcome.ensures in
     let full = ap Ok c.in-Full.is in
-    full_kept _ _ _ _ c.args.pairs.now.items _ c.args.index _ _ (here_at _ _ _ n) c.requires.kept (ap₂ disk_of_geometry_and_blocks (e.full full).device.geometry (e.full full).device.same) (e.full full).pair (e.full full).device.reads
+    full_kept _ _ _ _ c.args.pairs.now.items _ c.args.index _ _ (here_at _ _ _ n) c.requires.kept (ap₂ disk_of_blocks (e.full full).device.geometry (e.full full).device.same) (e.full full).pair (e.full full).device.reads
 
 pub returns-in-Full-clause-full : goal.returns-in-Full-clause-full
 returns-in-Full-clause-full g c _ =
-    let n = next_there (disk_of_geometry_and_blocks (g.D.BlockDevice.geometry c.args.device.now) (g.D.BlockDevice.blocks c.args.device.now)) c.args.pairs.now.items c.args.index c.index_mut.result.now c.requires.can.below c.index_mut.ensures.value in
+    let n = next_there (disk_of_blocks (g.D.BlockDevice.geometry c.args.device.now) (g.D.BlockDevice.blocks c.args.device.now)) c.args.pairs.now.items c.args.index c.index_mut.result.now c.requires.can.below c.index_mut.ensures.value in
     let e = c.in_ok-outcome.ensures in
     let full = ap Ok c.in-Full.is in
-    refused _ _ _ _ c.args.pairs.now.items _ c.args.index _ _ _ c.requires.can.content (here_at _ _ _ n) c.requires.can.made (e.full full).completed (ap₂ disk_of_geometry_and_blocks (e.full full).device.geometry (e.full full).device.same) (e.full full).pair (e.full full).device.reads
+    refused _ _ _ _ c.args.pairs.now.items _ c.args.index _ _ _ c.requires.can.content (here_at _ _ _ n) c.requires.can.made (e.full full).completed (ap₂ disk_of_blocks (e.full full).device.geometry (e.full full).device.same) (e.full full).pair (e.full full).device.reads
 
 pub release-requires : goal.release-requires
 release-requires g c =
-    let n = next_there (disk_of_geometry_and_blocks (g.D.BlockDevice.geometry c.args.device.now) (g.D.BlockDevice.blocks c.args.device.now)) c.args.pairs.now.items c.args.index c.index_mut.result.now c.requires.can.below c.index_mut.ensures.value in
+    let n = next_there (disk_of_blocks (g.D.BlockDevice.geometry c.args.device.now) (g.D.BlockDevice.blocks c.args.device.now)) c.args.pairs.now.items c.args.index c.index_mut.result.now c.requires.can.below c.index_mut.ensures.value in
     let gone = gone_is _ _ _ _ _ n c.remove-gone.ensures.value in
-    subst (λ (h : PairHeader). (pair_address_in_header h).0 < length c.args.map.now) (sym gone) (next_used _ _ _ _ _ _ n c.requires.kept).0
+    subst (λ (h : PairHeader). (header_address h).0 < length c.args.map.now) (sym gone) (next_used _ _ _ _ _ _ n c.requires.kept).0
 
 pub release-requires-2 : goal.release-requires-2
 release-requires-2 g c =
-    let n = next_there (disk_of_geometry_and_blocks (g.D.BlockDevice.geometry c.args.device.now) (g.D.BlockDevice.blocks c.args.device.now)) c.args.pairs.now.items c.args.index c.index_mut.result.now c.requires.can.below c.index_mut.ensures.value in
+    let n = next_there (disk_of_blocks (g.D.BlockDevice.geometry c.args.device.now) (g.D.BlockDevice.blocks c.args.device.now)) c.args.pairs.now.items c.args.index c.index_mut.result.now c.requires.can.below c.index_mut.ensures.value in
     let gone = gone_is _ _ _ _ _ n c.remove-gone.ensures.value in
-    subst (λ k. (pair_address_in_header c.remove-gone.result).1 < k) (sym (ap length c.release.ensures ∙ length-set c.args.map.now (pair_address_in_header c.remove-gone.result).0 Free))
-    (subst (λ (h : PairHeader). (pair_address_in_header h).1 < length c.args.map.now) (sym gone) (next_used _ _ _ _ _ _ n c.requires.kept).1)
+    subst (λ k. (header_address c.remove-gone.result).1 < k) (sym (ap length c.release.ensures ∙ length-set c.args.map.now (header_address c.remove-gone.result).0 Free))
+    (subst (λ (h : PairHeader). (header_address h).1 < length c.args.map.now) (sym gone) (next_used _ _ _ _ _ _ n c.requires.kept).1)
 
 pub returns-clause-kept : goal.returns-clause-kept
 returns-clause-kept g c =
-    let n = next_there (disk_of_geometry_and_blocks (g.D.BlockDevice.geometry c.args.device.now) (g.D.BlockDevice.blocks c.args.device.now)) c.args.pairs.now.items c.args.index c.index_mut.result.now c.requires.can.below c.index_mut.ensures.value in
+    let n = next_there (disk_of_blocks (g.D.BlockDevice.geometry c.args.device.now) (g.D.BlockDevice.blocks c.args.device.now)) c.args.pairs.now.items c.args.index c.index_mut.result.now c.requires.can.below c.index_mut.ensures.value in
     let gone = gone_is _ _ _ _ _ n c.remove-gone.ensures.value in
     let e = c.in_ok-outcome.ensures in
     device_dropped _ _ _ _ _ _ _ _ _ _ _ _ e.device.only.geometry n c.requires.kept c.requires.can (e.done (ap Ok c.in_default.is)) e.device.only.others e.device.only.elsewhere _ c.remove-gone.ensures.items _
-    (c.release-2.ensures ∙ ap (λ (s : BlockStateList). set s (pair_address_in_header c.remove-gone.result).1 Free) c.release.ensures ∙ ap (λ (h : PairHeader). block_map_with_freed_pair c.args.map.now (pair_address_in_header h)) gone)
+    (c.release-2.ensures ∙ ap (λ (s : BlockStates). set s (header_address c.remove-gone.result).1 Free) c.release.ensures ∙ ap (λ (h : PairHeader). map_freeing c.args.map.now (header_address h)) gone)
 
 pub returns-clause-is_dropped : goal.returns-clause-is_dropped
 returns-clause-is_dropped g c _ =
-    let n = next_there (disk_of_geometry_and_blocks (g.D.BlockDevice.geometry c.args.device.now) (g.D.BlockDevice.blocks c.args.device.now)) c.args.pairs.now.items c.args.index c.index_mut.result.now c.requires.can.below c.index_mut.ensures.value in
+    let n = next_there (disk_of_blocks (g.D.BlockDevice.geometry c.args.device.now) (g.D.BlockDevice.blocks c.args.device.now)) c.args.pairs.now.items c.args.index c.index_mut.result.now c.requires.can.below c.index_mut.ensures.value in
     let gone = gone_is _ _ _ _ _ n c.remove-gone.ensures.value in
     let e = c.in_ok-outcome.ensures in
     device_is_dropped _ _ _ _ _ _ _ _ _ _ _ _ e.device.only.geometry n c.requires.kept c.requires.can (e.done (ap Ok c.in_default.is)) e.device.only.others e.device.only.elsewhere _ c.remove-gone.ensures.items _
-    (c.release-2.ensures ∙ ap (λ (s : BlockStateList). set s (pair_address_in_header c.remove-gone.result).1 Free) c.release.ensures ∙ ap (λ (h : PairHeader). block_map_with_freed_pair c.args.map.now (pair_address_in_header h)) gone)
+    (c.release-2.ensures ∙ ap (λ (s : BlockStates). set s (header_address c.remove-gone.result).1 Free) c.release.ensures ∙ ap (λ (h : PairHeader). map_freeing c.args.map.now (header_address h)) gone)
 
 pub returns-in_err-outcome-clause-device : goal.returns-in_err-outcome-clause-device
 returns-in_err-outcome-clause-device g c =
-    let disk = disk_of_geometry_and_blocks (g.D.BlockDevice.geometry c.args.device.now) (g.D.BlockDevice.blocks c.args.device.now) in
+    let disk = disk_of_blocks (g.D.BlockDevice.geometry c.args.device.now) (g.D.BlockDevice.blocks c.args.device.now) in
     let n = next_there disk c.args.pairs.now.items c.args.index c.index_mut.result.now c.requires.can.below c.index_mut.ensures.value in
     reading_there disk (g.D.BlockDevice.history c.args.device.now) c.args.pairs.now.items c.args.map.now c.args.index c.index_mut.result.now (here_at _ _ _ n) c.requires.kept
-    g.D.BlockDevice c.args.device.now c.commit_with_cache.new.device blocks_of_pair_address 1 c.args.cache.now c.in_err-outcome.ensures.device
+    g.D.BlockDevice c.args.device.now c.commit_with_cache.new.device address_blocks 1 c.args.cache.now c.in_err-outcome.ensures.device
 
 pub returns-in-Full-clause-device : goal.returns-in-Full-clause-device
 returns-in-Full-clause-device g c =
-    let disk = disk_of_geometry_and_blocks (g.D.BlockDevice.geometry c.args.device.now) (g.D.BlockDevice.blocks c.args.device.now) in
+    let disk = disk_of_blocks (g.D.BlockDevice.geometry c.args.device.now) (g.D.BlockDevice.blocks c.args.device.now) in
     let n = next_there disk c.args.pairs.now.items c.args.index c.index_mut.result.now c.requires.can.below c.index_mut.ensures.value in
     reading_there disk (g.D.BlockDevice.history c.args.device.now) c.args.pairs.now.items c.args.map.now c.args.index c.index_mut.result.now (here_at _ _ _ n) c.requires.kept
-    g.D.BlockDevice c.args.device.now c.commit_with_cache.new.device blocks_of_pair_address 1 c.args.cache.now c.in_ok-outcome.ensures.device
+    g.D.BlockDevice c.args.device.now c.commit_with_cache.new.device address_blocks 1 c.args.cache.now c.in_ok-outcome.ensures.device
 
 pub returns-clause-device : goal.returns-clause-device
 returns-clause-device g c =
-    let disk = disk_of_geometry_and_blocks (g.D.BlockDevice.geometry c.args.device.now) (g.D.BlockDevice.blocks c.args.device.now) in
+    let disk = disk_of_blocks (g.D.BlockDevice.geometry c.args.device.now) (g.D.BlockDevice.blocks c.args.device.now) in
     let n = next_there disk c.args.pairs.now.items c.args.index c.index_mut.result.now c.requires.can.below c.index_mut.ensures.value in
     reading_there disk (g.D.BlockDevice.history c.args.device.now) c.args.pairs.now.items c.args.map.now c.args.index c.index_mut.result.now (here_at _ _ _ n) c.requires.kept
-    g.D.BlockDevice c.args.device.now c.commit_with_cache.new.device blocks_of_pair_address 1 c.args.cache.now c.in_ok-outcome.ensures.device
+    g.D.BlockDevice c.args.device.now c.commit_with_cache.new.device address_blocks 1 c.args.cache.now c.in_ok-outcome.ensures.device

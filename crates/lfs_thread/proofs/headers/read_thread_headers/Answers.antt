@@ -2,16 +2,16 @@ use Rattle.std.proofs.lemmas.Result.{err_from_is_err_and}
 use Rattle.lfs_thread.specs.declared.mount_error.MountError.TheVariants.{NoMemory}
 use Rattle.std.proofs.Common.{◌≡◌, ◌+◌, ◌<◌, ◌∙◌, Err, [], ◌∷◌, length, refl, sym, ap, ap₂, subst, arith, rules, length-append}
 use Rattle.std.specs.Option.{option_map}
-use Rattle.lfs_device.specs.Shown.{disk_of_geometry_and_blocks}
+use Rattle.lfs_device.specs.DeviceDisk.{disk_of_blocks}
 use Rattle.lfs_device.specs.declared.geometry.Geometry.{Geometry}
-use Rattle.lfs_model.specs.Slots.{pair_address_of_array}
+use Rattle.lfs_model.specs.format.Slots.{array_address}
 use Rattle.lfs_model.proofs.Histories.{began}
 use Rattle.std.specs.Prelude.{IfErr, sum_by}
-use Rattle.lfs_pair.specs.Pair.{pair_address_in_header, read_count_of_pair_fetch}
+use Rattle.lfs_pair.specs.Pair.{header_address, fetch_reads}
 use Rattle.lfs_thread.proofs.HeaderReads.{more_reads}
-use Rattle.lfs_thread.specs.Begun.{IsBeginningOfThread}
+use Rattle.lfs_thread.specs.Begun.{IsThreadBeginning}
 use Rattle.lfs_thread.specs.Kept.{disk_of_device}
-use Rattle.lfs_thread.specs.MountErrors.{HasTrueThreadViolation}
+use Rattle.lfs_thread.specs.MountErrors.{IsViolationTrue}
 use Rattle.lfs_thread.proofs.Begun.{begun_first, begun_next, begun_kept, begun_none_in_flight, begun_few, begun_before, read_on}
 use Rattle.lfs_thread.proofs.headers.read_thread_headers.Goals as goal
 
@@ -21,13 +21,13 @@ loop-init g c = record {
   device = record { same = refl; geometry = refl; reads = began };
   no_fault = refl;
   count = ap length c.requires.none;
-  few = let none = ap (sum_by (λ h. read_count_of_pair_fetch (disk_of_geometry_and_blocks (g.D.BlockDevice.geometry c.args.device.now) (g.D.BlockDevice.blocks c.args.device.now)) (pair_address_in_header h))) c.requires.none in omega (arith, none);
+  few = let none = ap (sum_by (λ h. fetch_reads (disk_of_blocks (g.D.BlockDevice.geometry c.args.device.now) (g.D.BlockDevice.blocks c.args.device.now)) (header_address h))) c.requires.none in omega (arith, none);
 }
 
 pub returns-in-None-clause-kept : goal.returns-in-None-clause-kept
 returns-in-None-clause-kept g c =
-    begun_kept _ _ _ _ (subst (IsBeginningOfThread (disk_of_geometry_and_blocks (g.D.BlockDevice.geometry c.loop.device) (g.D.BlockDevice.blocks c.loop.device)) (g.D.BlockDevice.history c.loop.device) c.loop.pairs.items c.loop.map)
-    (ap (option_map pair_address_of_array) c.in-None.is) c.loop.invariant.begun)
+    begun_kept _ _ _ _ (subst (IsThreadBeginning (disk_of_blocks (g.D.BlockDevice.geometry c.loop.device) (g.D.BlockDevice.blocks c.loop.device)) (g.D.BlockDevice.history c.loop.device) c.loop.pairs.items c.loop.map)
+    (ap (option_map array_address) c.in-None.is) c.loop.invariant.begun)
 
 pub returns-in-None-clause-marked : goal.returns-in-None-clause-marked
 returns-in-None-clause-marked g c = (c.loop.invariant.begun.marked, begun_none_in_flight _ _ _ _ _ c.loop.invariant.begun)
@@ -35,12 +35,12 @@ returns-in-None-clause-marked g c = (c.loop.invariant.begun.marked, begun_none_i
 pub returns-in_err-pair-in-Some-clause-broken : goal.returns-in_err-pair-in-Some-clause-broken
 returns-in_err-pair-in-Some-clause-broken g c =
     let p = err_from_is_err_and c.from_residual.result c.from_residual.ensures.1 in
-    let same : disk_of_device g.D.BlockDevice c.loop.device ≡ disk_of_device g.D.BlockDevice c.args.device.now = ap₂ disk_of_geometry_and_blocks c.loop.invariant.device.geometry c.loop.invariant.device.same in
-    let before = begun_before _ _ _ _ _ (pair_address_of_array c.in-Some.at) (ap (option_map pair_address_of_array) c.in-Some.is) c.loop.invariant.begun in
+    let same : disk_of_device g.D.BlockDevice c.loop.device ≡ disk_of_device g.D.BlockDevice c.args.device.now = ap₂ disk_of_blocks c.loop.invariant.device.geometry c.loop.invariant.device.same in
+    let before = begun_before _ _ _ _ _ (array_address c.in-Some.at) (ap (option_map array_address) c.in-Some.is) c.loop.invariant.begun in
     let broken = c.in_err-pair-in-Some.ensures.broken _ before in
-    subst (λ r. IfErr r (HasTrueThreadViolation (disk_of_device g.D.BlockDevice c.args.device.now))) (sym p.1)
-    (subst (HasTrueThreadViolation (disk_of_device g.D.BlockDevice c.args.device.now)) (sym p.2)
-    (subst (λ d. HasTrueThreadViolation d c.in_err-pair-in-Some.field-0.0) same broken))
+    subst (λ r. IfErr r (IsViolationTrue (disk_of_device g.D.BlockDevice c.args.device.now))) (sym p.1)
+    (subst (IsViolationTrue (disk_of_device g.D.BlockDevice c.args.device.now)) (sym p.2)
+    (subst (λ d. IsViolationTrue d c.in_err-pair-in-Some.field-0.0) same broken))
 
 pub returns-in_err-pair-in-Some-clause-reported : goal.returns-in_err-pair-in-Some-clause-reported
 returns-in_err-pair-in-Some-clause-reported g c =
@@ -67,12 +67,12 @@ loop-preserved g c =
     let read = c.in_ok-pair-in-Some.ensures in
     let no_fault = read.reported.no_fault (λ e. absurd (cc)) in
     record {
-      begun = begun_next (disk_of_geometry_and_blocks (g.D.BlockDevice.geometry c.loop.device) (g.D.BlockDevice.blocks c.loop.device)) _ _ _ _ c.loop.pairs.items _ c.loop.map _ (option_map pair_address_of_array c.loop.next) (pair_address_of_array c.in-Some.at) c.in_ok-pair-in-Some.pair (option_map pair_address_of_array c.address_named_by_header_tail-next.result)
-          (ap₂ disk_of_geometry_and_blocks read.reported.device.geometry read.reported.device.same) read.reported.device.reads (ap (option_map pair_address_of_array) c.in-Some.is) c.loop.invariant.begun read.read.header read.read.address read.read.stands c.in_ok-push-in-Some.ensures.items read.read.marked c.address_named_by_header_tail-next.ensures;
+      begun = begun_next (disk_of_blocks (g.D.BlockDevice.geometry c.loop.device) (g.D.BlockDevice.blocks c.loop.device)) _ _ _ _ c.loop.pairs.items _ c.loop.map _ (option_map array_address c.loop.next) (array_address c.in-Some.at) c.in_ok-pair-in-Some.pair (option_map array_address c.tail_address-next.result)
+          (ap₂ disk_of_blocks read.reported.device.geometry read.reported.device.same) read.reported.device.reads (ap (option_map array_address) c.in-Some.is) c.loop.invariant.begun read.read.header read.read.address read.read.stands c.in_ok-push-in-Some.ensures.items read.read.marked c.tail_address-next.ensures;
       device = read_on c.loop.invariant.device read.reported.device;
       no_fault = no_fault ∙ c.loop.invariant.no_fault;
-      few = more_reads _ (disk_of_geometry_and_blocks (g.D.BlockDevice.geometry c.args.device.now) (g.D.BlockDevice.blocks c.args.device.now)) c.loop.pairs.items c.in_ok-pair-in-Some.pair _ (pair_address_of_array c.in-Some.at) _ _ _
-          (ap₂ disk_of_geometry_and_blocks c.loop.invariant.device.geometry c.loop.invariant.device.same) read.read.address c.in_ok-push-in-Some.ensures.items c.loop.invariant.few read.few;
+      few = more_reads _ (disk_of_blocks (g.D.BlockDevice.geometry c.args.device.now) (g.D.BlockDevice.blocks c.args.device.now)) c.loop.pairs.items c.in_ok-pair-in-Some.pair _ (array_address c.in-Some.at) _ _ _
+          (ap₂ disk_of_blocks c.loop.invariant.device.geometry c.loop.invariant.device.same) read.read.address c.in_ok-push-in-Some.ensures.items c.loop.invariant.few read.few;
       count = ap length c.in_ok-push-in-Some.ensures.items ∙ length-append c.loop.pairs.items (c.in_ok-pair-in-Some.pair ∷ []) ∙ ap (λ n. n + 1) c.loop.invariant.count;
     }
 

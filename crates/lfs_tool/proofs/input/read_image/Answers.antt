@@ -1,5 +1,5 @@
 use Rattle.std.proofs.Common.{◌∙◌, ap, arith, refl, rules, subst, sym}
-use Rattle.lfs_tool.specs.Reports.{IsReadToEndOrPastImageLimit}
+use Rattle.lfs_tool.specs.Reports.{IsReadToEnd}
 use Rattle.lfs_tool.proofs.KnownBytes.{ended_behind, past_the_most, read_ended, read_full}
 use Rattle.lfs_tool.proofs.input.read_image.Goals as goal
 use Rattle.lfs_tool.proofs.input.read_image.Goals.{else-loop-buffer-test, then-loop-buffer-test+in-Ok-eq0}
@@ -24,7 +24,7 @@ pub returns-clause-read : goal.returns-clause-read
 returns-clause-read g c =
     let first = g.R.ImageInput.remaining c.args.image.now in
     elim c.loop-buffer-test.branch [
-      | else-loop-buffer-test w ↦ subst (λ i. IsReadToEndOrPastImageLimit first (g.R.ImageInput.remaining i)) (sym w.image-is) (past_the_most first _ c.loop-buffer.bytes.items c.loop-buffer.invariant.read (omega arith))
-      | then-loop-buffer-test+in-Ok-eq0 w ↦ subst (λ i. IsReadToEndOrPastImageLimit first (g.R.ImageInput.remaining i)) (sym w.image-is)
+      | else-loop-buffer-test w ↦ subst (λ i. IsReadToEnd first (g.R.ImageInput.remaining i)) (sym w.image-is) (past_the_most first _ c.loop-buffer.bytes.items c.loop-buffer.invariant.read (omega arith))
+      | then-loop-buffer-test+in-Ok-eq0 w ↦ subst (λ i. IsReadToEnd first (g.R.ImageInput.remaining i)) (sym w.image-is)
           (ended_behind first _ _ c.loop-buffer.bytes.items _ c.loop-buffer.invariant.read w.in-Ok-eq0.ensures.bytes.0 (w.in-Ok-eq0.ensures.bytes.1 w.in-Ok-eq0.field-0-test (search rules)))
     ]

@@ -1,37 +1,37 @@
 use Rattle.std.proofs.Common.{◌∙◌, ap, subst, sym}
-use Rattle.lfs_model.specs.Disk.{disk_in_order, Disk}
-use Rattle.lfs_model.specs.View.{IsAcceptedImage}
+use Rattle.lfs_model.specs.format.Disk.{ordered_disk, Disk}
+use Rattle.lfs_model.specs.tree.View.{IsAccepted}
 use Rattle.lfs_model.specs.declared.order.NameOrder.{NameOrder}
 use Rattle.lfs_model.specs.declared.order.NameOrder.TheVariants.{LongerFirst}
-use Rattle.lfs_tool.specs.ImageSummaries.{HasAcceptedNameOrders, IsAcceptedInNameOrder}
+use Rattle.lfs_tool.specs.ImageSummaries.{HasAcceptedOrders, IsAcceptedInOrder}
 use Rattle.lfs_tool.proofs.judgement.judge_thread.Goals as goal
 
 pub accepted_name_orders-requires-clause-first : goal.accepted_name_orders-requires-clause-first
 accepted_name_orders-requires-clause-first c =
     let old = c.args.thread.kept in
     let only = c.in-Ok.ensures.only in
-    let shown = ap (disk_in_order LongerFirst) (c.into_device.ensures.disk ∙ only.disk) in
+    let shown = ap (ordered_disk LongerFirst) (c.into_device.ensures.disk ∙ only.disk) in
     let order = c.order-order.ensures ∙ ap (λ (d : Disk). d.order) only.disk in (
       old.pairs,
-      subst (λ (d : Disk). IsAcceptedImage (disk_in_order c.order-order.result d) old.pairs) (sym shown)
-          (subst (λ (o : NameOrder). IsAcceptedImage (disk_in_order o old.disk) old.pairs) (sym order) c.requires.accepted),
+      subst (λ (d : Disk). IsAccepted (ordered_disk c.order-order.result d) old.pairs) (sym shown)
+          (subst (λ (o : NameOrder). IsAccepted (ordered_disk o old.disk) old.pairs) (sym order) c.requires.accepted),
     )
 
 pub accepted_name_orders-requires-clause-longer : goal.accepted_name_orders-requires-clause-longer
 accepted_name_orders-requires-clause-longer c = λ is a.
     let only = c.in-Ok.ensures.only in
-    let shown = ap (disk_in_order LongerFirst) (c.into_device.ensures.disk ∙ only.disk) in
+    let shown = ap (ordered_disk LongerFirst) (c.into_device.ensures.disk ∙ only.disk) in
     let own = sym (ap (λ (d : Disk). d.order) only.disk) ∙ sym c.order-order.ensures ∙ is in
-    c.requires.longer own (subst (IsAcceptedInNameOrder LongerFirst) shown a)
+    c.requires.longer own (subst (IsAcceptedInOrder LongerFirst) shown a)
 
 pub returns-clause-verdict : goal.returns-clause-verdict
 returns-clause-verdict c =
     let old = c.args.thread.kept in
-    let shown = ap (disk_in_order LongerFirst) (c.into_device.ensures.disk ∙ c.in-Ok.ensures.only.disk) in
+    let shown = ap (ordered_disk LongerFirst) (c.into_device.ensures.disk ∙ c.in-Ok.ensures.only.disk) in
     record {
       order = old.disk.order;
       pairs = old.pairs;
       accepted = c.requires.accepted;
       has = c.in-Ok.ensures.summary;
-      fits = subst (λ (d : Disk). HasAcceptedNameOrders d c.in_ok-orders.orders) shown c.in_ok-orders.ensures.orders;
+      fits = subst (λ (d : Disk). HasAcceptedOrders d c.in_ok-orders.orders) shown c.in_ok-orders.ensures.orders;
     }

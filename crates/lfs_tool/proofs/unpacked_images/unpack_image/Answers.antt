@@ -1,14 +1,14 @@
 use Rattle.std.proofs.lemmas.Result.{IfErr-weaker, on_ok_weaker}
-use Rattle.lfs_device.specs.RamDevice.{ram_blocks, geometry_of_ram_device}
-use Rattle.lfs_device.specs.Shown.{disk_of_geometry_and_blocks as shown}
+use Rattle.lfs_device.specs.RamDevice.{ram_blocks, ram_geometry}
+use Rattle.lfs_device.specs.DeviceDisk.{disk_of_blocks as shown}
 use Rattle.lfs_device.specs.declared.ram.RamDevice.{RamDevice}
-use Rattle.lfs_model.specs.Disk.{Disk}
+use Rattle.lfs_model.specs.format.Disk.{Disk}
 use Rattle.lfs_tool.proofs.Unpacks.{done_image, fails_image}
 use Rattle.lfs_tool.proofs.unpacked_images.unpack_image.Goals as goal
 
 -- the disk that a device in memory shows
 abbrev disk_in : RamDevice → Disk
-disk_in d = shown (geometry_of_ram_device d) (ram_blocks d)
+disk_in d = shown (ram_geometry d) (ram_blocks d)
 
 pub returns-in-Ok-clause-done : goal.returns-in-Ok-clause-done
 returns-in-Ok-clause-done g c =

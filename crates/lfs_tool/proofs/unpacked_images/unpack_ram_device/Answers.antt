@@ -1,17 +1,17 @@
 use Rattle.std.proofs.Common.{List, subst, sym}
 use Rattle.std.proofs.lemmas.Result.{on_ok_weaker}
-use Rattle.lfs_device.specs.RamDevice.{ram_blocks, geometry_of_ram_device}
-use Rattle.lfs_device.specs.Shown.{disk_of_geometry_and_blocks as shown}
-use Rattle.lfs_lookup.specs.Walk.{tree_items_view}
+use Rattle.lfs_device.specs.RamDevice.{ram_blocks, ram_geometry}
+use Rattle.lfs_device.specs.DeviceDisk.{disk_of_blocks as shown}
+use Rattle.lfs_lookup.specs.TreeWalk.{tree_items_view}
 use Rattle.lfs_lookup.specs.declared.walks.TreeItem.{TreeItem}
-use Rattle.lfs_tool.specs.Unpackings.{HaveWellFormedSkipLists, HasDoneBeginningOfUnpackingActions, HasDoneTheseFurtherUnpackingActions, unpacking_actions_for_tree_entries}
+use Rattle.lfs_tool.specs.Unpackings.{HaveFormedLists, HasBegunActions, HasDoneFurther, tree_entry_actions}
 use Rattle.lfs_tool.proofs.Unpacks.{begun_of, done_of, fails_begun, lists_walked}
 use Rattle.lfs_tool.proofs.unpacked_images.unpack_ram_device.Goals as goal
 
 pub put_tree_items-requires-clause-lists : goal.put_tree_items-requires-clause-lists
 put_tree_items-requires-clause-lists g c =
     let h = c.in-Ok.ensures.items in
-    subst (λ (items : List TreeItem). HaveWellFormedSkipLists c.in-Ok.thread.kept.disk (tree_items_view items)) (sym c.deref.ensures.value)
+    subst (λ (items : List TreeItem). HaveFormedLists c.in-Ok.thread.kept.disk (tree_items_view items)) (sym c.deref.ensures.value)
     (lists_walked _ c.in-Ok.thread.kept.disk c.in-Ok.thread.kept.pairs (tree_items_view c.in-Ok.items.items) h.disk_is h.walked)
 
 pub returns-in-Ok-clause-done : goal.returns-in-Ok-clause-done
@@ -20,14 +20,14 @@ returns-in-Ok-clause-done g c =
     let old = g.T.Target.done c.args.target.now in
     let new = g.T.Target.done c.put_tree_items.new.target in
     on_ok_weaker c.put_tree_items.result (λ all.
-    done_of (shown (geometry_of_ram_device c.args.device) (ram_blocks c.args.device)) c.in-Ok.thread.kept.disk c.in-Ok.thread.kept.disk.order c.in-Ok.thread.kept.pairs (tree_items_view c.in-Ok.items.items) h.disk_is h.accepted h.walked old new
-    (subst (λ (items : List TreeItem). HasDoneTheseFurtherUnpackingActions old new (unpacking_actions_for_tree_entries c.in-Ok.thread.kept.disk (tree_items_view items))) c.deref.ensures.value all)) c.put_tree_items.ensures.done
+    done_of (shown (ram_geometry c.args.device) (ram_blocks c.args.device)) c.in-Ok.thread.kept.disk c.in-Ok.thread.kept.disk.order c.in-Ok.thread.kept.pairs (tree_items_view c.in-Ok.items.items) h.disk_is h.accepted h.walked old new
+    (subst (λ (items : List TreeItem). HasDoneFurther old new (tree_entry_actions c.in-Ok.thread.kept.disk (tree_items_view items))) c.deref.ensures.value all)) c.put_tree_items.ensures.done
 
 pub returns-in-Ok-clause-failed : goal.returns-in-Ok-clause-failed
 returns-in-Ok-clause-failed g c =
     let h = c.in-Ok.ensures.items in
     let old = g.T.Target.done c.args.target.now in
     let new = g.T.Target.done c.put_tree_items.new.target in
-    fails_begun (shown (geometry_of_ram_device c.args.device) (ram_blocks c.args.device)) old new _ _ c.put_tree_items.result _ c.put_tree_items.ensures.begun (λ begun.
-    begun_of (shown (geometry_of_ram_device c.args.device) (ram_blocks c.args.device)) c.in-Ok.thread.kept.disk c.in-Ok.thread.kept.disk.order c.in-Ok.thread.kept.pairs (tree_items_view c.in-Ok.items.items) h.disk_is h.accepted h.walked old new
-    (subst (λ (items : List TreeItem). HasDoneBeginningOfUnpackingActions old new (unpacking_actions_for_tree_entries c.in-Ok.thread.kept.disk (tree_items_view items))) c.deref.ensures.value begun)) c.put_tree_items.ensures.reports
+    fails_begun (shown (ram_geometry c.args.device) (ram_blocks c.args.device)) old new _ _ c.put_tree_items.result _ c.put_tree_items.ensures.begun (λ begun.
+    begun_of (shown (ram_geometry c.args.device) (ram_blocks c.args.device)) c.in-Ok.thread.kept.disk c.in-Ok.thread.kept.disk.order c.in-Ok.thread.kept.pairs (tree_items_view c.in-Ok.items.items) h.disk_is h.accepted h.walked old new
+    (subst (λ (items : List TreeItem). HasBegunActions old new (tree_entry_actions c.in-Ok.thread.kept.disk (tree_items_view items))) c.deref.ensures.value begun)) c.put_tree_items.ensures.reports

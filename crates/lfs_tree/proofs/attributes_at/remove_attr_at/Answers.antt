@@ -1,29 +1,29 @@
 use Rattle.std.proofs.Common.{subst, sym}
 use Rattle.std.specs.Prelude.{OnOk}
 use Rattle.std.proofs.lemmas.Result.{err_from_is_err_and}
-use Rattle.lfs_model.specs.Content.{attributes_without_attribute}
-use Rattle.lfs_operations.specs.Editing.{CanEditEntryOfPair, HasRemovedAttribute, tree_with_attributes_at}
-use Rattle.lfs_thread.specs.Steps.{ThreadChangesOnlyTheseBlocks, thread_pair_at_index}
-use Rattle.lfs_tree.specs.TreeChanges.{SurvivesWithOldOrNewTree}
+use Rattle.lfs_model.specs.format.Content.{attributes_without}
+use Rattle.lfs_operations.specs.Editing.{CanEditIn, HasRemovedAttribute, tree_with_attributes_set}
+use Rattle.lfs_thread.specs.ThreadSteps.{ChangesThreadBlocks, thread_pair_at}
+use Rattle.lfs_tree.specs.TreeChanges.{SurvivesEither}
 use Rattle.lfs_tree.proofs.Carried.{read_is}
 use Rattle.lfs_tree.proofs.CarryEdited.{can_edit, clear_does, entry_to_clear, slot_for, slot_found}
 use Rattle.lfs_tree.proofs.ReportedFaults.{reported_by_reading}
 use Rattle.lfs_tree.proofs.Operated.{only_read_change, works_reported}
 use Rattle.lfs_lookup.proofs.Reading.{answered, passed}
 use Rattle.lfs_tree.proofs.attributes_at.remove_attr_at.Goals as goal
-use Rattle.lfs_model.specs.Thread.{blocks_of_pair_address}
+use Rattle.lfs_model.specs.format.Thread.{address_blocks}
 
-pub spot_of_found_entry-slot-requires : goal.spot_of_found_entry-slot-requires
-spot_of_found_entry-slot-requires g c = slot_found c.args.thread.now.kept c.args.path.now c.in_ok-target.target.found (entry_to_clear c.args.thread.now.kept c.args.path.now c.args.kind c.requires.can) c.in_ok-target.ensures.target.leads
+pub found_entry_spot-slot-requires : goal.found_entry_spot-slot-requires
+found_entry_spot-slot-requires g c = slot_found c.args.thread.now.kept c.args.path.now c.in_ok-target.target.found (entry_to_clear c.args.thread.now.kept c.args.path.now c.args.kind c.requires.can) c.in_ok-target.ensures.target.leads
 
 pub remove_attribute-requires-clause-can : goal.remove_attribute-requires-clause-can
 remove_attribute-requires-clause-can g c =
     let t = c.args.thread.now in
     let mid = c.find_at_path.new.thread in
-    let s = c.spot_of_found_entry-slot.result in
-    let slot = slot_for t.kept c.args.path.now c.in_ok-target.target.found s c.in_ok-target.ensures.target.leads c.spot_of_found_entry-slot.ensures in
-    subst (λ k. CanEditEntryOfPair k s.pair s.id) (sym (read_is t.kept mid.kept c.find_at_path.ensures.reading.only))
-    (can_edit t c.args.root c.requires.rests c.args.path.now c.show_block_facts_to_proof.ensures.large c.show_block_facts_to_proof.ensures.bytes s slot mid.kept.history)
+    let s = c.found_entry_spot-slot.result in
+    let slot = slot_for t.kept c.args.path.now c.in_ok-target.target.found s c.in_ok-target.ensures.target.leads c.found_entry_spot-slot.ensures in
+    subst (λ k. CanEditIn k s.pair s.id) (sym (read_is t.kept mid.kept c.find_at_path.ensures.reading.only))
+    (can_edit t c.args.root c.requires.rests c.args.path.now c.lemma_block_facts.ensures.large c.lemma_block_facts.ensures.bytes s slot mid.kept.history)
 
 pub returns-in_err-target : goal.returns-in_err-target
 returns-in_err-target g c =
@@ -35,14 +35,14 @@ pub returns : goal.returns
 returns g c =
     let t = c.args.thread.now in
     let mid = c.find_at_path.new.thread in
-    let s = c.spot_of_found_entry-slot.result in
-    let slot = slot_for t.kept c.args.path.now c.in_ok-target.target.found s c.in_ok-target.ensures.target.leads c.spot_of_found_entry-slot.ensures in
+    let s = c.found_entry_spot-slot.result in
+    let slot = slot_for t.kept c.args.path.now c.in_ok-target.target.found s c.in_ok-target.ensures.target.leads c.found_entry_spot-slot.ensures in
     let new = c.remove_attribute.new.thread in
     let read = answered t mid c.find_at_path.result c.in_ok-target.target c.in_ok-target.was c.find_at_path.ensures.reading in
     let is = read_is t.kept mid.kept read.only in
     let e = c.remove_attribute.ensures in
-    clear_does t c.args.root c.requires.rests c.args.path.now c.show_block_facts_to_proof.ensures.large c.show_block_facts_to_proof.ensures.bytes s slot mid.kept.history new c.remove_attribute.result c.args.kind c.show_path_comes_from_bytes_to_proof.ensures.0 c.show_path_comes_from_bytes_to_proof.ensures.1
-    read.same read.only.reads (subst (λ k. ThreadChangesOnlyTheseBlocks (blocks_of_pair_address (thread_pair_at_index k s.pair).at) k new.kept) is e.device)
-    (subst (λ k. OnOk c.remove_attribute.result ((can : CanEditEntryOfPair k s.pair s.id) → HasRemovedAttribute k new.kept can.path can.name c.args.kind)) is e.is_removed)
+    clear_does t c.args.root c.requires.rests c.args.path.now c.lemma_block_facts.ensures.large c.lemma_block_facts.ensures.bytes s slot mid.kept.history new c.remove_attribute.result c.args.kind c.lemma_path_bytes.ensures.0 c.lemma_path_bytes.ensures.1
+    read.same read.only.reads (subst (λ k. ChangesThreadBlocks (address_blocks (thread_pair_at k s.pair).at) k new.kept) is e.device)
+    (subst (λ k. OnOk c.remove_attribute.result ((can : CanEditIn k s.pair s.id) → HasRemovedAttribute k new.kept can.path can.name c.args.kind)) is e.is_removed)
     (reported_by_reading mid.kept new.kept c.remove_attribute.result e.errors.reported) (works_reported new c.remove_attribute.result e.errors.failed)
-    (subst (λ k. (can : CanEditEntryOfPair k s.pair s.id) → SurvivesWithOldOrNewTree k new.kept (tree_with_attributes_at k can.path can.name (attributes_without_attribute c.args.kind))) is e.survives)
+    (subst (λ k. (can : CanEditIn k s.pair s.id) → SurvivesEither k new.kept (tree_with_attributes_set k can.path can.name (attributes_without c.args.kind))) is e.survives)

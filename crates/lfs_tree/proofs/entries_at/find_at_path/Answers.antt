@@ -1,6 +1,6 @@
 use Rattle.std.proofs.Common.{ap, map, subst, ◌∙◌}
-use Rattle.lfs_model.specs.TreeEdits.{last_name_of_path}
-use Rattle.lfs_lookup.specs.Paths.{PathLeadsToLookupResult}
+use Rattle.lfs_model.specs.session.TreeEdits.{last_name}
+use Rattle.lfs_lookup.specs.LookupPaths.{LeadsToResult}
 use Rattle.lfs_lookup.proofs.RootPairs.{root_leads}
 use Rattle.lfs_tree.proofs.entries_at.find_at_path.Goals as goal
 
@@ -12,4 +12,4 @@ returns-clause-target g c =
     let t = c.args.thread.now.kept in
     let first = ap (map (λ name. name.now)) c.deref.ensures.value ∙ c.in_ok-names.ensures in
     let second = ap (map (λ name. name.now)) c.deref-2.ensures.value ∙ c.in_ok-names.ensures in
-    record { leads = subst (λ p. PathLeadsToLookupResult t p c.in_ok-found.found) first c.in_ok-found.ensures.answer; named = c.last_name_or_empty.ensures ∙ ap last_name_of_path second }
+    record { leads = subst (λ p. LeadsToResult t p c.in_ok-found.found) first c.in_ok-found.ensures.answer; named = c.last_name_of.ensures ∙ ap last_name second }

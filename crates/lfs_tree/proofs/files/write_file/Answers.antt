@@ -1,36 +1,36 @@
 use Rattle.std.proofs.Common.{rules, ap, length, ◌∙◌}
-use Rattle.lfs_model.specs.Writers.{contents_after_write}
-use Rattle.lfs_model.specs.Disk.{disk_in_order}
+use Rattle.lfs_model.specs.session.Writers.{written_contents}
+use Rattle.lfs_model.specs.format.Disk.{ordered_disk}
 use Rattle.lfs_thread.specs.Kept.{disk_of_device}
-use Rattle.lfs_file.specs.Contents.{writer_contents_bytes_in_memory_or_blocks, storage_form_of_contents}
-use Rattle.lfs_file.specs.Form.{storage_form_after_write}
+use Rattle.lfs_file.specs.Contents.{contents_bytes, contents_form}
+use Rattle.lfs_file.specs.Form.{written_form}
 use Rattle.lfs_tree.proofs.Standing.{holds_after, owned_after, write_here}
 use Rattle.lfs_tree.proofs.files.write_file.Goals as goal
 
-pub run_work_on_device_and_map-requires-clause-can : goal.run_work_on_device_and_map-requires-clause-can
-run_work_on_device_and_map-requires-clause-can g c device map shows = record {
+pub run_on_device-requires-clause-can : goal.run_on_device-requires-clause-can
+run_on_device-requires-clause-can g c device map shows = record {
   can = λ p q here here_map _ _ _ _ _ _ _ _ _ _ _ _ _ _ _ _.
       write_here g.D.BlockDevice c.args.thread.now.kept p.now q.now
-      (record { disk = ap (λ d. disk_in_order c.args.thread.now.kept.disk.order (disk_of_device g.D.BlockDevice d)) here ∙ shows.disk; history = ap g.D.BlockDevice.history here ∙ shows.history; map = here_map ∙ shows.map })
+      (record { disk = ap (λ d. ordered_disk c.args.thread.now.kept.disk.order (disk_of_device g.D.BlockDevice d)) here ∙ shows.disk; history = ap g.D.BlockDevice.history here ∙ shows.history; map = here_map ∙ shows.map })
       (g.met.D.BlockDevice.shape p.now) c.args.contents c.args.limit c.args.place (length c.args.bytes.now) c.requires.can;
 }
 
 pub returns-clause-written : goal.returns-clause-written
 returns-clause-written g c =
-    let ran = c.run_work_on_device_and_map.ensures.ran in
+    let ran = c.run_on_device.ensures.ran in
     let run = ran.run in
-    holds_after g.D.BlockDevice c.args.thread.now.kept c.run_work_on_device_and_map.new.self.kept run.shown.now run.left.now run.shown_map.now run.left_map.now
-    (record { disk = ap (λ d. disk_in_order c.args.thread.now.kept.disk.order (disk_of_device g.D.BlockDevice d)) run.shows ∙ ran.before.disk; history = ap g.D.BlockDevice.history run.shows ∙ ran.before.history; map = run.shows_map ∙ ran.before.map })
-    (record { disk = ap (λ d. disk_in_order c.run_work_on_device_and_map.new.self.kept.disk.order (disk_of_device g.D.BlockDevice d)) run.leaves ∙ ran.after.disk; history = ap g.D.BlockDevice.history run.leaves ∙ ran.after.history; map = run.leaves_map ∙ ran.after.map })
+    holds_after g.D.BlockDevice c.args.thread.now.kept c.run_on_device.new.self.kept run.shown.now run.left.now run.shown_map.now run.left_map.now
+    (record { disk = ap (λ d. ordered_disk c.args.thread.now.kept.disk.order (disk_of_device g.D.BlockDevice d)) run.shows ∙ ran.before.disk; history = ap g.D.BlockDevice.history run.shows ∙ ran.before.history; map = run.shows_map ∙ ran.before.map })
+    (record { disk = ap (λ d. ordered_disk c.run_on_device.new.self.kept.disk.order (disk_of_device g.D.BlockDevice d)) run.leaves ∙ ran.after.disk; history = ap g.D.BlockDevice.history run.leaves ∙ ran.after.history; map = run.leaves_map ∙ ran.after.map })
     (g.met.D.BlockDevice.shape run.shown.now) (g.met.D.BlockDevice.shape run.left.now) (search rules)
-    (λ d n. contents_after_write (writer_contents_bytes_in_memory_or_blocks d n c.args.contents) c.args.place c.args.bytes.now) (storage_form_after_write c.args.limit c.args.place (length c.args.bytes.now) (storage_form_of_contents c.args.contents)) c.run_work_on_device_and_map.result
+    (λ d n. written_contents (contents_bytes d n c.args.contents) c.args.place c.args.bytes.now) (written_form c.args.limit c.args.place (length c.args.bytes.now) (contents_form c.args.contents)) c.run_on_device.result
     (search rules)
 
 pub returns-clause-owned : goal.returns-clause-owned
 returns-clause-owned g c =
-    let ran = c.run_work_on_device_and_map.ensures.ran in
+    let ran = c.run_on_device.ensures.ran in
     let run = ran.run in
-    owned_after g.D.BlockDevice c.args.thread.now.kept c.run_work_on_device_and_map.new.self.kept run.shown.now run.left.now run.shown_map.now run.left_map.now
-    (record { disk = ap (λ d. disk_in_order c.args.thread.now.kept.disk.order (disk_of_device g.D.BlockDevice d)) run.shows ∙ ran.before.disk; history = ap g.D.BlockDevice.history run.shows ∙ ran.before.history; map = run.shows_map ∙ ran.before.map })
-    (record { disk = ap (λ d. disk_in_order c.run_work_on_device_and_map.new.self.kept.disk.order (disk_of_device g.D.BlockDevice d)) run.leaves ∙ ran.after.disk; history = ap g.D.BlockDevice.history run.leaves ∙ ran.after.history; map = run.leaves_map ∙ ran.after.map })
-    (g.met.D.BlockDevice.shape run.shown.now) (g.met.D.BlockDevice.shape run.left.now) (search rules) c.args.contents c.run_work_on_device_and_map.result (search rules)
+    owned_after g.D.BlockDevice c.args.thread.now.kept c.run_on_device.new.self.kept run.shown.now run.left.now run.shown_map.now run.left_map.now
+    (record { disk = ap (λ d. ordered_disk c.args.thread.now.kept.disk.order (disk_of_device g.D.BlockDevice d)) run.shows ∙ ran.before.disk; history = ap g.D.BlockDevice.history run.shows ∙ ran.before.history; map = run.shows_map ∙ ran.before.map })
+    (record { disk = ap (λ d. ordered_disk c.run_on_device.new.self.kept.disk.order (disk_of_device g.D.BlockDevice d)) run.leaves ∙ ran.after.disk; history = ap g.D.BlockDevice.history run.leaves ∙ ran.after.history; map = run.leaves_map ∙ ran.after.map })
+    (g.met.D.BlockDevice.shape run.shown.now) (g.met.D.BlockDevice.shape run.left.now) (search rules) c.args.contents c.run_on_device.result (search rules)

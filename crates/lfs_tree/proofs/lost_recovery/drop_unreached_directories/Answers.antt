@@ -1,8 +1,8 @@
 use Rattle.std.proofs.Common.{ℕ, List, ◌∙◌, ap₂, subst, subst₂, sym, rules}
 use Rattle.std.proofs.lemmas.Result.{err_from_is_err_and}
-use Rattle.lfs_model.specs.Thread.{Pair}
-use Rattle.lfs_operations.specs.Recovering.{AreUnreachedPairNumbers, CanDropUnreachedPairs, slots_of_numbered_pairs}
-use Rattle.lfs_tree.specs.LostLists.{skip_lists_named_by_slots}
+use Rattle.lfs_model.specs.format.Thread.{Pair}
+use Rattle.lfs_operations.specs.Recovering.{AreUnreachedNumbers, CanDropPairs, numbered_slots}
+use Rattle.lfs_tree.specs.LostLists.{lists_of_slots}
 use Rattle.lfs_tree.proofs.ReportedFaults.{called_by_reading}
 use Rattle.lfs_lookup.proofs.ReadOnly.{only_read}
 use Rattle.lfs_lookup.proofs.Reading.{answered, both, further}
@@ -10,14 +10,14 @@ use Rattle.lfs_tree.proofs.Recovered.{called_then, called_writing, can_drop, dro
 use Rattle.lfs_tree.proofs.lost_recovery.drop_unreached_directories.Goals as goal
 
 pub returns-in_err-numbers-clause-survives : goal.returns-in_err-numbers-clause-survives
-returns-in_err-numbers-clause-survives g c = read_survives c.args.thread.now.kept c.find_unreached_pair_numbers.new.thread.kept c.requires.can.can c.find_unreached_pair_numbers.ensures.reading.only
+returns-in_err-numbers-clause-survives g c = read_survives c.args.thread.now.kept c.find_unreached_pairs.new.thread.kept c.requires.can.can c.find_unreached_pairs.ensures.reading.only
 
-pub skip_lists_of_pairs-requires-clause-unreached : goal.skip_lists_of_pairs-requires-clause-unreached
-skip_lists_of_pairs-requires-clause-unreached g c =
-    subst₂ (λ (ps : List Pair) (numbers : List ℕ). AreUnreachedPairNumbers ps numbers) (sym c.find_unreached_pair_numbers.ensures.reading.only.pairs) (sym c.deref.ensures.value) c.in_ok-numbers.ensures.unreached
+pub lists_of_pairs-requires-clause-unreached : goal.lists_of_pairs-requires-clause-unreached
+lists_of_pairs-requires-clause-unreached g c =
+    subst₂ (λ (ps : List Pair) (numbers : List ℕ). AreUnreachedNumbers ps numbers) (sym c.find_unreached_pairs.ensures.reading.only.pairs) (sym c.deref.ensures.value) c.in_ok-numbers.ensures.unreached
 
 pub returns-in_err-lists-clause-called : goal.returns-in_err-lists-clause-called
-returns-in_err-lists-clause-called g c = called_by_reading _ _ (only_read _ _ _ c.find_unreached_pair_numbers.ensures.reading.only c.skip_lists_of_pairs.ensures.reading.only)
+returns-in_err-lists-clause-called g c = called_by_reading _ _ (only_read _ _ _ c.find_unreached_pairs.ensures.reading.only c.lists_of_pairs.ensures.reading.only)
 
 pub returns-in_err-lists-clause-reports : goal.returns-in_err-lists-clause-reports
 returns-in_err-lists-clause-reports g c = record {
@@ -25,76 +25,76 @@ returns-in_err-lists-clause-reports g c = record {
   no_fault = search rules;
   errors = (
       let p = err_from_is_err_and c.from_residual-in_err-lists.result c.from_residual-in_err-lists.ensures.1 in
-      let found = answered _ _ c.find_unreached_pair_numbers.result c.in_ok-numbers.numbers c.in_ok-numbers.was c.find_unreached_pair_numbers.ensures.reading in
-      let reading = further _ _ _ c.skip_lists_of_pairs.result found c.skip_lists_of_pairs.ensures.reading in
-      reports_given c.args.thread.now.kept c.skip_lists_of_pairs.new.thread.kept c.from_residual-in_err-lists.result _ p.0 p.1 p.2
-      (reports_reading c.args.thread.now.kept c.skip_lists_of_pairs.new.thread.kept c.skip_lists_of_pairs.result _ c.in_err-lists.was reading.reported)
+      let found = answered _ _ c.find_unreached_pairs.result c.in_ok-numbers.numbers c.in_ok-numbers.was c.find_unreached_pairs.ensures.reading in
+      let reading = further _ _ _ c.lists_of_pairs.result found c.lists_of_pairs.ensures.reading in
+      reports_given c.args.thread.now.kept c.lists_of_pairs.new.thread.kept c.from_residual-in_err-lists.result _ p.0 p.1 p.2
+      (reports_reading c.args.thread.now.kept c.lists_of_pairs.new.thread.kept c.lists_of_pairs.result _ c.in_err-lists.was reading.reported)
       );
 }
 
 pub returns-in_err-lists-clause-survives : goal.returns-in_err-lists-clause-survives
 returns-in_err-lists-clause-survives g c =
-    read_survives c.args.thread.now.kept c.skip_lists_of_pairs.new.thread.kept c.requires.can.can (only_read _ _ _ c.find_unreached_pair_numbers.ensures.reading.only c.skip_lists_of_pairs.ensures.reading.only)
+    read_survives c.args.thread.now.kept c.lists_of_pairs.new.thread.kept c.requires.can.can (only_read _ _ _ c.find_unreached_pairs.ensures.reading.only c.lists_of_pairs.ensures.reading.only)
 
-pub drop_unreached_pairs_and_lists-requires-clause-can : goal.drop_unreached_pairs_and_lists-requires-clause-can
-drop_unreached_pairs_and_lists-requires-clause-can g c =
+pub drop_with_lists-requires-clause-can : goal.drop_with_lists-requires-clause-can
+drop_with_lists-requires-clause-can g c =
     record {
-      works = c.skip_lists_of_pairs.ensures.reading.works;
+      works = c.lists_of_pairs.ensures.reading.works;
       can = (
-          subst (λ numbers. CanDropUnreachedPairs c.skip_lists_of_pairs.new.thread.kept numbers) (sym c.deref-2.ensures.value)
-          (can_drop c.args.thread.now.kept c.skip_lists_of_pairs.new.thread.kept c.in_ok-numbers.numbers.items c.requires.can.can c.show_block_facts_to_proof.ensures.large
-          (only_read _ _ _ c.find_unreached_pair_numbers.ensures.reading.only c.skip_lists_of_pairs.ensures.reading.only) c.in_ok-numbers.ensures.unreached)
+          subst (λ numbers. CanDropPairs c.lists_of_pairs.new.thread.kept numbers) (sym c.deref-2.ensures.value)
+          (can_drop c.args.thread.now.kept c.lists_of_pairs.new.thread.kept c.in_ok-numbers.numbers.items c.requires.can.can c.lemma_block_facts.ensures.large
+          (only_read _ _ _ c.find_unreached_pairs.ensures.reading.only c.lists_of_pairs.ensures.reading.only) c.in_ok-numbers.ensures.unreached)
           );
     }
 
-pub drop_unreached_pairs_and_lists-requires-clause-lists : goal.drop_unreached_pairs_and_lists-requires-clause-lists
-drop_unreached_pairs_and_lists-requires-clause-lists g c =
+pub drop_with_lists-requires-clause-lists : goal.drop_with_lists-requires-clause-lists
+drop_with_lists-requires-clause-lists g c =
     c.deref-3.ensures.value ∙ c.in_ok-lists.ensures.lists
-    ∙ ap₂ (λ (ps : List Pair) (numbers : List ℕ). skip_lists_named_by_slots (slots_of_numbered_pairs ps numbers)) (sym c.skip_lists_of_pairs.ensures.reading.only.pairs) (c.deref.ensures.value ∙ sym c.deref-2.ensures.value)
+    ∙ ap₂ (λ (ps : List Pair) (numbers : List ℕ). lists_of_slots (numbered_slots ps numbers)) (sym c.lists_of_pairs.ensures.reading.only.pairs) (c.deref.ensures.value ∙ sym c.deref-2.ensures.value)
 
-pub returns-in_err-drop_unreached_pairs_and_lists-clause-called : goal.returns-in_err-drop_unreached_pairs_and_lists-clause-called
-returns-in_err-drop_unreached_pairs_and_lists-clause-called g c =
-    called_then _ _ _ (called_by_reading _ _ (only_read _ _ _ c.find_unreached_pair_numbers.ensures.reading.only c.skip_lists_of_pairs.ensures.reading.only)) (called_writing _ _ _ c.drop_unreached_pairs_and_lists.ensures.device)
+pub returns-in_err-drop_with_lists-clause-called : goal.returns-in_err-drop_with_lists-clause-called
+returns-in_err-drop_with_lists-clause-called g c =
+    called_then _ _ _ (called_by_reading _ _ (only_read _ _ _ c.find_unreached_pairs.ensures.reading.only c.lists_of_pairs.ensures.reading.only)) (called_writing _ _ _ c.drop_with_lists.ensures.device)
 
-pub returns-in_err-drop_unreached_pairs_and_lists-clause-reports : goal.returns-in_err-drop_unreached_pairs_and_lists-clause-reports
-returns-in_err-drop_unreached_pairs_and_lists-clause-reports g c = record {
+pub returns-in_err-drop_with_lists-clause-reports : goal.returns-in_err-drop_with_lists-clause-reports
+returns-in_err-drop_with_lists-clause-reports g c = record {
   works = search rules;
   no_fault = search rules;
   errors = (
-      let p = err_from_is_err_and c.from_residual-in_err-drop_unreached_pairs_and_lists.result c.from_residual-in_err-drop_unreached_pairs_and_lists.ensures.1 in
-      let found = answered _ _ c.find_unreached_pair_numbers.result c.in_ok-numbers.numbers c.in_ok-numbers.was c.find_unreached_pair_numbers.ensures.reading in
-      let read = both _ _ _ found (answered _ _ c.skip_lists_of_pairs.result c.in_ok-lists.lists c.in_ok-lists.was c.skip_lists_of_pairs.ensures.reading) in
-      reports_given c.args.thread.now.kept c.drop_unreached_pairs_and_lists.new.thread.kept c.from_residual-in_err-drop_unreached_pairs_and_lists.result _ p.0 p.1 p.2
-      (reports_then c.args.thread.now.kept c.skip_lists_of_pairs.new.thread.kept c.drop_unreached_pairs_and_lists.new.thread.kept _ read.same c.in_err-drop_unreached_pairs_and_lists.ensures.reports.errors)
+      let p = err_from_is_err_and c.from_residual-in_err-drop_with_lists.result c.from_residual-in_err-drop_with_lists.ensures.1 in
+      let found = answered _ _ c.find_unreached_pairs.result c.in_ok-numbers.numbers c.in_ok-numbers.was c.find_unreached_pairs.ensures.reading in
+      let read = both _ _ _ found (answered _ _ c.lists_of_pairs.result c.in_ok-lists.lists c.in_ok-lists.was c.lists_of_pairs.ensures.reading) in
+      reports_given c.args.thread.now.kept c.drop_with_lists.new.thread.kept c.from_residual-in_err-drop_with_lists.result _ p.0 p.1 p.2
+      (reports_then c.args.thread.now.kept c.lists_of_pairs.new.thread.kept c.drop_with_lists.new.thread.kept _ read.same c.in_err-drop_with_lists.ensures.reports.errors)
       );
 }
 
-pub returns-in_err-drop_unreached_pairs_and_lists-clause-survives : goal.returns-in_err-drop_unreached_pairs_and_lists-clause-survives
-returns-in_err-drop_unreached_pairs_and_lists-clause-survives g c =
-    drop_survives c.args.thread.now.kept c.skip_lists_of_pairs.new.thread.kept c.drop_unreached_pairs_and_lists.new.thread.kept c.requires.can.can
-    (only_read _ _ _ c.find_unreached_pair_numbers.ensures.reading.only c.skip_lists_of_pairs.ensures.reading.only) c.drop_unreached_pairs_and_lists.ensures.device c.drop_unreached_pairs_and_lists.ensures.survives
+pub returns-in_err-drop_with_lists-clause-survives : goal.returns-in_err-drop_with_lists-clause-survives
+returns-in_err-drop_with_lists-clause-survives g c =
+    drop_survives c.args.thread.now.kept c.lists_of_pairs.new.thread.kept c.drop_with_lists.new.thread.kept c.requires.can.can
+    (only_read _ _ _ c.find_unreached_pairs.ensures.reading.only c.lists_of_pairs.ensures.reading.only) c.drop_with_lists.ensures.device c.drop_with_lists.ensures.survives
 
 pub returns-clause-dropped : goal.returns-clause-dropped
 returns-clause-dropped g c =
-    dropped c.args.thread.now.kept c.skip_lists_of_pairs.new.thread.kept c.drop_unreached_pairs_and_lists.new.thread.kept
-    (only_read _ _ _ c.find_unreached_pair_numbers.ensures.reading.only c.skip_lists_of_pairs.ensures.reading.only) c.in_ok-drop_unreached_pairs_and_lists.ensures.dropped
+    dropped c.args.thread.now.kept c.lists_of_pairs.new.thread.kept c.drop_with_lists.new.thread.kept
+    (only_read _ _ _ c.find_unreached_pairs.ensures.reading.only c.lists_of_pairs.ensures.reading.only) c.in_ok-drop_with_lists.ensures.dropped
 
 pub returns-clause-called : goal.returns-clause-called
 returns-clause-called g c =
-    called_then _ _ _ (called_by_reading _ _ (only_read _ _ _ c.find_unreached_pair_numbers.ensures.reading.only c.skip_lists_of_pairs.ensures.reading.only)) (called_writing _ _ _ c.drop_unreached_pairs_and_lists.ensures.device)
+    called_then _ _ _ (called_by_reading _ _ (only_read _ _ _ c.find_unreached_pairs.ensures.reading.only c.lists_of_pairs.ensures.reading.only)) (called_writing _ _ _ c.drop_with_lists.ensures.device)
 
 pub returns-clause-reports : goal.returns-clause-reports
 returns-clause-reports g c = record {
   works = search rules;
   no_fault = (
-      let found = answered _ _ c.find_unreached_pair_numbers.result c.in_ok-numbers.numbers c.in_ok-numbers.was c.find_unreached_pair_numbers.ensures.reading in
-      let read = both _ _ _ found (answered _ _ c.skip_lists_of_pairs.result c.in_ok-lists.lists c.in_ok-lists.was c.skip_lists_of_pairs.ensures.reading) in
-      c.in_ok-drop_unreached_pairs_and_lists.ensures.reports.no_fault ∙ read.same
+      let found = answered _ _ c.find_unreached_pairs.result c.in_ok-numbers.numbers c.in_ok-numbers.was c.find_unreached_pairs.ensures.reading in
+      let read = both _ _ _ found (answered _ _ c.lists_of_pairs.result c.in_ok-lists.lists c.in_ok-lists.was c.lists_of_pairs.ensures.reading) in
+      c.in_ok-drop_with_lists.ensures.reports.no_fault ∙ read.same
       );
   errors = search rules;
 }
 
 pub returns-clause-survives : goal.returns-clause-survives
 returns-clause-survives g c =
-    drop_survives c.args.thread.now.kept c.skip_lists_of_pairs.new.thread.kept c.drop_unreached_pairs_and_lists.new.thread.kept c.requires.can.can
-    (only_read _ _ _ c.find_unreached_pair_numbers.ensures.reading.only c.skip_lists_of_pairs.ensures.reading.only) c.drop_unreached_pairs_and_lists.ensures.device c.drop_unreached_pairs_and_lists.ensures.survives
+    drop_survives c.args.thread.now.kept c.lists_of_pairs.new.thread.kept c.drop_with_lists.new.thread.kept c.requires.can.can
+    (only_read _ _ _ c.find_unreached_pairs.ensures.reading.only c.lists_of_pairs.ensures.reading.only) c.drop_with_lists.ensures.device c.drop_with_lists.ensures.survives

@@ -1,33 +1,33 @@
 use Rattle.std.proofs.Common.{◌≡◌, ◌<◌, ◌⊎◌, inl, inr, List, sym, ap, subst, subst₂, ◌∙◌}
 use Rattle.lfs_device.specs.declared.error.Error.TheVariants.{Io, NoMemory, Corrupt}
-use Rattle.lfs_model.specs.Disk.{Disk, disk_in_order}
-use Rattle.lfs_model.specs.History.{DeviceCallEvent, fault_count_of_history}
+use Rattle.lfs_model.specs.format.Disk.{Disk, ordered_disk}
+use Rattle.lfs_model.specs.session.History.{CallEvent, fault_count}
 use Rattle.lfs_model.specs.declared.order.NameOrder.{NameOrder}
 use Rattle.lfs_model.specs.declared.order.NameOrder.TheVariants.{LongerFirst}
-use Rattle.lfs_model.specs.Thread.{Pair}
-use Rattle.lfs_model.specs.View.{IsAcceptedImage}
-use Rattle.lfs_mount.specs.Device.{IsIoCorruptOrNoMemory}
+use Rattle.lfs_model.specs.format.Thread.{Pair}
+use Rattle.lfs_model.specs.tree.View.{IsAccepted}
+use Rattle.lfs_mount.specs.MountFaults.{IsErrorOfMount}
 use Rattle.lfs_thread.specs.Kept.{KeptThread}
 use Rattle.lfs_tree.specs.TreeState.{IsMountedTree}
 use Rattle.lfs_tree.proofs.remounts.mount_again.Goals as goal
 
 pub returns-in-Ok-clause-mounted : goal.returns-in-Ok-clause-mounted
 returns-in-Ok-clause-mounted g c = record {
-  mounted = subst₂ (λ (disk : Disk) (history : List DeviceCallEvent). IsMountedTree disk history c.in-Ok.tree) (ap (disk_in_order c.in-Ok.tree.disk.order) c.into_device.ensures.disk) c.into_device.ensures.history c.in-Ok.ensures.mounted;
-  longer = λ shorter ps a. c.in-Ok.ensures.longer shorter ps (subst (λ (disk : Disk). IsAcceptedImage disk ps) (sym (ap (disk_in_order LongerFirst) c.into_device.ensures.disk)) a);
+  mounted = subst₂ (λ (disk : Disk) (history : List CallEvent). IsMountedTree disk history c.in-Ok.tree) (ap (ordered_disk c.in-Ok.tree.disk.order) c.into_device.ensures.disk) c.into_device.ensures.history c.in-Ok.ensures.mounted;
+  longer = λ shorter ps a. c.in-Ok.ensures.longer shorter ps (subst (λ (disk : Disk). IsAccepted disk ps) (sym (ap (ordered_disk LongerFirst) c.into_device.ensures.disk)) a);
 }
 
 pub returns-in-Err-clause-errors : goal.returns-in-Err-clause-errors
 returns-in-Err-clause-errors g c = record {
   errors = go c.in-Err.ensures.errors;
-  fault = λ is. subst₂ (λ (before after : List DeviceCallEvent). fault_count_of_history before < fault_count_of_history after) c.into_device.ensures.history (sym here) (c.in-Err.ensures.back.fault is);
-  no_fault = λ not. ap fault_count_of_history here ∙ c.in-Err.ensures.back.no_fault not ∙ ap fault_count_of_history c.into_device.ensures.history;
+  fault = λ is. subst₂ (λ (before after : List CallEvent). fault_count before < fault_count after) c.into_device.ensures.history (sym here) (c.in-Err.ensures.back.fault is);
+  no_fault = λ not. ap fault_count here ∙ c.in-Err.ensures.back.no_fault not ∙ ap fault_count c.into_device.ensures.history;
 }
   where
-    here : c.failed_thread_of_parts-thread.result.kept.history ≡ g.D.BlockDevice.history c.in-Err.device
-    here = ap (λ (kept : KeptThread). kept.history) c.failed_thread_of_parts-thread.ensures.kept
+    here : c.failed_thread_of-thread.result.kept.history ≡ g.D.BlockDevice.history c.in-Err.device
+    here = ap (λ (kept : KeptThread). kept.history) c.failed_thread_of-thread.ensures.kept
 
-    go : IsIoCorruptOrNoMemory c.in-Err.error → (c.in-Err.error ≡ Io) ⊎ ((c.in-Err.error ≡ NoMemory) ⊎ ((c.in-Err.error ≡ Corrupt) × ((order : NameOrder) (ps : List Pair) → IsAcceptedImage (disk_in_order order c.args.tree.disk) ps → ⊥)))
+    go : IsErrorOfMount c.in-Err.error → (c.in-Err.error ≡ Io) ⊎ ((c.in-Err.error ≡ NoMemory) ⊎ ((c.in-Err.error ≡ Corrupt) × ((order : NameOrder) (ps : List Pair) → IsAccepted (ordered_disk order c.args.tree.disk) ps → ⊥)))
     go (inl is) = inl is
     go (inr (inr is)) = inr (inl is)
-    go (inr (inl is)) = inr (inr (is, λ order ps a. c.in-Err.ensures.corrupt is order ps (subst (λ (disk : Disk). IsAcceptedImage disk ps) (sym (ap (disk_in_order order) c.into_device.ensures.disk)) a)))
+    go (inr (inl is)) = inr (inr (is, λ order ps a. c.in-Err.ensures.corrupt is order ps (subst (λ (disk : Disk). IsAccepted disk ps) (sym (ap (ordered_disk order) c.into_device.ensures.disk)) a)))

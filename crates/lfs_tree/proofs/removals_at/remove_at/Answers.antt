@@ -1,10 +1,10 @@
 use Rattle.std.proofs.Common.{subst, sym}
 use Rattle.std.proofs.lemmas.Result.{err_from_is_err_and}
-use Rattle.lfs_model.specs.TreeEdits.{tree_after_removal}
-use Rattle.lfs_model.specs.Shown.{tree_on_disk}
-use Rattle.lfs_operations.specs.MovingSteps.{WritesOnlyThreadPairsAndFreeBlocks}
-use Rattle.lfs_tree.specs.TreeChanges.{SurvivesWithOldOrNewTree}
-use Rattle.lfs_tree.specs.Removals.{CanRemoveFoundEntry, HasRemovedEntry, SparesOtherBlocksInRemoval}
+use Rattle.lfs_model.specs.session.TreeEdits.{tree_removing}
+use Rattle.lfs_model.specs.tree.Shown.{tree_on_disk}
+use Rattle.lfs_operations.specs.MovingSteps.{WritesThreadFree}
+use Rattle.lfs_tree.specs.TreeChanges.{SurvivesEither}
+use Rattle.lfs_tree.specs.Removals.{CanRemoveFound, HasRemovedEntry, SparesInRemoval}
 use Rattle.lfs_tree.proofs.Carried.{read_is}
 use Rattle.lfs_tree.proofs.CarryFreed.{ok_then}
 use Rattle.lfs_tree.proofs.CarryGone.{can_go, entry_on, entry_to_remove, remove_does}
@@ -22,8 +22,8 @@ remove_found_entry-requires g c =
       can = (
           let entry = entry_on t.kept c.args.path.now found (entry_to_remove t.kept c.args.path.now c.requires.can) c.in_ok-target.ensures.target.leads in (
             c.args.path.now,
-            subst (λ k. CanRemoveFoundEntry k c.args.path.now found) (sym (read_is t.kept mid.kept c.find_at_path.ensures.reading.only))
-                (can_go t c.args.root c.requires.rests c.args.path.now c.show_block_facts_to_proof.ensures.large c.show_block_facts_to_proof.ensures.bytes c.requires.can mid.kept.history found entry),
+            subst (λ k. CanRemoveFound k c.args.path.now found) (sym (read_is t.kept mid.kept c.find_at_path.ensures.reading.only))
+                (can_go t c.args.root c.requires.rests c.args.path.now c.lemma_block_facts.ensures.large c.lemma_block_facts.ensures.bytes c.requires.can mid.kept.history found entry),
           )
           );
     }
@@ -42,13 +42,13 @@ returns g c =
     let path = c.args.path.now in
     let found = c.in_ok-target.target.found in
     let entry = entry_on t.kept path found (entry_to_remove t.kept path c.requires.can) c.in_ok-target.ensures.target.leads in
-    let can = can_go t c.args.root c.requires.rests path c.show_block_facts_to_proof.ensures.large c.show_block_facts_to_proof.ensures.bytes c.requires.can mid.kept.history found entry in
+    let can = can_go t c.args.root c.requires.rests path c.lemma_block_facts.ensures.large c.lemma_block_facts.ensures.bytes c.requires.can mid.kept.history found entry in
     let read = answered t mid c.find_at_path.result c.in_ok-target.target c.in_ok-target.was c.find_at_path.ensures.reading in
     let is = read_is t.kept mid.kept read.only in
     let e = c.remove_found_entry.ensures in
-    let old = subst (λ k. CanRemoveFoundEntry k path found) (sym is) can in
+    let old = subst (λ k. CanRemoveFound k path found) (sym is) can in
     let gone = ok_then c.remove_found_entry.result _ _ (λ h. subst (λ k. HasRemovedEntry k path new.kept) is (h path old)) e.gone in
-    let spared = ok_then c.remove_found_entry.result _ _ (λ h. subst (λ k. SparesOtherBlocksInRemoval k path new.kept) is (h path old)) e.alone in
-    remove_does t c.args.root c.requires.rests path mid.kept.history new read.only.reads (subst (λ k. WritesOnlyThreadPairsAndFreeBlocks k new.kept) is e.device) c.remove_found_entry.result c.show_path_comes_from_bytes_to_proof.ensures.0 c.show_path_comes_from_bytes_to_proof.ensures.1
+    let spared = ok_then c.remove_found_entry.result _ _ (λ h. subst (λ k. SparesInRemoval k path new.kept) is (h path old)) e.alone in
+    remove_does t c.args.root c.requires.rests path mid.kept.history new read.only.reads (subst (λ k. WritesThreadFree k new.kept) is e.device) c.remove_found_entry.result c.lemma_path_bytes.ensures.0 c.lemma_path_bytes.ensures.1
     read.same gone spared (record { errors = e.errors.errors; fault = e.errors.fault; no_fault = e.errors.no_fault }) (works_reported new c.remove_found_entry.result e.errors.failed)
-    (subst (λ k. SurvivesWithOldOrNewTree k new.kept (tree_after_removal path (tree_on_disk k.disk k.pairs))) is (e.survives path old))
+    (subst (λ k. SurvivesEither k new.kept (tree_removing path (tree_on_disk k.disk k.pairs))) is (e.survives path old))

@@ -1,10 +1,10 @@
 use Rattle.std.proofs.Common.{◌∙◌, Err, ap, map, subst, sym}
 use Rattle.std.proofs.lemmas.Result.{err_from_is_err_and}
-use Rattle.lfs_model.specs.TreeEdits.{last_name_of_path, tree_after_rename}
-use Rattle.lfs_model.specs.Shown.{tree_on_disk}
-use Rattle.lfs_operations.specs.MovingSteps.{WritesOnlyThreadPairsAndFreeBlocks}
-use Rattle.lfs_tree.specs.TreeChanges.{IsLookupResultAndLastNameOfPath, SurvivesWithOldOrNewTree}
-use Rattle.lfs_tree.specs.Moves.{CanMoveOntoFound, HasMovedEntry}
+use Rattle.lfs_model.specs.session.TreeEdits.{last_name, tree_renaming}
+use Rattle.lfs_model.specs.tree.Shown.{tree_on_disk}
+use Rattle.lfs_operations.specs.MovingSteps.{WritesThreadFree}
+use Rattle.lfs_tree.specs.TreeChanges.{IsResultAndName, SurvivesEither}
+use Rattle.lfs_tree.specs.MovedEntries.{CanMoveOntoFound, HasMovedEntry}
 use Rattle.lfs_tree.proofs.Carried.{read_is}
 use Rattle.lfs_tree.proofs.CarryEdited.{slot_found}
 use Rattle.lfs_tree.proofs.CarryFreed.{ok_then}
@@ -13,21 +13,21 @@ use Rattle.lfs_tree.proofs.Shifted.{entry_to_rename, rename_does, shift_found, s
 use Rattle.lfs_lookup.proofs.Reading.{answered, begun, lacks_memory, passed}
 use Rattle.lfs_tree.proofs.renames_at.rename_at.Goals as goal
 
-pub rename_source_of_found_entry-source-requires : goal.rename_source_of_found_entry-source-requires
-rename_source_of_found_entry-source-requires g c = slot_found c.args.thread.now.kept c.args.from.now c.in_ok-targets.targets.entry (entry_to_rename c.args.thread.now.kept c.args.from.now c.args.to.now c.requires.can) c.in_ok-targets.ensures.targets.entry
+pub found_rename_source-source-requires : goal.found_rename_source-source-requires
+found_rename_source-source-requires g c = slot_found c.args.thread.now.kept c.args.from.now c.in_ok-targets.targets.entry (entry_to_rename c.args.thread.now.kept c.args.from.now c.args.to.now c.requires.can) c.in_ok-targets.ensures.targets.entry
 
-pub move_entry_onto_found_target-requires-clause-can : goal.move_entry_onto_found_target-requires-clause-can
-move_entry_onto_found_target-requires-clause-can g c =
+pub move_onto_found-requires-clause-can : goal.move_onto_found-requires-clause-can
+move_onto_found-requires-clause-can g c =
     let t = c.args.thread.now in
-    let mid = c.given_or_looked_up_rename_targets.new.thread in
-    let source = c.rename_source_of_found_entry-source.result in
+    let mid = c.given_or_found.new.thread in
+    let source = c.found_rename_source-source.result in
     let targets = c.in_ok-targets.targets in
-    let name = c.last_name_or_empty.result.now in
+    let name = c.last_name_of.result.now in
     let are = c.in_ok-targets.ensures.targets in
-    let target : IsLookupResultAndLastNameOfPath t.kept c.args.to.now targets.target name = record { leads = are.target; named = c.last_name_or_empty.ensures ∙ ap last_name_of_path (ap (map (λ name. name.now)) c.deref.ensures.value ∙ c.in_ok-names.ensures) } in
-    let read = answered t mid c.given_or_looked_up_rename_targets.result targets c.in_ok-targets.was c.given_or_looked_up_rename_targets.ensures.reading in
-    let can = shift_found t c.args.root c.requires.rests c.args.from.now c.args.to.now c.show_path_names_are_valid_to_proof.ensures c.show_block_facts_to_proof.ensures.large c.show_block_facts_to_proof.ensures.bytes c.requires.can c.requires.apart source
-    (source_for t.kept c.args.from.now targets.entry source are.entry c.rename_source_of_found_entry-source.ensures) mid.kept.history targets.target name target in
+    let target : IsResultAndName t.kept c.args.to.now targets.target name = record { leads = are.target; named = c.last_name_of.ensures ∙ ap last_name (ap (map (λ name. name.now)) c.deref.ensures.value ∙ c.in_ok-names.ensures) } in
+    let read = answered t mid c.given_or_found.result targets c.in_ok-targets.was c.given_or_found.ensures.reading in
+    let can = shift_found t c.args.root c.requires.rests c.args.from.now c.args.to.now c.lemma_valid_names.ensures c.lemma_block_facts.ensures.large c.lemma_block_facts.ensures.bytes c.requires.can c.requires.apart source
+    (source_for t.kept c.args.from.now targets.entry source are.entry c.found_rename_source-source.ensures) mid.kept.history targets.target name target in
     (c.args.from.now, c.args.to.now, subst (λ k. CanMoveOntoFound k c.args.from.now c.args.to.now source targets.target name) (sym (read_is t.kept mid.kept read.only)) can)
 
 pub returns-in_err-names : goal.returns-in_err-names
@@ -39,28 +39,28 @@ returns-in_err-names g c =
 pub returns-in_err-targets : goal.returns-in_err-targets
 returns-in_err-targets g c =
     let p = err_from_is_err_and c.from_residual-in_err-targets.result c.from_residual-in_err-targets.ensures.1 in
-    only_read_change c.args.thread.now c.args.root c.requires.rests c.given_or_looked_up_rename_targets.new.thread _ _ c.from_residual-in_err-targets.result p.0 p.1
-    (passed _ _ c.given_or_looked_up_rename_targets.result c.from_residual-in_err-targets.result _ p.0 c.in_err-targets.was p.1 p.2 c.given_or_looked_up_rename_targets.ensures.reading)
+    only_read_change c.args.thread.now c.args.root c.requires.rests c.given_or_found.new.thread _ _ c.from_residual-in_err-targets.result p.0 p.1
+    (passed _ _ c.given_or_found.result c.from_residual-in_err-targets.result _ p.0 c.in_err-targets.was p.1 p.2 c.given_or_found.ensures.reading)
 
 pub returns : goal.returns
 returns g c =
     let t = c.args.thread.now in
-    let mid = c.given_or_looked_up_rename_targets.new.thread in
-    let new = c.move_entry_onto_found_target.new.thread in
+    let mid = c.given_or_found.new.thread in
+    let new = c.move_onto_found.new.thread in
     let from = c.args.from.now in
     let to = c.args.to.now in
-    let source = c.rename_source_of_found_entry-source.result in
+    let source = c.found_rename_source-source.result in
     let targets = c.in_ok-targets.targets in
-    let name = c.last_name_or_empty.result.now in
+    let name = c.last_name_of.result.now in
     let are = c.in_ok-targets.ensures.targets in
-    let target : IsLookupResultAndLastNameOfPath t.kept to targets.target name = record { leads = are.target; named = c.last_name_or_empty.ensures ∙ ap last_name_of_path (ap (map (λ name. name.now)) c.deref.ensures.value ∙ c.in_ok-names.ensures) } in
-    let read = answered t mid c.given_or_looked_up_rename_targets.result targets c.in_ok-targets.was c.given_or_looked_up_rename_targets.ensures.reading in
-    let can = shift_found t c.args.root c.requires.rests from to c.show_path_names_are_valid_to_proof.ensures c.show_block_facts_to_proof.ensures.large c.show_block_facts_to_proof.ensures.bytes c.requires.can c.requires.apart source
-    (source_for t.kept from targets.entry source are.entry c.rename_source_of_found_entry-source.ensures) mid.kept.history targets.target name target in
+    let target : IsResultAndName t.kept to targets.target name = record { leads = are.target; named = c.last_name_of.ensures ∙ ap last_name (ap (map (λ name. name.now)) c.deref.ensures.value ∙ c.in_ok-names.ensures) } in
+    let read = answered t mid c.given_or_found.result targets c.in_ok-targets.was c.given_or_found.ensures.reading in
+    let can = shift_found t c.args.root c.requires.rests from to c.lemma_valid_names.ensures c.lemma_block_facts.ensures.large c.lemma_block_facts.ensures.bytes c.requires.can c.requires.apart source
+    (source_for t.kept from targets.entry source are.entry c.found_rename_source-source.ensures) mid.kept.history targets.target name target in
     let is = read_is t.kept mid.kept read.only in
-    let e = c.move_entry_onto_found_target.ensures in
+    let e = c.move_onto_found.ensures in
     let old = subst (λ k. CanMoveOntoFound k from to source targets.target name) (sym is) can in
-    let shifted = ok_then c.move_entry_onto_found_target.result _ _ (λ h. subst (λ k. HasMovedEntry k from to new.kept) is (h from to old)) e.shifted in
-    rename_does t c.args.root c.requires.rests from to c.requires.apart mid.kept.history new read.only.reads (subst (λ k. WritesOnlyThreadPairsAndFreeBlocks k new.kept) is e.device) c.move_entry_onto_found_target.result c.show_path_comes_from_bytes_to_proof.ensures.0 c.show_path_comes_from_bytes_to_proof-2.ensures.0 c.show_path_comes_from_bytes_to_proof.ensures.1 c.show_path_comes_from_bytes_to_proof-2.ensures.1
-    read.same shifted (reported_of_work mid new c.move_entry_onto_found_target.result e.errors) e.errors.works
-    (subst (λ k. SurvivesWithOldOrNewTree k new.kept (tree_after_rename from to (tree_on_disk k.disk k.pairs))) is (e.survives from to old))
+    let shifted = ok_then c.move_onto_found.result _ _ (λ h. subst (λ k. HasMovedEntry k from to new.kept) is (h from to old)) e.shifted in
+    rename_does t c.args.root c.requires.rests from to c.requires.apart mid.kept.history new read.only.reads (subst (λ k. WritesThreadFree k new.kept) is e.device) c.move_onto_found.result c.lemma_path_bytes.ensures.0 c.lemma_path_bytes-2.ensures.0 c.lemma_path_bytes.ensures.1 c.lemma_path_bytes-2.ensures.1
+    read.same shifted (reported_of_work mid new c.move_onto_found.result e.errors) e.errors.works
+    (subst (λ k. SurvivesEither k new.kept (tree_renaming from to (tree_on_disk k.disk k.pairs))) is (e.survives from to old))

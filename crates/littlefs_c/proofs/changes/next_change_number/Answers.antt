@@ -1,9 +1,9 @@
 -- The notes are those of the session's device.
 use Rattle.std.proofs.Common.{ℕ, List, Option, None, Some, ap, length, subst, ◌≡◌, ◌∙◌}
 use Rattle.std.specs.Prelude.{IfSome}
-use Rattle.lfs_device.specs.RamDevice.{history_of_ram_device}
-use Rattle.lfs_model.specs.History.{DeviceCall, DeviceCallEvent}
-use Rattle.littlefs_c.specs.Changes.{AreNoted, writes_of_history}
+use Rattle.lfs_device.specs.RamDevice.{ram_history}
+use Rattle.lfs_model.specs.session.History.{DeviceCall, CallEvent}
+use Rattle.littlefs_c.specs.ChangeLog.{AreNoted, history_writes}
 use Rattle.littlefs_c.specs.Fetches.{IsNextChange}
 use Rattle.littlefs_c.specs.declared.notes.Change.{Change}
 use Rattle.littlefs_c.proofs.changes.next_change_number.Goals as goal
@@ -14,5 +14,5 @@ at_calls first kept calls (Some n) noted is = is calls noted
 
 pub returns-clause-number : goal.returns-clause-number
 returns-clause-number c =
-    subst (λ (h : List DeviceCallEvent). IsNextChange (writes_of_history h) c.begin.result) (ap (λ d. history_of_ram_device d.inner) c.inner.ensures ∙ c.device.ensures.history)
+    subst (λ (h : List CallEvent). IsNextChange (history_writes h) c.begin.result) (ap (λ d. ram_history d.inner) c.inner.ensures ∙ c.device.ensures.history)
     (at_calls c.notes.result.now.first c.notes.result.now.changes.items _ c.begin.result c.notes.ensures c.begin.ensures.number)

@@ -1,7 +1,7 @@
 use Rattle.std.proofs.Common.{inr, subst, sym}
-use Rattle.lfs_device.specs.RamDevice.{history_of_ram_device}
-use Rattle.littlefs_c.specs.Calls.{IsErrorPreventingSessionOnImage, IsUncalledDeviceWithImage}
-use Rattle.littlefs_c.specs.Configs.{profile_of_config}
+use Rattle.lfs_device.specs.RamDevice.{ram_history}
+use Rattle.littlefs_c.specs.ImageCalls.{IsSessionError, IsFreshDevice}
+use Rattle.littlefs_c.specs.Configs.{config_profile}
 use Rattle.littlefs_c.proofs.Images.{none_below}
 use Rattle.littlefs_c.proofs.Mountings.{mounted_with_limits, prevented_by}
 use Rattle.littlefs_c.proofs.starts.mount_by_limits.Goals as goal
@@ -10,15 +10,15 @@ pub returns-in-Ok-clause-ok : goal.returns-in-Ok-clause-ok
 returns-in-Ok-clause-ok c =
     let k = c.args.config.now in
     let d = c.new.result.inner in
-    mounted_with_limits k c.args.image.now d c.profile-profile.result (history_of_ram_device d) c.in-Ok.session c.in_ok-ram.ensures.ok.0
-    (subst (IsUncalledDeviceWithImage k.block_size k.page (profile_of_config k) c.args.image.now) (sym c.new.ensures) c.in_ok-ram.ensures.ok.1) c.profile-profile.ensures c.in-Ok.ensures.begun c.in-Ok.ensures.longer
+    mounted_with_limits k c.args.image.now d c.profile-profile.result (ram_history d) c.in-Ok.session c.in_ok-ram.ensures.ok.0
+    (subst (IsFreshDevice k.block_size k.page (config_profile k) c.args.image.now) (sym c.new.ensures) c.in_ok-ram.ensures.ok.1) c.profile-profile.ensures c.in-Ok.ensures.begun c.in-Ok.ensures.longer
 
 pub returns-in-Err-clause-err : goal.returns-in-Err-clause-err
 returns-in-Err-clause-err c =
     let k = c.args.config.now in
     let d = c.new.result.inner in
     inr
-    (subst (λ p. IsErrorPreventingSessionOnImage k.block_size k.page p c.args.image.now c.in-Err.error) c.profile-profile.ensures
-    (prevented_by k.block_size k.page (profile_of_config k) c.args.image.now d
-    (subst (IsUncalledDeviceWithImage k.block_size k.page (profile_of_config k) c.args.image.now) (sym c.new.ensures) c.in_ok-ram.ensures.ok.1) c.profile-profile.result c.in-Err.error c.in-Err.ensures.errors
+    (subst (λ p. IsSessionError k.block_size k.page p c.args.image.now c.in-Err.error) c.profile-profile.ensures
+    (prevented_by k.block_size k.page (config_profile k) c.args.image.now d
+    (subst (IsFreshDevice k.block_size k.page (config_profile k) c.args.image.now) (sym c.new.ensures) c.in_ok-ram.ensures.ok.1) c.profile-profile.result c.in-Err.error c.in-Err.ensures.errors
     (λ io. none_below _ _ (c.in-Err.ensures.back.fault io) c.in-Err._device.inner.no_fault) c.in-Err.ensures.corrupt))

@@ -1,5 +1,5 @@
 use Rattle.std.proofs.Common.{ap, sym, ◌∙◌, is_some}
-use Rattle.lfs_model.specs.Cache.{cached_bytes_of_block}
+use Rattle.lfs_model.specs.layers.Cache.{cached_bytes}
 use Rattle.lfs_blocks.proofs.EntryLemmas.{IsCache-promoted, few-shown, is_some-cached, shown-not_promoted, shown-promoted}
 use Rattle.lfs_blocks.proofs.cache.Cache.promote.Goals as goal
 
@@ -10,7 +10,7 @@ pub returns-clause-cached_log : goal.returns-clause-cached_log
 returns-clause-cached_log c =
     c.promote.ensures.value
     ∙ sym (is_some-cached c.self.inside.recent c.args.block c.self.invariant)
-    ∙ ap (λ cache. is_some (cached_bytes_of_block cache c.args.block)) c.self.view_is
+    ∙ ap (λ cache. is_some (cached_bytes cache c.args.block)) c.self.view_is
 
 pub returns-clause-first : goal.returns-clause-first
 returns-clause-first c =

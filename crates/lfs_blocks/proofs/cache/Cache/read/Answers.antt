@@ -1,5 +1,5 @@
 use Rattle.std.proofs.Common.{◌∙◌, subst}
-use Rattle.lfs_model.specs.History.{AreCallsSinceOnlyReads}
+use Rattle.lfs_model.specs.session.History.{OnlyReadsSince}
 use Rattle.lfs_model.proofs.Histories.{goes_on_by}
 use Rattle.lfs_blocks.proofs.cache.Cache.read.Goals as goal
 
@@ -10,5 +10,5 @@ returns-in-Err-NoMemory-clause-device g c =
     record {
       same = second.same ∙ first.same;
       geometry = second.geometry ∙ first.geometry;
-      reads = goes_on_by first.reads (subst (λ blocks. AreCallsSinceOnlyReads blocks (g.D.BlockDevice.history c.read_block.new.device) (g.D.BlockDevice.history c.read_range.new.device)) first.same second.reads);
+      reads = goes_on_by first.reads (subst (λ blocks. OnlyReadsSince blocks (g.D.BlockDevice.history c.read_block.new.device) (g.D.BlockDevice.history c.read_range.new.device)) first.same second.reads);
     }

@@ -1,15 +1,15 @@
 use Rattle.std.proofs.Common.{◌∷◌, true}
-use Rattle.lfs_model.specs.Blocks.{Blocks}
-use Rattle.lfs_model.specs.History.{device_call_event_with_blocks, history_with_newest_call_outcome_replaced}
-use Rattle.lfs_model.specs.History.DeviceCall.{Read}
+use Rattle.lfs_model.specs.format.Blocks.{Blocks}
+use Rattle.lfs_model.specs.session.History.{call_event, with_outcome}
+use Rattle.lfs_model.specs.session.History.DeviceCall.{Read}
 use Rattle.lfs_device.proofs.fault.FaultDeviceBlockDevice.read.Given as goal
 
 -- the call, as if it failed and left all as it was
-abbrev pub ghost-with_history_chosen_by_proof : goal.ghost-with_history_chosen_by_proof
-ghost-with_history_chosen_by_proof g a =
+abbrev pub ghost-with_ghost_history : goal.ghost-with_ghost_history
+ghost-with_ghost_history g a =
     let disk : Blocks = g.D.BlockDevice.blocks a._device.now.inner in
-    device_call_event_with_blocks (Read a._call.now.0 a._call.now.1 a._call.now.2) disk disk true ∷ a._device.now.trace.events
+    call_event (Read a._call.now.0 a._call.now.1 a._call.now.2) disk disk true ∷ a._device.now.trace.events
 
 -- the call as it went
-abbrev pub ghost-with_history_chosen_by_proof-2 : goal.ghost-with_history_chosen_by_proof-2
-ghost-with_history_chosen_by_proof-2 g a = history_with_newest_call_outcome_replaced a._call.now.0.events (g.D.BlockDevice.blocks a._device.now) a._call.now.1
+abbrev pub ghost-with_ghost_history-2 : goal.ghost-with_ghost_history-2
+ghost-with_ghost_history-2 g a = with_outcome a._call.now.0.events (g.D.BlockDevice.blocks a._device.now) a._call.now.1

@@ -1,8 +1,8 @@
 use Rattle.std.proofs.Common.{length, ◌∙◌, refl, ap, arith}
-use Rattle.lfs_model.specs.Blocks.{Blocks, bytes_after_overwrite_at, cut}
-use Rattle.lfs_model.proofs.Cuts.{HasBlocksOfCountAndSize-cut, cut-bytes_after_overwrite_at, size_fits}
+use Rattle.lfs_model.specs.format.Blocks.{Blocks, overwritten_at, cut}
+use Rattle.lfs_model.proofs.Cuts.{HasBlockSizes-cut, cut-overwritten_at, size_fits}
 use Rattle.lfs_model.proofs.Conformance.{conforms_program, conforms_next}
-use Rattle.lfs_model.proofs.Overwrites.{length-overwritten, AreBlocksEqualExceptOne-programmed}
+use Rattle.lfs_model.proofs.Overwrites.{length-overwritten, SameExcept-programmed}
 use Rattle.lfs_device.proofs.Newest.{newest_call}
 use Rattle.lfs_device.proofs.Premises.{meets_program, premises_after}
 use Rattle.lfs_device.proofs.ram.RamDeviceBlockDevice.prog.Goals as goal
@@ -11,38 +11,38 @@ pub invariant_of-self-clause-size : goal.invariant_of-self-clause-size
 invariant_of-self-clause-size c =
     let d = c.args.self.now in
     let room = size_fits d.geometry.block_size d.geometry.block_count c.args.block (length d.bytes.items) c.requires.in_device d.size in
-    ap length c.overwrite_device_bytes.ensures ∙ length-overwritten d.bytes.items c.byte_index_of_block_offset-start.result c.args.bytes.now (omega (arith, room)) ∙ d.size
+    ap length c.overwrite_device_bytes.ensures ∙ length-overwritten d.bytes.items c.byte_index-start.result c.args.bytes.now (omega (arith, room)) ∙ d.size
 
 pub returns-clause-bytes : goal.returns-clause-bytes
 returns-clause-bytes c =
     let d = c.args.self.now in
-    ap (cut d.geometry.block_size d.geometry.block_count) (c.overwrite_device_bytes.ensures ∙ ap (λ at. bytes_after_overwrite_at d.bytes.items at c.args.bytes.now) c.byte_index_of_block_offset-start.ensures)
-    ∙ cut-bytes_after_overwrite_at d.geometry.block_size d.geometry.block_count d.bytes.items c.args.block c.args.off c.args.bytes.now d.size c.requires.in_device c.requires.in_block
+    ap (cut d.geometry.block_size d.geometry.block_count) (c.overwrite_device_bytes.ensures ∙ ap (λ at. overwritten_at d.bytes.items at c.args.bytes.now) c.byte_index-start.ensures)
+    ∙ cut-overwritten_at d.geometry.block_size d.geometry.block_count d.bytes.items c.args.block c.args.off c.args.bytes.now d.size c.requires.in_device c.requires.in_block
 
 pub returns-clause-others : goal.returns-clause-others
 returns-clause-others c =
     let d = c.args.self.now in
     let disk : Blocks = cut d.geometry.block_size d.geometry.block_count d.bytes.items in
-    let shape = HasBlocksOfCountAndSize-cut d.geometry.block_size d.geometry.block_count d.bytes.items d.size in
-    rw (returns-clause-bytes c) (AreBlocksEqualExceptOne-programmed disk c.args.block c.args.off c.args.bytes.now (omega (arith, shape.count)) (omega (arith, shape.sizes c.args.block c.requires.in_device)))
+    let shape = HasBlockSizes-cut d.geometry.block_size d.geometry.block_count d.bytes.items d.size in
+    rw (returns-clause-bytes c) (SameExcept-programmed disk c.args.block c.args.off c.args.bytes.now (omega (arith, shape.count)) (omega (arith, shape.sizes c.args.block c.requires.in_device)))
 
 pub returns-clause-history : goal.returns-clause-history
-returns-clause-history c = rw (returns-clause-bytes c) c.with_history_chosen_by_proof-trace.ensures
+returns-clause-history c = rw (returns-clause-bytes c) c.with_ghost_history-trace.ensures
 
 pub invariant_of-self-clause-newest : goal.invariant_of-self-clause-newest
 invariant_of-self-clause-newest c =
     let d = c.args.self.now in
-    newest_call _ _ _ _ _ _ _ c.with_history_chosen_by_proof-trace.ensures
-    (ap (cut d.geometry.block_size d.geometry.block_count) (c.overwrite_device_bytes.ensures ∙ ap (λ at. bytes_after_overwrite_at d.bytes.items at c.args.bytes.now) c.byte_index_of_block_offset-start.ensures)
-    ∙ cut-bytes_after_overwrite_at d.geometry.block_size d.geometry.block_count d.bytes.items c.args.block c.args.off c.args.bytes.now d.size c.requires.in_device c.requires.in_block)
+    newest_call _ _ _ _ _ _ _ c.with_ghost_history-trace.ensures
+    (ap (cut d.geometry.block_size d.geometry.block_count) (c.overwrite_device_bytes.ensures ∙ ap (λ at. overwritten_at d.bytes.items at c.args.bytes.now) c.byte_index-start.ensures)
+    ∙ cut-overwritten_at d.geometry.block_size d.geometry.block_count d.bytes.items c.args.block c.args.off c.args.bytes.now d.size c.requires.in_device c.requires.in_block)
 
 pub invariant_of-self-clause-conforms : goal.invariant_of-self-clause-conforms
 invariant_of-self-clause-conforms c =
     let d = c.args.self.now in
     let disk : Blocks = cut d.geometry.block_size d.geometry.block_count d.bytes.items in
-    let shape = HasBlocksOfCountAndSize-cut d.geometry.block_size d.geometry.block_count d.bytes.items d.size in
-    let same = AreBlocksEqualExceptOne-programmed disk c.args.block c.args.off c.args.bytes.now (omega (arith, shape.count)) (omega (arith, shape.sizes c.args.block c.requires.in_device)) in
-    conforms_next c.with_history_chosen_by_proof-trace.ensures (conforms_program _ _ _ _ _ _ (λ ok. refl) same) d.conforms
+    let shape = HasBlockSizes-cut d.geometry.block_size d.geometry.block_count d.bytes.items d.size in
+    let same = SameExcept-programmed disk c.args.block c.args.off c.args.bytes.now (omega (arith, shape.count)) (omega (arith, shape.sizes c.args.block c.requires.in_device)) in
+    conforms_next c.with_ghost_history-trace.ensures (conforms_program _ _ _ _ _ _ (λ ok. refl) same) d.conforms
 
 pub invariant_of-self-clause-premises : goal.invariant_of-self-clause-premises
-invariant_of-self-clause-premises c = premises_after c.with_history_chosen_by_proof-trace.ensures (meets_program _ _ _ _ _) c.args.self.now.premises
+invariant_of-self-clause-premises c = premises_after c.with_ghost_history-trace.ensures (meets_program _ _ _ _ _) c.args.self.now.premises

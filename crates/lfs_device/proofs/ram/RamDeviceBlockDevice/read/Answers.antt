@@ -1,6 +1,6 @@
 use Rattle.std.proofs.Common.{◌+◌, List, ℕ, length, ◌∙◌, refl, ap}
 use Rattle.std.specs.Prelude.{slice_range}
-use Rattle.lfs_model.proofs.Cuts.{slice_range-block_bytes_by_number}
+use Rattle.lfs_model.proofs.Cuts.{slice_range-block_bytes}
 use Rattle.lfs_model.proofs.Conformance.{conforms_read, conforms_next}
 use Rattle.lfs_device.proofs.Premises.{meets_read, premises_after}
 use Rattle.lfs_device.proofs.ram.RamDeviceBlockDevice.read.Goals as goal
@@ -10,12 +10,12 @@ returns-clause-bytes c =
     let d = c.args.self.now in
     let n = length c.args.buf.now in
     c.copy_from_slice.ensures.after
-    ∙ ap (λ (b : List ℕ). slice_range b c.byte_index_of_block_offset-start.result (c.byte_index_of_block_offset-start.result + n)) c.deref.ensures.value
-    ∙ ap (λ at. slice_range d.bytes.items at (at + n)) c.byte_index_of_block_offset-start.ensures
-    ∙ slice_range-block_bytes_by_number d.geometry.block_size d.geometry.block_count d.bytes.items c.args.block c.args.off n c.requires.in_device c.requires.in_block
+    ∙ ap (λ (b : List ℕ). slice_range b c.byte_index-start.result (c.byte_index-start.result + n)) c.deref.ensures.value
+    ∙ ap (λ at. slice_range d.bytes.items at (at + n)) c.byte_index-start.ensures
+    ∙ slice_range-block_bytes d.geometry.block_size d.geometry.block_count d.bytes.items c.args.block c.args.off n c.requires.in_device c.requires.in_block
 
 pub invariant_of-self-clause-conforms : goal.invariant_of-self-clause-conforms
-invariant_of-self-clause-conforms c = conforms_next c.with_history_chosen_by_proof-self.ensures (conforms_read _ _ _ _ _ _ refl) c.args.self.now.conforms
+invariant_of-self-clause-conforms c = conforms_next c.with_ghost_history-self.ensures (conforms_read _ _ _ _ _ _ refl) c.args.self.now.conforms
 
 pub invariant_of-self-clause-premises : goal.invariant_of-self-clause-premises
-invariant_of-self-clause-premises c = premises_after c.with_history_chosen_by_proof-self.ensures (meets_read _ _ _ _ _) c.args.self.now.premises
+invariant_of-self-clause-premises c = premises_after c.with_ghost_history-self.ensures (meets_read _ _ _ _ _) c.args.self.now.premises

@@ -1,6 +1,6 @@
 use Rattle.std.proofs.Common.{ℕ, slice_index, ◌≡◌, ◌≢◌, ◌<◌, ◌-◌, ◌*◌, ◌%◌, ◌^◌, ap, subst, sym, ◌∙◌, arith, below_more}
 use Rattle.std.proofs.lemmas.Nat.{one_shl}
-use Rattle.lfs_file.specs.Known.{IsKnownIndex, row_of_index}
+use Rattle.lfs_file.specs.Known.{IsKnownIndex, index_row}
 use Rattle.lfs_file.proofs.Pointed.{pointer_reach, pointers_apart}
 use Rattle.lfs_file.proofs.block.FullBlocks.before_block.Goals as goal
 
@@ -16,7 +16,7 @@ loop-k-preserved c =
     let index : ℕ = c.args.index in
     let far = pointer_reach index k (omega arith) (omega arith) in
     let back : 1 * 2 ^ k % 4294967296 ≡ 2 ^ k = one_shl k 32 (omega (arith, far.1.1)) in
-    let lower = λ (j : ℕ) (less : j < k). c.note.ensures.others (index - 2 ^ j) (subst (λ n. row_of_index (index - 2 ^ j) ≢ row_of_index (index - n)) (sym back) (pointers_apart index j k (omega arith) less (omega arith))) (inv.pointers j less) in
+    let lower = λ (j : ℕ) (less : j < k). c.note.ensures.others (index - 2 ^ j) (subst (λ n. index_row (index - 2 ^ j) ≢ index_row (index - n)) (sym back) (pointers_apart index j k (omega arith) less (omega arith))) (inv.pointers j less) in
     record {
       count = inv.count;
       head = inv.head;

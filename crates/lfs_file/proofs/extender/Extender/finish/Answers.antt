@@ -1,97 +1,97 @@
 use Rattle.std.specs.Prelude.{All}
 use Rattle.std.proofs.Common.{ap, true, false, ◌≢◌, ℕ, ◌≡◌, ◌≤◌, ◌+◌, ◌++◌, ◌∙◌, List, [], ◌∷◌, length, take, sym, subst, arith}
-use Rattle.lfs_model.specs.History.{DeviceCallEvent}
+use Rattle.lfs_model.specs.session.History.{CallEvent}
 use Rattle.lfs_device.specs.declared.geometry.Geometry.{Geometry}
-use Rattle.lfs_model.specs.Blocks.{Blocks, HasBlocksOfCountAndSize, AreBlocksEqualExceptOne}
-use Rattle.lfs_model.specs.SkipLists.{list_blocks_from_head, AreListBlocks, data_of_list_block}
+use Rattle.lfs_model.specs.format.Blocks.{Blocks, HasBlockSizes, SameExcept}
+use Rattle.lfs_model.specs.format.SkipLists.{blocks_to_head, AreListBlocks, block_data}
 use Rattle.lfs_file.specs.declared.extender.ExtenderState.{ExtenderState}
 use Rattle.lfs_file.specs.declared.rest.RestLocation.TheVariants.{Closed, Shared, Handed, Held}
-use Rattle.lfs_file.specs.Fields.{growing_list_view}
-use Rattle.lfs_file.specs.Growing.{GrowingList, bytes_of_growing_list, blocks_of_growing_list, size_of_growing_list, unwritten_block_of_list, block_after_full_blocks, unwritten_block_after_full_blocks, have_last_bytes_no_block, HasGrowingListOnDisk}
+use Rattle.lfs_file.specs.Fields.{growing_view}
+use Rattle.lfs_file.specs.Growing.{GrowingList, growing_bytes, growing_blocks, growing_size, unwritten_block, rest_block, unwritten_after_full, lacks_last_block, IsOnDisk}
 use Rattle.lfs_file.proofs.Geometries.{shaped}
 use Rattle.lfs_file.proofs.Rests.{IsCounted, counted, lent}
-use Rattle.lfs_file.specs.Counts.{AddsOneEraseAndProgramPerBlock}
-use Rattle.lfs_file.specs.Finished.{IsSkipListWithBytesAndBlocks}
+use Rattle.lfs_file.specs.Counts.{WritesOnce}
+use Rattle.lfs_file.specs.Finished.{IsListOf}
 use Rattle.lfs_file.specs.declared.rest.RestLocation.{RestLocation}
 use Rattle.lfs_file.proofs.Called.{changes_none, changes_one}
 use Rattle.lfs_file.proofs.Filling.{closed_end, shared_end, handed_end}
 use Rattle.lfs_file.proofs.extender.Extender.finish.Goals as goal
 
-module _ (d : Blocks) (v : GrowingList) (size : ℕ) (is_counted : IsCounted v size) (geometry : Geometry) (same : geometry ≡ v.geometry) (shape : HasBlocksOfCountAndSize geometry.block_size geometry.block_count d) (held : HasGrowingListOnDisk d v) (some : 1 ≤ size_of_growing_list v) where
-  divided : HasBlocksOfCountAndSize v.geometry.block_size geometry.block_count d
+module _ (d : Blocks) (v : GrowingList) (size : ℕ) (is_counted : IsCounted v size) (geometry : Geometry) (same : geometry ≡ v.geometry) (shape : HasBlockSizes geometry.block_size geometry.block_count d) (held : IsOnDisk d v) (some : 1 ≤ growing_size v) where
+  divided : HasBlockSizes v.geometry.block_size geometry.block_count d
   divided = shaped d geometry v.geometry (sym same) shape
 
   any : 1 ≤ size
   any = omega (arith, some, is_counted.sum)
 
-  in_closed : v.stand ≡ Closed → IsSkipListWithBytesAndBlocks d v.geometry.block_size v.head size (bytes_of_growing_list d v) (blocks_of_growing_list d v)
+  in_closed : v.stand ≡ Closed → IsListOf d v.geometry.block_size v.head size (growing_bytes d v) (growing_blocks d v)
   in_closed is =
-      subst (λ t. IsSkipListWithBytesAndBlocks d v.geometry.block_size v.head size (bytes_of_growing_list d v) (list_blocks_from_head d v.full v.head ++ block_after_full_blocks t)) (sym is)
+      subst (λ t. IsListOf d v.geometry.block_size v.head size (growing_bytes d v) (blocks_to_head d v.full v.head ++ rest_block t)) (sym is)
       (closed_end d v.geometry.block_size geometry.block_count v.full v.head size v.rest v.geometry.valid.no_smaller divided held.chain (rw is at held.stand) any is_counted.fits is_counted.sum)
 
-  in_shared : (b : ℕ) → v.stand ≡ Shared b → IsSkipListWithBytesAndBlocks d v.geometry.block_size b size (bytes_of_growing_list d v) (blocks_of_growing_list d v)
+  in_shared : (b : ℕ) → v.stand ≡ Shared b → IsListOf d v.geometry.block_size b size (growing_bytes d v) (growing_blocks d v)
   in_shared b is =
-      subst (λ t. IsSkipListWithBytesAndBlocks d v.geometry.block_size b size (bytes_of_growing_list d v) (list_blocks_from_head d v.full v.head ++ block_after_full_blocks t)) (sym is)
+      subst (λ t. IsListOf d v.geometry.block_size b size (growing_bytes d v) (blocks_to_head d v.full v.head ++ rest_block t)) (sym is)
       (shared_end d v.geometry.block_size geometry.block_count v.full v.head b size v.rest v.geometry.valid.no_smaller divided held.chain (rw is at held.stand) (let r = is_counted.short in omega arith) is_counted.fits is_counted.sum)
 
-  in_handed : (new : Blocks) (b : ℕ) → v.stand ≡ Handed b → AreListBlocks new (v.full + 1) b → list_blocks_from_head new (v.full + 1) b ≡ list_blocks_from_head d v.full v.head ++ b ∷ [] → AreBlocksEqualExceptOne b d new
-      → take (length v.rest) (data_of_list_block new (v.full, b)) ≡ v.rest → IsSkipListWithBytesAndBlocks new v.geometry.block_size b size (bytes_of_growing_list d v) (blocks_of_growing_list d v)
+  in_handed : (new : Blocks) (b : ℕ) → v.stand ≡ Handed b → AreListBlocks new (v.full + 1) b → blocks_to_head new (v.full + 1) b ≡ blocks_to_head d v.full v.head ++ b ∷ [] → SameExcept b d new
+      → take (length v.rest) (block_data new (v.full, b)) ≡ v.rest → IsListOf new v.geometry.block_size b size (growing_bytes d v) (growing_blocks d v)
   in_handed new b is more back but begins =
-      subst (λ t. IsSkipListWithBytesAndBlocks new v.geometry.block_size b size (bytes_of_growing_list d v) (list_blocks_from_head d v.full v.head ++ block_after_full_blocks t)) (sym is)
+      subst (λ t. IsListOf new v.geometry.block_size b size (growing_bytes d v) (blocks_to_head d v.full v.head ++ rest_block t)) (sym is)
       (handed_end d new v.geometry.block_size geometry.block_count v.full v.head b size v.rest v.geometry.valid.no_smaller divided held.chain (rw is at held.stand) more back but begins
       (let r = is_counted.short in omega arith) is_counted.fits is_counted.sum)
 
 -- where the rest stands
-stood : (e : ExtenderState) (v : GrowingList) (t : RestLocation) → growing_list_view e ≡ v → e.stand ≡ t → v.stand ≡ t
+stood : (e : ExtenderState) (v : GrowingList) (t : RestLocation) → growing_view e ≡ v → e.stand ≡ t → v.stand ≡ t
 stood e v t shown is = sym (ap (λ (g : GrowingList). g.stand) shown) ∙ is
 
 pub returns-in-Closed-clause-finished : goal.returns-in-Closed-clause-finished
 returns-in-Closed-clause-finished g c =
-    subst (λ (v : GrowingList). IsSkipListWithBytesAndBlocks (g.D.BlockDevice.blocks c.args.dev.now) c.args.self.geometry.block_size v.head c.deref-state.result.now.size (bytes_of_growing_list (g.D.BlockDevice.blocks c.args.dev.now) c.args.self) (blocks_of_growing_list (g.D.BlockDevice.blocks c.args.dev.now) c.args.self)) (sym (ap growing_list_view c.deref-state.ensures ∙ c.self.view_is))
-    (in_closed (g.D.BlockDevice.blocks c.args.dev.now) c.args.self c.deref-state.result.now.size (counted c.deref-state.result.now c.args.self (lent c.deref-state.ensures c.self.invariant) (ap growing_list_view c.deref-state.ensures ∙ c.self.view_is)) _ c.requires.stands.geometry (g.met.D.BlockDevice.shape c.args.dev.now) c.requires.stands.growing c.requires.some
-    (stood c.deref-state.result.now c.args.self Closed (ap growing_list_view c.deref-state.ensures ∙ c.self.view_is) c.in-Closed.is))
+    subst (λ (v : GrowingList). IsListOf (g.D.BlockDevice.blocks c.args.dev.now) c.args.self.geometry.block_size v.head c.deref-state.result.now.size (growing_bytes (g.D.BlockDevice.blocks c.args.dev.now) c.args.self) (growing_blocks (g.D.BlockDevice.blocks c.args.dev.now) c.args.self)) (sym (ap growing_view c.deref-state.ensures ∙ c.self.view_is))
+    (in_closed (g.D.BlockDevice.blocks c.args.dev.now) c.args.self c.deref-state.result.now.size (counted c.deref-state.result.now c.args.self (lent c.deref-state.ensures c.self.invariant) (ap growing_view c.deref-state.ensures ∙ c.self.view_is)) _ c.requires.stands.geometry (g.met.D.BlockDevice.shape c.args.dev.now) c.requires.stands.growing c.requires.some
+    (stood c.deref-state.result.now c.args.self Closed (ap growing_view c.deref-state.ensures ∙ c.self.view_is) c.in-Closed.is))
 
 pub returns-in-Shared-clause-finished : goal.returns-in-Shared-clause-finished
 returns-in-Shared-clause-finished g c =
-    in_shared (g.D.BlockDevice.blocks c.args.dev.now) c.args.self c.deref-state.result.now.size (counted c.deref-state.result.now c.args.self (lent c.deref-state.ensures c.self.invariant) (ap growing_list_view c.deref-state.ensures ∙ c.self.view_is)) _ c.requires.stands.geometry (g.met.D.BlockDevice.shape c.args.dev.now) c.requires.stands.growing c.requires.some
-    c.in-Shared.block (stood c.deref-state.result.now c.args.self (Shared c.in-Shared.block) (ap growing_list_view c.deref-state.ensures ∙ c.self.view_is) c.in-Shared.is)
+    in_shared (g.D.BlockDevice.blocks c.args.dev.now) c.args.self c.deref-state.result.now.size (counted c.deref-state.result.now c.args.self (lent c.deref-state.ensures c.self.invariant) (ap growing_view c.deref-state.ensures ∙ c.self.view_is)) _ c.requires.stands.geometry (g.met.D.BlockDevice.shape c.args.dev.now) c.requires.stands.growing c.requires.some
+    c.in-Shared.block (stood c.deref-state.result.now c.args.self (Shared c.in-Shared.block) (ap growing_view c.deref-state.ensures ∙ c.self.view_is) c.in-Shared.is)
 
 pub returns-in-Closed-clause-size : goal.returns-in-Closed-clause-size
-returns-in-Closed-clause-size g c = (counted c.deref-state.result.now c.args.self (lent c.deref-state.ensures c.self.invariant) (ap growing_list_view c.deref-state.ensures ∙ c.self.view_is)).sum
+returns-in-Closed-clause-size g c = (counted c.deref-state.result.now c.args.self (lent c.deref-state.ensures c.self.invariant) (ap growing_view c.deref-state.ensures ∙ c.self.view_is)).sum
 
 pub returns-in-Shared-clause-size : goal.returns-in-Shared-clause-size
-returns-in-Shared-clause-size g c = (counted c.deref-state.result.now c.args.self (lent c.deref-state.ensures c.self.invariant) (ap growing_list_view c.deref-state.ensures ∙ c.self.view_is)).sum
+returns-in-Shared-clause-size g c = (counted c.deref-state.result.now c.args.self (lent c.deref-state.ensures c.self.invariant) (ap growing_view c.deref-state.ensures ∙ c.self.view_is)).sum
 
 pub returns-in-Held-clause-size : goal.returns-in-Held-clause-size
-returns-in-Held-clause-size g c = (counted c.deref-state.result.now c.args.self (lent c.deref-state.ensures c.self.invariant) (ap growing_list_view c.deref-state.ensures ∙ c.self.view_is)).sum
+returns-in-Held-clause-size g c = (counted c.deref-state.result.now c.args.self (lent c.deref-state.ensures c.self.invariant) (ap growing_view c.deref-state.ensures ∙ c.self.view_is)).sum
 
 pub returns-clause-size : goal.returns-clause-size
-returns-clause-size g c = (counted c.deref-state.result.now c.args.self (lent c.deref-state.ensures c.self.invariant) (ap growing_list_view c.deref-state.ensures ∙ c.self.view_is)).sum
+returns-clause-size g c = (counted c.deref-state.result.now c.args.self (lent c.deref-state.ensures c.self.invariant) (ap growing_view c.deref-state.ensures ∙ c.self.view_is)).sum
 
 -- contents that are in memory alone aren't ended
-never_held : (t : RestLocation) → have_last_bytes_no_block t ≡ false → t ≡ Held → ⊥
-never_held t listed is = let other : true ≡ false = subst (λ k. have_last_bytes_no_block k ≡ false) is listed in absurd (cc)
+never_held : (t : RestLocation) → lacks_last_block t ≡ false → t ≡ Held → ⊥
+never_held t listed is = let other : true ≡ false = subst (λ k. lacks_last_block k ≡ false) is listed in absurd (cc)
 
 pub returns-in-Held-clause-finished : goal.returns-in-Held-clause-finished
-returns-in-Held-clause-finished g c = absurd (never_held c.args.self.stand c.requires.listed (stood c.deref-state.result.now c.args.self Held (ap growing_list_view c.deref-state.ensures ∙ c.self.view_is) c.in-Held.is))
+returns-in-Held-clause-finished g c = absurd (never_held c.args.self.stand c.requires.listed (stood c.deref-state.result.now c.args.self Held (ap growing_view c.deref-state.ensures ∙ c.self.view_is) c.in-Held.is))
 
 -- where no block waits, none is written
-none_written : (v : GrowingList) (old : List DeviceCallEvent) → unwritten_block_of_list v ≡ [] → AddsOneEraseAndProgramPerBlock 0 (length (unwritten_block_of_list v)) old old
+none_written : (v : GrowingList) (old : List CallEvent) → unwritten_block v ≡ [] → WritesOnce 0 (length (unwritten_block v)) old old
 none_written v old none = record { erased = omega (arith, ap length none); programmed = omega (arith, ap length none) }
 
 pub returns-in-Closed-clause-writes : goal.returns-in-Closed-clause-writes
-returns-in-Closed-clause-writes g c = none_written c.args.self _ (ap unwritten_block_after_full_blocks (stood c.deref-state.result.now c.args.self Closed (ap growing_list_view c.deref-state.ensures ∙ c.self.view_is) c.in-Closed.is))
+returns-in-Closed-clause-writes g c = none_written c.args.self _ (ap unwritten_after_full (stood c.deref-state.result.now c.args.self Closed (ap growing_view c.deref-state.ensures ∙ c.self.view_is) c.in-Closed.is))
 
 pub returns-in-Shared-clause-writes : goal.returns-in-Shared-clause-writes
-returns-in-Shared-clause-writes g c = none_written c.args.self _ (ap unwritten_block_after_full_blocks (stood c.deref-state.result.now c.args.self (Shared c.in-Shared.block) (ap growing_list_view c.deref-state.ensures ∙ c.self.view_is) c.in-Shared.is))
+returns-in-Shared-clause-writes g c = none_written c.args.self _ (ap unwritten_after_full (stood c.deref-state.result.now c.args.self (Shared c.in-Shared.block) (ap growing_view c.deref-state.ensures ∙ c.self.view_is) c.in-Shared.is))
 
 pub returns-in-Held-clause-writes : goal.returns-in-Held-clause-writes
-returns-in-Held-clause-writes g c = none_written c.args.self _ (ap unwritten_block_after_full_blocks (stood c.deref-state.result.now c.args.self Held (ap growing_list_view c.deref-state.ensures ∙ c.self.view_is) c.in-Held.is))
+returns-in-Held-clause-writes g c = none_written c.args.self _ (ap unwritten_after_full (stood c.deref-state.result.now c.args.self Held (ap growing_view c.deref-state.ensures ∙ c.self.view_is) c.in-Held.is))
 
 pub returns-clause-writes : goal.returns-clause-writes
 returns-clause-writes g c =
     let one = c.in_ok-write_last_block-in-Handed.ensures.writes in
-    let count = ap (λ t. length (unwritten_block_after_full_blocks t)) (stood c.deref-state.result.now c.args.self (Handed c.in-Handed.block) (ap growing_list_view c.deref-state.ensures ∙ c.self.view_is) c.in-Handed.is) in
+    let count = ap (λ t. length (unwritten_after_full t)) (stood c.deref-state.result.now c.args.self (Handed c.in-Handed.block) (ap growing_view c.deref-state.ensures ∙ c.self.view_is) c.in-Handed.is) in
     record { erased = omega (arith, one.erased, count); programmed = omega (arith, one.programmed, count) }
 
 pub returns-in-Closed-clause-device : goal.returns-in-Closed-clause-device
@@ -104,19 +104,19 @@ pub returns-in-Held-clause-device : goal.returns-in-Held-clause-device
 returns-in-Held-clause-device g c = changes_none g.D.BlockDevice _ c.args.dev.now
 
 -- the block that waits is written
-written : (t : RestLocation) (b : ℕ) → t ≡ Handed b → (other : ℕ) → All (λ c. c ≢ other) (unwritten_block_after_full_blocks t) → b ≢ other
-written t b is other apart = (subst (λ k. All (λ c. c ≢ other) (unwritten_block_after_full_blocks k)) is apart) 0 0 (omega arith)
+written : (t : RestLocation) (b : ℕ) → t ≡ Handed b → (other : ℕ) → All (λ c. c ≢ other) (unwritten_after_full t) → b ≢ other
+written t b is other apart = (subst (λ k. All (λ c. c ≢ other) (unwritten_after_full k)) is apart) 0 0 (omega arith)
 
 pub returns-in_err-write_last_block-in-Handed-clause-device : goal.returns-in_err-write_last_block-in-Handed-clause-device
 returns-in_err-write_last_block-in-Handed-clause-device g c =
-    changes_one g.D.BlockDevice (written c.args.self.stand c.in-Handed.block (stood c.deref-state.result.now c.args.self (Handed c.in-Handed.block) (ap growing_list_view c.deref-state.ensures ∙ c.self.view_is) c.in-Handed.is)) (changes_none g.D.BlockDevice _ c.args.dev.now) c.write_last_block.ensures.device
+    changes_one g.D.BlockDevice (written c.args.self.stand c.in-Handed.block (stood c.deref-state.result.now c.args.self (Handed c.in-Handed.block) (ap growing_view c.deref-state.ensures ∙ c.self.view_is) c.in-Handed.is)) (changes_none g.D.BlockDevice _ c.args.dev.now) c.write_last_block.ensures.device
 
 pub returns-clause-device : goal.returns-clause-device
 returns-clause-device g c =
-    changes_one g.D.BlockDevice (written c.args.self.stand c.in-Handed.block (stood c.deref-state.result.now c.args.self (Handed c.in-Handed.block) (ap growing_list_view c.deref-state.ensures ∙ c.self.view_is) c.in-Handed.is)) (changes_none g.D.BlockDevice _ c.args.dev.now) c.write_last_block.ensures.device
+    changes_one g.D.BlockDevice (written c.args.self.stand c.in-Handed.block (stood c.deref-state.result.now c.args.self (Handed c.in-Handed.block) (ap growing_view c.deref-state.ensures ∙ c.self.view_is) c.in-Handed.is)) (changes_none g.D.BlockDevice _ c.args.dev.now) c.write_last_block.ensures.device
 
 pub returns-clause-finished : goal.returns-clause-finished
 returns-clause-finished g c =
     let wrote = c.in_ok-write_last_block-in-Handed.ensures in
-    in_handed (g.D.BlockDevice.blocks c.args.dev.now) c.args.self c.deref-state.result.now.size (counted c.deref-state.result.now c.args.self (lent c.deref-state.ensures c.self.invariant) (ap growing_list_view c.deref-state.ensures ∙ c.self.view_is)) _ c.requires.stands.geometry (g.met.D.BlockDevice.shape c.args.dev.now) c.requires.stands.growing c.requires.some _
-    c.in-Handed.block (stood c.deref-state.result.now c.args.self (Handed c.in-Handed.block) (ap growing_list_view c.deref-state.ensures ∙ c.self.view_is) c.in-Handed.is) wrote.appended.chain wrote.appended.back wrote.device.others wrote.bytes
+    in_handed (g.D.BlockDevice.blocks c.args.dev.now) c.args.self c.deref-state.result.now.size (counted c.deref-state.result.now c.args.self (lent c.deref-state.ensures c.self.invariant) (ap growing_view c.deref-state.ensures ∙ c.self.view_is)) _ c.requires.stands.geometry (g.met.D.BlockDevice.shape c.args.dev.now) c.requires.stands.growing c.requires.some _
+    c.in-Handed.block (stood c.deref-state.result.now c.args.self (Handed c.in-Handed.block) (ap growing_view c.deref-state.ensures ∙ c.self.view_is) c.in-Handed.is) wrote.appended.chain wrote.appended.back wrote.device.others wrote.bytes

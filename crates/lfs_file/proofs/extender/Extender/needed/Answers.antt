@@ -1,16 +1,16 @@
 use Rattle.std.proofs.Common.{ℕ, suc, ◌≡◌, ◌+◌, ◌-◌, ◌*◌, ◌<◌, ◌≤◌, length, drop, sym, ap, subst, ◌∙◌, arith}
 use Rattle.std.proofs.lemmas.List.{length-take}
-use Rattle.lfs_model.specs.SkipLists.{pointer_count_of_list_block}
-use Rattle.lfs_file.proofs.Sizes.{byte_count_before_list_block-least, list_block_count_for_size-above, list_block_count_for_size-within}
+use Rattle.lfs_model.specs.format.SkipLists.{pointer_count}
+use Rattle.lfs_file.proofs.Sizes.{bytes_before_block-least, block_count_for-above, block_count_for-within}
 use Rattle.lfs_file.specs.declared.extender.ExtenderState.{ExtenderState}
-use Rattle.lfs_file.specs.Fields.{HasOneBlockBufferAndConsistentNumbers, growing_list_view}
+use Rattle.lfs_file.specs.Fields.{IsExtender, growing_view}
 use Rattle.lfs_file.specs.declared.rest.RestLocation.{RestLocation}
 use Rattle.lfs_file.specs.declared.rest.RestLocation.TheVariants.{Closed, Shared, Handed, Held}
-use Rattle.lfs_file.specs.Growing.{GrowingList, size_of_growing_list, count_of_blocks_to_append, unwritten_block_after_full_blocks}
+use Rattle.lfs_file.specs.Growing.{GrowingList, growing_size, appended_count, unwritten_after_full}
 use Rattle.lfs_file.proofs.extender.Extender.needed.Goals as goal
 use Rattle.lfs_file.proofs.extender.Extender.needed.Goals.{in-Handed, in_default}
 
-few_pending : (t : RestLocation) (full all : ℕ) → full < all → full + length (unwritten_block_after_full_blocks t) ≤ all
+few_pending : (t : RestLocation) (full all : ℕ) → full < all → full + length (unwritten_after_full t) ≤ all
 few_pending Closed full all lt = omega arith
 few_pending (Shared b) full all lt = omega arith
 few_pending (Handed b) full all lt = omega arith
@@ -19,8 +19,8 @@ few_pending Held full all lt = omega arith
 pub overflow_add-result : goal.overflow_add-result
 overflow_add-result c =
     let e = c.deref-state.result.now in
-    let step = (subst HasOneBlockBufferAndConsistentNumbers (sym c.deref-state.ensures) c.self.invariant).in_step in
-    let few = byte_count_before_list_block-least e.geometry.block_size e.front.count e.geometry.valid.no_smaller in
+    let step = (subst IsExtender (sym c.deref-state.ensures) c.self.invariant).in_step in
+    let few = bytes_before_block-least e.geometry.block_size e.front.count e.geometry.valid.no_smaller in
     let sum = step.sum in
     let fits = step.fits in
     elim c.match-state.branch [ in-Handed w ↦ omega arith | in_default w ↦ omega arith ]
@@ -28,33 +28,33 @@ overflow_add-result c =
 pub overflow_sub-result : goal.overflow_sub-result
 overflow_sub-result c =
     let e = c.deref-state.result.now in
-    let sum = (subst HasOneBlockBufferAndConsistentNumbers (sym c.deref-state.ensures) c.self.invariant).in_step.sum in
+    let sum = (subst IsExtender (sym c.deref-state.ensures) c.self.invariant).in_step.sum in
     let some = c.requires.some in
-    let more = list_block_count_for_size-above e.geometry.block_size (e.size + c.args.n) e.front.count e.geometry.valid.no_smaller (omega arith) in
+    let more = block_count_for-above e.geometry.block_size (e.size + c.args.n) e.front.count e.geometry.valid.no_smaller (omega arith) in
     elim c.match-state.branch [ in-Handed w ↦ omega (arith, c.blocks_for.ensures) | in_default w ↦ omega (arith, c.blocks_for.ensures) ]
 
 pub returns-clause-within : goal.returns-clause-within
 returns-clause-within c =
     let v : GrowingList = c.args.self.now in
-    few_pending v.stand v.full _ (list_block_count_for_size-above v.geometry.block_size (size_of_growing_list v + c.args.n) v.full v.geometry.valid.no_smaller (let some = c.requires.some in omega arith))
+    few_pending v.stand v.full _ (block_count_for-above v.geometry.block_size (growing_size v + c.args.n) v.full v.geometry.valid.no_smaller (let some = c.requires.some in omega arith))
 
-none_needed : (e : ExtenderState) (n : ℕ) → HasOneBlockBufferAndConsistentNumbers e → length (unwritten_block_after_full_blocks e.stand) ≡ 1 → n ≤ e.geometry.block_size - e.filled → 0 ≡ count_of_blocks_to_append (growing_list_view e) n
+none_needed : (e : ExtenderState) (n : ℕ) → IsExtender e → length (unwritten_after_full e.stand) ≡ 1 → n ≤ e.geometry.block_size - e.filled → 0 ≡ appended_count (growing_view e) n
 none_needed e n has one fits =
     let step = has.in_step in
     let low = step.low in
     let high = step.high in
-    let rest = length-take (e.filled - 4 * pointer_count_of_list_block e.front.count) (drop (4 * pointer_count_of_list_block e.front.count) e.buffer.items) in
-    let within = list_block_count_for_size-within e.geometry.block_size (size_of_growing_list (growing_list_view e) + n) (suc e.front.count) e.geometry.valid.no_smaller (omega arith) in
+    let rest = length-take (e.filled - 4 * pointer_count e.front.count) (drop (4 * pointer_count e.front.count) e.buffer.items) in
+    let within = block_count_for-within e.geometry.block_size (growing_size (growing_view e) + n) (suc e.front.count) e.geometry.valid.no_smaller (omega arith) in
     omega arith
 
 pub returns-then-n-state-clause-count : goal.returns-then-n-state-clause-count
 returns-then-n-state-clause-count c =
     let test = c.if-begun-eq1.true in
     let same = c.deref-state.ensures in
-    subst (λ (g : GrowingList). 0 ≡ count_of_blocks_to_append g c.args.n) (ap growing_list_view same ∙ c.self.view_is)
-    (none_needed c.deref-state.result.now c.args.n (subst HasOneBlockBufferAndConsistentNumbers (sym same) c.self.invariant) (elim c.match-state.branch [ in-Handed w ↦ ap (λ t. length (unwritten_block_after_full_blocks t)) w.in-Handed.is | in_default w ↦ absurd (omega (arith, w.begun-is)) ]) c.if-n-state.true)
+    subst (λ (g : GrowingList). 0 ≡ appended_count g c.args.n) (ap growing_view same ∙ c.self.view_is)
+    (none_needed c.deref-state.result.now c.args.n (subst IsExtender (sym same) c.self.invariant) (elim c.match-state.branch [ in-Handed w ↦ ap (λ t. length (unwritten_after_full t)) w.in-Handed.is | in_default w ↦ absurd (omega (arith, w.begun-is)) ]) c.if-n-state.true)
 
 pub returns-then-n-state-clause-within : goal.returns-then-n-state-clause-within
 returns-then-n-state-clause-within c =
     let v : GrowingList = c.args.self.now in
-    few_pending v.stand v.full _ (list_block_count_for_size-above v.geometry.block_size (size_of_growing_list v + c.args.n) v.full v.geometry.valid.no_smaller (let some = c.requires.some in omega arith))
+    few_pending v.stand v.full _ (block_count_for-above v.geometry.block_size (growing_size v + c.args.n) v.full v.geometry.valid.no_smaller (let some = c.requires.some in omega arith))

@@ -2,9 +2,9 @@ use Rattle.std.proofs.Common.{⊎_elim, ℕ, ◌≡◌, ◌≢◌, ◌≤◌, �
 use Rattle.std.specs.Prelude.{All}
 use Rattle.std.proofs.Math.Seq.{take-add}
 use Rattle.std.proofs.lemmas.Bool.{cases_lt}
-use Rattle.lfs_file.specs.FewReads.{FillsBlocksByFewReads, further_pointer_count}
-use Rattle.lfs_file.specs.Known.{AreBlockPointersKnown}
-use Rattle.lfs_model.specs.History.{DeviceCallEvent, read_count_of_history}
+use Rattle.lfs_file.specs.FewReads.{FillsFew, further_pointers}
+use Rattle.lfs_file.specs.Known.{ArePointersKnown}
+use Rattle.lfs_model.specs.session.History.{CallEvent, read_count}
 use Rattle.std.proofs.lemmas.List.{append-nil, get_or_append_left, take_all, length-take-le, take-take}
 use Rattle.std.proofs.lemmas.List.Elements.{All-cons, All-nil}
 use Rattle.std.proofs.lemmas.Result.{err_from_is_err_and}
@@ -12,9 +12,9 @@ use Rattle.lfs_file.proofs.Called.{changes_none, changes_one, quiet, reported_as
 use Rattle.lfs_file.proofs.Geometries.{shaped}
 use Rattle.lfs_file.proofs.Stands.{is_grown}
 use Rattle.lfs_device.specs.declared.geometry.Geometry.{Geometry}
-use Rattle.lfs_model.specs.Blocks.{Blocks}
-use Rattle.lfs_model.specs.SkipLists.{data_capacity_of_list_block, list_blocks_from_head}
-use Rattle.lfs_file.specs.Growing.{GrowingList, AreLastBytesShorterThanBlock, bytes_of_growing_list, blocks_kept_when_growing, unwritten_block_of_list, unwritten_block_after_full_blocks, size_of_growing_list, block_for_next_bytes_with_used_count, growing_list_size_with_block_size, count_of_blocks_to_append}
+use Rattle.lfs_model.specs.format.Blocks.{Blocks}
+use Rattle.lfs_model.specs.format.SkipLists.{block_capacity, blocks_to_head}
+use Rattle.lfs_file.specs.Growing.{GrowingList, LastBytesShort, growing_bytes, kept_blocks, unwritten_block, unwritten_after_full, growing_size, block_for_next, growing_size_with, appended_count}
 use Rattle.lfs_file.specs.declared.rest.RestLocation.{RestLocation}
 use Rattle.lfs_file.proofs.Pushing.{next_among, next_inside, next_apart, next_some, next_kept, still_some, all_used}
 use Rattle.lfs_file.proofs.extender.Extender.push.Goals as goal
@@ -41,17 +41,17 @@ loop-done-init g c = record {
 }
 
 -- the size by the geometry as it was
-sum_by : (geometry now : Geometry) (g : GrowingList) (n : ℕ) → now ≡ geometry → growing_list_size_with_block_size now.block_size g ≡ n → growing_list_size_with_block_size geometry.block_size g ≡ n
-sum_by geometry now g n e is = subst (λ (k : Geometry). growing_list_size_with_block_size k.block_size g ≡ n) e is
+sum_by : (geometry now : Geometry) (g : GrowingList) (n : ℕ) → now ≡ geometry → growing_size_with now.block_size g ≡ n → growing_size_with geometry.block_size g ≡ n
+sum_by geometry now g n e is = subst (λ (k : Geometry). growing_size_with k.block_size g ≡ n) e is
 
-still : (d e : Blocks) (was now : GrowingList) (blocks : List ℕ) (used done total : ℕ) → now.geometry ≡ was.geometry → used ≤ length blocks → blocks_kept_when_growing e now ≡ blocks_kept_when_growing d was ++ take used blocks
-    → length blocks ≡ count_of_blocks_to_append was total → size_of_growing_list now ≡ size_of_growing_list was + done → done < total
-    → unwritten_block_of_list now ≡ [] → used < length blocks
+still : (d e : Blocks) (was now : GrowingList) (blocks : List ℕ) (used done total : ℕ) → now.geometry ≡ was.geometry → used ≤ length blocks → kept_blocks e now ≡ kept_blocks d was ++ take used blocks
+    → length blocks ≡ appended_count was total → growing_size now ≡ growing_size was + done → done < total
+    → unwritten_block now ≡ [] → used < length blocks
 still d e was now blocks used done total same le is count sum lt none =
     still_some d e was.geometry.block_size was now blocks used done total was.geometry.valid.no_smaller le is count (sum_by was.geometry now.geometry now _ same sum) lt none
 
-pub block_and_used_count_for_next_bytes-block-requires : goal.block_and_used_count_for_next_bytes-block-requires
-block_and_used_count_for_next_bytes-block-requires g c =
+pub block_and_used-block-requires : goal.block_and_used-block-requires
+block_and_used-block-requires g c =
     let inv = c.loop-done.invariant in
     still _ _ c.args.self.now c.loop-done.self c.args.blocks.now c.loop-done.used c.loop-done.done _ inv.same inv.some inv.kept c.requires.count inv.sum c.loop-done-test.true
 
@@ -61,24 +61,24 @@ fill_current_block-requires-clause-follows g c =
     let some = still _ _ c.args.self.now c.loop-done.self c.args.blocks.now c.loop-done.used c.loop-done.done _ inv.same inv.some inv.kept c.requires.count inv.sum c.loop-done-test.true in
     record {
       chain = inv.growing.chain;
-      in_device = subst (λ b. b < (g.D.BlockDevice.geometry c.loop-done.dev).block_count) (sym (ap (λ r. r.0) c.block_and_used_count_for_next_bytes-block.ensures))
+      in_device = subst (λ b. b < (g.D.BlockDevice.geometry c.loop-done.dev).block_count) (sym (ap (λ r. r.0) c.block_and_used-block.ensures))
           (next_inside (g.D.BlockDevice.blocks c.loop-done.dev) c.loop-done.self.full c.loop-done.self.head c.loop-done.self.rest c.loop-done.self.stand c.args.blocks.now c.loop-done.used _ (g.met.D.BlockDevice.shape c.loop-done.dev).count inv.growing.stand some
           (subst (λ (k : Geometry). All (λ b. b < k.block_count) c.args.blocks.now) (sym inv.device.geometry) c.requires.in_device));
-      apart = subst (λ b. All (λ x. x ≢ b) (list_blocks_from_head (g.D.BlockDevice.blocks c.loop-done.dev) c.loop-done.self.full c.loop-done.self.head)) (sym (ap (λ r. r.0) c.block_and_used_count_for_next_bytes-block.ensures))
+      apart = subst (λ b. All (λ x. x ≢ b) (blocks_to_head (g.D.BlockDevice.blocks c.loop-done.dev) c.loop-done.self.full c.loop-done.self.head)) (sym (ap (λ r. r.0) c.block_and_used-block.ensures))
           (next_apart (g.D.BlockDevice.blocks c.loop-done.dev) c.loop-done.self.full c.loop-done.self.head _ c.loop-done.self.stand _ c.args.blocks.now c.loop-done.used inv.growing.stand some inv.kept c.requires.distinct c.requires.apart);
     }
 
 -- the block is one of those handed in
-among : (was : GrowingList) (t : RestLocation) (blocks : List ℕ) (used block : ℕ) (next : ℕ × ℕ) → next ≡ block_for_next_bytes_with_used_count t blocks used → block ≡ next.0 → (unwritten_block_after_full_blocks t ≡ [] → used < length blocks)
-    → ((other : ℕ) → All (λ b. b ≢ other) (unwritten_block_of_list was ++ blocks) → All (λ b. b ≢ other) (unwritten_block_after_full_blocks t)) → (other : ℕ) → All (λ b. b ≢ other) (unwritten_block_of_list was ++ blocks) → block ≢ other
+among : (was : GrowingList) (t : RestLocation) (blocks : List ℕ) (used block : ℕ) (next : ℕ × ℕ) → next ≡ block_for_next t blocks used → block ≡ next.0 → (unwritten_after_full t ≡ [] → used < length blocks)
+    → ((other : ℕ) → All (λ b. b ≢ other) (unwritten_block was ++ blocks) → All (λ b. b ≢ other) (unwritten_after_full t)) → (other : ℕ) → All (λ b. b ≢ other) (unwritten_block was ++ blocks) → block ≢ other
 among was t blocks used block next e f some pending other apart =
-    subst (λ b. b ≢ other) (sym (f ∙ ap (λ r. r.0) e)) (next_among t (unwritten_block_of_list was ++ blocks) (unwritten_block_of_list was) blocks used refl some pending other apart)
+    subst (λ b. b ≢ other) (sym (f ∙ ap (λ r. r.0) e)) (next_among t (unwritten_block was ++ blocks) (unwritten_block was) blocks used refl some pending other apart)
 
 pub returns-in_err-done-clause-device : goal.returns-in_err-done-clause-device
 returns-in_err-done-clause-device g c =
     let inv = c.loop-done.invariant in
     let some = still _ _ c.args.self.now c.loop-done.self c.args.blocks.now c.loop-done.used c.loop-done.done _ inv.same inv.some inv.kept c.requires.count inv.sum c.loop-done-test.true in
-    changes_one g.D.BlockDevice (among c.args.self.now c.loop-done.self.stand c.args.blocks.now c.loop-done.used _ _ c.block_and_used_count_for_next_bytes-block.ensures refl some inv.pending) inv.device c.fill_current_block.ensures.device
+    changes_one g.D.BlockDevice (among c.args.self.now c.loop-done.self.stand c.args.blocks.now c.loop-done.used _ _ c.block_and_used-block.ensures refl some inv.pending) inv.device c.fill_current_block.ensures.device
 
 pub returns-in_err-done-clause-io : goal.returns-in_err-done-clause-io
 returns-in_err-done-clause-io g c =
@@ -86,9 +86,9 @@ returns-in_err-done-clause-io g c =
     let p = err_from_is_err_and c.from_residual.result c.from_residual.ensures.1 in
     rw (p.1, p.2) (record { faults = reported_on g.D.BlockDevice c.loop-done.invariant.quiet (reported_as g.D.BlockDevice reported.faults); errors = reported.errors })
 
-sum_more : (before : Geometry) (size done n all : ℕ) (e : GrowingList) → e.geometry ≡ before → all ≡ size + done → growing_list_size_with_block_size before.block_size e ≡ all + n
-    → growing_list_size_with_block_size e.geometry.block_size e ≡ size + (done + n)
-sum_more before size done n all e same was is = subst (λ (k : Geometry). growing_list_size_with_block_size k.block_size e ≡ size + (done + n)) (sym same) (omega (arith, was, is))
+sum_more : (before : Geometry) (size done n all : ℕ) (e : GrowingList) → e.geometry ≡ before → all ≡ size + done → growing_size_with before.block_size e ≡ all + n
+    → growing_size_with e.geometry.block_size e ≡ size + (done + n)
+sum_more before size done n all e same was is = subst (λ (k : Geometry). growing_size_with k.block_size e ≡ size + (done + n)) (sym same) (omega (arith, was, is))
 
 -- more of the bytes
 bytes_more : (front content bytes : List ℕ) (done n : ℕ) → done ≤ length bytes → n ≤ length (take (length bytes - done) (drop done bytes)) → content ≡ front ++ take done bytes
@@ -103,23 +103,23 @@ bytes_more front content bytes done n le few is =
     )
 
 -- the first block's pointers, whether that block is filled by the bytes that follow or was before
-first_known : {was mid now : GrowingList} {old between new : List DeviceCallEvent} → FillsBlocksByFewReads was mid old between → FillsBlocksByFewReads mid now between new → AreBlockPointersKnown was.full was.known → was.full < now.full
-    → read_count_of_history new + further_pointer_count (was.full + 1) ≤ read_count_of_history old + further_pointer_count now.full
+first_known : {was mid now : GrowingList} {old between new : List CallEvent} → FillsFew was mid old between → FillsFew mid now between new → ArePointersKnown was.full was.known → was.full < now.full
+    → read_count new + further_pointers (was.full + 1) ≤ read_count old + further_pointers now.full
 first_known {was} {mid} {now} before after known more =
     ⊎_elim
     (λ less. omega (arith, before.first known less, after.few))
     (λ same.
     let so_far = before.unfilled same in
     let count : mid.full ≡ was.full = omega (arith, before.longer, same) in
-    let here = after.first (subst (λ n. AreBlockPointersKnown n mid.known) (sym count) (subst (AreBlockPointersKnown was.full) (sym so_far.1) known)) (omega (arith, count, more)) in
-    omega (arith, here, so_far.0, ap (λ n. further_pointer_count (n + 1)) count))
+    let here = after.first (subst (λ n. ArePointersKnown n mid.known) (sym count) (subst (ArePointersKnown was.full) (sym so_far.1) known)) (omega (arith, count, more)) in
+    omega (arith, here, so_far.0, ap (λ n. further_pointers (n + 1)) count))
     (cases_lt was.full mid.full)
 
 pub loop-done-preserved : goal.loop-done-preserved
 loop-done-preserved g c =
     let inv = c.loop-done.invariant in
     let some = still _ _ c.args.self.now c.loop-done.self c.args.blocks.now c.loop-done.used c.loop-done.done _ inv.same inv.some inv.kept c.requires.count inv.sum c.loop-done-test.true in
-    let next = c.block_and_used_count_for_next_bytes-block.ensures in
+    let next = c.block_and_used-block.ensures in
     let here = among c.args.self.now c.loop-done.self.stand c.args.blocks.now c.loop-done.used _ _ next refl some inv.pending in
     let now = c.in_ok-done.ensures.filled in
     let written = c.in_ok-done.ensures.writes in
@@ -132,10 +132,10 @@ loop-done-preserved g c =
       bytes = now.content ∙ more.1;
       sum = sum_more _ _ _ _ _ c.fill_current_block.new.self now.geometry inv.sum now.sum;
       kept = now.kept
-          ∙ ap (λ r. list_blocks_from_head (g.D.BlockDevice.blocks c.loop-done.dev) c.loop-done.self.full c.loop-done.self.head ++ r.0 ∷ []) next
+          ∙ ap (λ r. blocks_to_head (g.D.BlockDevice.blocks c.loop-done.dev) c.loop-done.self.full c.loop-done.self.head ++ r.0 ∷ []) next
           ∙ next_kept c.loop-done.self.stand _ _ c.args.blocks.now c.loop-done.used some inv.kept
-          ∙ ap (λ r. blocks_kept_when_growing (g.D.BlockDevice.blocks c.args.dev.now) c.args.self.now ++ take r.1 c.args.blocks.now) (sym next);
-      own = λ _. (now.blocks ∙ sym now.kept, (c.in_ok-done.ensures.waits.listed, subst (λ (k : Geometry). AreLastBytesShorterThanBlock k.block_size c.fill_current_block.new.self) (sym now.geometry) now.short));
+          ∙ ap (λ r. kept_blocks (g.D.BlockDevice.blocks c.args.dev.now) c.args.self.now ++ take r.1 c.args.blocks.now) (sym next);
+      own = λ _. (now.blocks ∙ sym now.kept, (c.in_ok-done.ensures.waits.listed, subst (λ (k : Geometry). LastBytesShort k.block_size c.fill_current_block.new.self) (sym now.geometry) now.short));
       pending = λ other apart. c.in_ok-done.ensures.waits.pending other (All-cons (λ b. b ≢ other) _ [] (here other apart) (All-nil (λ b. b ≢ other)));
       same = now.geometry ∙ inv.same;
       device = changes_one g.D.BlockDevice here inv.device c.fill_current_block.ensures.device;
@@ -163,14 +163,14 @@ returns-clause-pushed g c =
     let now = c.loop-done.self in
     let own = inv.own (let s = c.requires.some in let l = inv.low in omega arith) in
     let all : c.loop-done.done ≡ length c.args.bytes.now = (let l = inv.low in omega arith) in
-    let sum = sum_by was.geometry now.geometry now _ inv.same (inv.sum ∙ ap (λ n. size_of_growing_list was + n) all) in
-    let short = subst (λ (k : Geometry). length now.rest < data_capacity_of_list_block k.block_size now.full) inv.same own.1.1 in
+    let sum = sum_by was.geometry now.geometry now _ inv.same (inv.sum ∙ ap (λ n. growing_size was + n) all) in
+    let short = subst (λ (k : Geometry). length now.rest < block_capacity k.block_size now.full) inv.same own.1.1 in
     let used = all_used _ _ was.geometry.block_size was now c.args.blocks.now c.loop-done.used _ was.geometry.valid.no_smaller inv.some inv.kept c.requires.count sum inv.growing short own.0 own.1.0 in
-    let kept = inv.kept ∙ ap (λ (l : List ℕ). blocks_kept_when_growing (g.D.BlockDevice.blocks c.args.dev.now) was ++ l) (take_all c.loop-done.used c.args.blocks.now used) in
+    let kept = inv.kept ∙ ap (λ (l : List ℕ). kept_blocks (g.D.BlockDevice.blocks c.args.dev.now) was ++ l) (take_all c.loop-done.used c.args.blocks.now used) in
     record {
       grown =
           is_grown was.geometry _ now _ _ _ _ _ (shaped _ _ was.geometry (sym (inv.device.geometry ∙ c.requires.stands.geometry)) (g.met.D.BlockDevice.shape c.loop-done.dev)) inv.same own.1.1 inv.growing
-          (inv.bytes ∙ ap (λ (l : List ℕ). bytes_of_growing_list (g.D.BlockDevice.blocks c.args.dev.now) was ++ l) (take_all c.loop-done.done c.args.bytes.now (omega arith)))
+          (inv.bytes ∙ ap (λ (l : List ℕ). growing_bytes (g.D.BlockDevice.blocks c.args.dev.now) was ++ l) (take_all c.loop-done.done c.args.bytes.now (omega arith)))
           sum kept (own.0 ∙ kept);
       waits = record { listed = own.1.0; pending = inv.pending };
     }

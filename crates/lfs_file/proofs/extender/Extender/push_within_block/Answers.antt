@@ -1,6 +1,6 @@
 use Rattle.std.proofs.Common.{◌≡◌, ◌+◌, ◌-◌, ◌*◌, ◌++◌, length, take, drop, ap, ◌∙◌, refl, arith}
-use Rattle.lfs_model.specs.SkipLists.{pointer_count_of_list_block}
-use Rattle.lfs_file.specs.Fields.{growing_list_view}
+use Rattle.lfs_model.specs.format.SkipLists.{pointer_count}
+use Rattle.lfs_file.specs.Fields.{growing_view}
 use Rattle.lfs_file.specs.Growing.{GrowingList}
 use Rattle.lfs_file.proofs.Filling.{rest_more}
 use Rattle.lfs_file.proofs.Rests.{lent}
@@ -12,9 +12,9 @@ returns-clause-pushed c =
     let has = lent c.deref_mut-state.ensures.value c.self.invariant in
     let bytes = c.args.bytes.now in
     let few = c.if-bytes-state.false in
-    let pointers = 4 * pointer_count_of_list_block e.front.count in
-    let rest : take (e.filled + length bytes - pointers) (drop pointers c.overwrite_buffer_bytes.new.all.items) ≡ (growing_list_view e).rest ++ bytes =
+    let pointers = 4 * pointer_count e.front.count in
+    let rest : take (e.filled + length bytes - pointers) (drop pointers c.overwrite_buffer_bytes.new.all.items) ≡ (growing_view e).rest ++ bytes =
     ap (λ l. take (e.filled + length bytes - pointers) (drop pointers l)) c.overwrite_buffer_bytes.ensures
     ∙ rest_more e.buffer.items bytes pointers e.filled (length bytes) has.in_step.low refl (omega (arith, has.one_block, has.in_step.high)) in
-    ap (λ r. record (growing_list_view e) { rest = r }) rest
-    ∙ ap (λ (g : GrowingList). record g { rest = g.rest ++ bytes }) (ap growing_list_view c.deref_mut-state.ensures.value ∙ c.self.view_is)
+    ap (λ r. record (growing_view e) { rest = r }) rest
+    ∙ ap (λ (g : GrowingList). record g { rest = g.rest ++ bytes }) (ap growing_view c.deref_mut-state.ensures.value ∙ c.self.view_is)

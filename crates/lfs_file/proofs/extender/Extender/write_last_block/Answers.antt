@@ -2,23 +2,23 @@ use Rattle.std.proofs.Common.{Global, Vec, ℕ, ◌≡◌, ◌≤◌, ◌-◌, �
 use Rattle.std.specs.Vec.{with_items}
 use Rattle.std.proofs.lemmas.List.{length-take-le, length-replicate, take-take, with_items_is}
 use Rattle.lfs_model.proofs.Overwrites.{length-overwritten}
-use Rattle.lfs_model.specs.Blocks.{block_bytes_by_number, bytes_after_overwrite_at}
-use Rattle.lfs_model.specs.SkipLists.{list_blocks_from_head, pointer_count_of_list_block}
+use Rattle.lfs_model.specs.format.Blocks.{block_bytes, overwritten_at}
+use Rattle.lfs_model.specs.format.SkipLists.{blocks_to_head, pointer_count}
 use Rattle.lfs_file.specs.declared.extender.ExtenderState.{ExtenderState}
-use Rattle.lfs_file.specs.Fields.{HasOneBlockBufferAndConsistentNumbers, growing_list_view}
+use Rattle.lfs_file.specs.Fields.{IsExtender, growing_view}
 use Rattle.lfs_file.specs.Growing.{GrowingList}
-use Rattle.lfs_file.specs.FewReads.{WritesLastBlockByFewReads}
-use Rattle.lfs_file.specs.Known.{AreKnownListBlocks}
+use Rattle.lfs_file.specs.FewReads.{WritesLastFew}
+use Rattle.lfs_file.specs.Known.{AreKnownBlocks}
 use Rattle.lfs_file.proofs.Rests.{after_write, lent}
 use Rattle.lfs_file.proofs.Filling.{rest_kept}
 use Rattle.lfs_file.proofs.extender.Extender.write_last_block.Goals as goal
 
 pub write_block-requires-clause-known : goal.write_block-requires-clause-known
 write_block-requires-clause-known g c =
-    subst (λ (v : GrowingList). AreKnownListBlocks (list_blocks_from_head (g.D.BlockDevice.blocks c.args.dev.now) v.full v.head) v.known) (sym (ap growing_list_view c.deref_mut-state.ensures.value ∙ c.self.view_is)) c.requires.known
+    subst (λ (v : GrowingList). AreKnownBlocks (blocks_to_head (g.D.BlockDevice.blocks c.args.dev.now) v.full v.head) v.known) (sym (ap growing_view c.deref_mut-state.ensures.value ∙ c.self.view_is)) c.requires.known
 
 -- the buffer is one block still
-one_block : (e : ExtenderState) (all : Vec ℕ Global) (buf : List ℕ) (end : ℕ) → HasOneBlockBufferAndConsistentNumbers e → e.filled ≤ end → end ≤ e.geometry.block_size → all.items ≡ bytes_after_overwrite_at e.buffer.items e.filled (replicate (end - e.filled) 255)
+one_block : (e : ExtenderState) (all : Vec ℕ Global) (buf : List ℕ) (end : ℕ) → IsExtender e → e.filled ≤ end → end ≤ e.geometry.block_size → all.items ≡ overwritten_at e.buffer.items e.filled (replicate (end - e.filled) 255)
     → length buf ≡ length all.items → length (with_items all buf).items ≡ e.geometry.block_size
 one_block e all buf end has low within is long =
     let padding = length-overwritten e.buffer.items e.filled (replicate (end - e.filled) 255) (omega (arith, length-replicate {A = ℕ} (end - e.filled) 255, has.one_block)) in
@@ -32,7 +32,7 @@ invariant_of-self g c =
     let low = c.next_multiple_of-end.ensures.lower_bound in
     let within : end ≤ e.geometry.block_size = search rules in
     after_write e _ c.write_block.new.front has
-    (one_block e c.fill_buffer_range_with_byte.new.all c.write_block.new.buf end has low within c.fill_buffer_range_with_byte.ensures (omega (arith, c.write_block.auto.buf, ap length c.as_mut_slice-buffer.ensures.value)))
+    (one_block e c.fill_buffer_range.new.all c.write_block.new.buf end has low within c.fill_buffer_range.ensures (omega (arith, c.write_block.auto.buf, ap length c.as_mut_slice-buffer.ensures.value)))
     c.write_block.ensures.front.count c.write_block.ensures.front.below
 
 pub invariant_of-self-2 : goal.invariant_of-self-2
@@ -43,13 +43,13 @@ invariant_of-self-2 g c =
     let low = c.next_multiple_of-end.ensures.lower_bound in
     let within : end ≤ e.geometry.block_size = search rules in
     after_write e _ c.write_block.new.front has
-    (one_block e c.fill_buffer_range_with_byte.new.all c.write_block.new.buf end has low within c.fill_buffer_range_with_byte.ensures (omega (arith, c.write_block.auto.buf, ap length c.as_mut_slice-buffer.ensures.value)))
+    (one_block e c.fill_buffer_range.new.all c.write_block.new.buf end has low within c.fill_buffer_range.ensures (omega (arith, c.write_block.auto.buf, ap length c.as_mut_slice-buffer.ensures.value)))
     c.write_block.ensures.front.count c.write_block.ensures.front.below
 
 pub returns-clause-few : goal.returns-clause-few
 returns-clause-few g c =
     let read = c.in_ok-write_block.ensures.few in
-    subst (λ (v : GrowingList). WritesLastBlockByFewReads v (g.D.BlockDevice.history c.args.dev.now) (g.D.BlockDevice.history c.write_block.new.dev)) (ap growing_list_view c.deref_mut-state.ensures.value ∙ c.self.view_is)
+    subst (λ (v : GrowingList). WritesLastFew v (g.D.BlockDevice.history c.args.dev.now) (g.D.BlockDevice.history c.write_block.new.dev)) (ap growing_view c.deref_mut-state.ensures.value ∙ c.self.view_is)
     (record { few = read.few; none = λ all. (read.none all).1 })
 
 pub returns-clause-bytes : goal.returns-clause-bytes
@@ -57,17 +57,17 @@ returns-clause-bytes g c =
     let e = c.deref_mut-state.result.now in
     let same = c.deref_mut-state.ensures.value in
     let has = lent same c.self.invariant in
-    let p : ℕ = 4 * pointer_count_of_list_block e.front.count in
+    let p : ℕ = 4 * pointer_count e.front.count in
     let k : ℕ = e.filled - p in
     let end : ℕ = c.next_multiple_of-end.result in
     let low = c.next_multiple_of-end.ensures.lower_bound in
     let within : end ≤ e.geometry.block_size = search rules in
     let rest = length-take-le k (drop p e.buffer.items) (omega (arith, has.one_block, has.in_step.high, length-drop p e.buffer.items)) in
     let padding : List ℕ = replicate (end - e.filled) 255 in
-    let block : List ℕ = block_bytes_by_number (g.D.BlockDevice.blocks c.write_block.new.dev) c.args.block in
-    subst (λ (v : GrowingList). take (length v.rest) (drop (4 * pointer_count_of_list_block v.full) block) ≡ v.rest) (ap growing_list_view same ∙ c.self.view_is)
+    let block : List ℕ = block_bytes (g.D.BlockDevice.blocks c.write_block.new.dev) c.args.block in
+    subst (λ (v : GrowingList). take (length v.rest) (drop (4 * pointer_count v.full) block) ≡ v.rest) (ap growing_view same ∙ c.self.view_is)
     (ap (λ n. take n (drop p block)) rest
     ∙ sym (take-take k (end - p) (drop p block) (omega arith))
-    ∙ ap (take k) (c.in_ok-write_block.ensures.bytes ∙ ap (λ (l : List ℕ). take (end - p) (drop p l)) (c.as_mut_slice-buffer.ensures.value ∙ c.fill_buffer_range_with_byte.ensures))
+    ∙ ap (take k) (c.in_ok-write_block.ensures.bytes ∙ ap (λ (l : List ℕ). take (end - p) (drop p l)) (c.as_mut_slice-buffer.ensures.value ∙ c.fill_buffer_range.ensures))
     ∙ take-take k (end - p) _ (omega arith)
     ∙ rest_kept e.buffer.items padding p e.filled has.in_step.low (omega (arith, length-replicate {A = ℕ} (end - e.filled) 255, has.one_block)))

@@ -5,23 +5,23 @@ use Rattle.std.proofs.Math.Nat.{one-le-pow}
 use Rattle.lfs_device.specs.declared.geometry.Geometry.{Geometry}
 use Rattle.std.proofs.lemmas.Result.{err_from_is_err_and}
 use lib.Pow.{pow_mono}
-use Rattle.lfs_model.specs.Blocks.{Blocks, block_bytes_by_number}
-use Rattle.lfs_model.specs.SkipLists.{AreListBlocks, word_at_offset, list_blocks_from_head}
-use Rattle.lfs_file.specs.Known.{AreKnownListBlocks}
+use Rattle.lfs_model.specs.format.Blocks.{Blocks, block_bytes}
+use Rattle.lfs_model.specs.format.SkipLists.{AreListBlocks, word_at, blocks_to_head}
+use Rattle.lfs_file.specs.Known.{AreKnownBlocks}
 use Rattle.lfs_file.proofs.Back.{FewSteps, no_steps, step_back, few_steps}
 use Rattle.lfs_file.proofs.Called.{list_as, list_on, not_read, read_on, quiet}
 use Rattle.lfs_file.proofs.Chains.{head_of_back, in_range_at, length_back, pointer_at}
 use Rattle.lfs_file.proofs.known.KnownBlocks.find_block.Goals as goal
 
 -- a block of a list is one of the device
-outside : (d : Blocks) (last head at block count : ℕ) → length d ≡ count → AreListBlocks d (last + 1) head → at ≤ last → block ≡ slice_index (list_blocks_from_head d (last + 1) head) at → count ≤ block → ⊥
+outside : (d : Blocks) (last head at block count : ℕ) → length d ≡ count → AreListBlocks d (last + 1) head → at ≤ last → block ≡ slice_index (blocks_to_head d (last + 1) head) at → count ≤ block → ⊥
 outside d last head at block count len chain le is past = let lt = in_range_at d (last + 1) head at chain (omega arith) in omega (arith, lt, is)
 
 pub loop-at-init : goal.loop-at-init
 loop-at-init g c = record {
   low = c.nearest_block-at.ensures.low;
   high = c.nearest_block-at.ensures.high;
-  found = λ chain known. c.nearest_block-at.ensures.block (list_blocks_from_head (g.D.BlockDevice.blocks c.args.dev.now) (c.args.last + 1) c.args.head) known (length_back (g.D.BlockDevice.blocks c.args.dev.now) (c.args.last + 1) c.args.head)
+  found = λ chain known. c.nearest_block-at.ensures.block (blocks_to_head (g.D.BlockDevice.blocks c.args.dev.now) (c.args.last + 1) c.args.head) known (length_back (g.D.BlockDevice.blocks c.args.dev.now) (c.args.last + 1) c.args.head)
       (sym (head_of_back (g.D.BlockDevice.blocks c.args.dev.now) c.args.last c.args.head));
   known = λ chain known. known;
   device = not_read g.D.BlockDevice c.args.dev.now;
@@ -69,16 +69,16 @@ loop-at-preserved g c =
     let k : ℕ = min (trailing_zeros w32 at) c.ilog2.result in
     let one = c.read_block_pointer.ensures.few in
     let less : 1 ≤ 2 ^ k = one-le-pow k 2 (omega arith) in
-    let next : AreListBlocks old (c.args.last + 1) c.args.head → AreKnownListBlocks (list_blocks_from_head old (c.args.last + 1) c.args.head) c.args.self.now → c.in_ok-block.block ≡ slice_index (list_blocks_from_head old (c.args.last + 1) c.args.head) (at - 1 * 2 ^ c.min-skip.result % 4294967296) = λ chain known.
+    let next : AreListBlocks old (c.args.last + 1) c.args.head → AreKnownBlocks (blocks_to_head old (c.args.last + 1) c.args.head) c.args.self.now → c.in_ok-block.block ≡ slice_index (blocks_to_head old (c.args.last + 1) c.args.head) (at - 1 * 2 ^ c.min-skip.result % 4294967296) = λ chain known.
     c.in_ok-block.ensures.word
-    ∙ ap (λ d. word_at_offset (block_bytes_by_number d c.loop-at.block) (4 * c.min-skip.result)) inv.device.same
+    ∙ ap (λ d. word_at (block_bytes d c.loop-at.block) (4 * c.min-skip.result)) inv.device.same
     ∙ pointer_at old c.args.last c.args.head at c.min-skip.result chain (omega arith) inv.high (let e = c.min-skip.ensures in omega arith) c.loop-at.block (inv.found chain known)
-    ∙ ap (λ n. slice_index (list_blocks_from_head old (c.args.last + 1) c.args.head) (at - n)) (ap (λ n. 2 ^ n) c.min-skip.ensures ∙ sym s) in
+    ∙ ap (λ n. slice_index (blocks_to_head old (c.args.last + 1) c.args.head) (at - n)) (ap (λ n. 2 ^ n) c.min-skip.ensures ∙ sym s) in
     record {
       low = omega arith;
       high = (let h = inv.high in omega arith);
       found = next;
-      known = λ chain known. c.note.ensures.blocks (list_blocks_from_head old (c.args.last + 1) c.args.head) (inv.known chain known) (next chain known);
+      known = λ chain known. c.note.ensures.blocks (blocks_to_head old (c.args.last + 1) c.args.head) (inv.known chain known) (next chain known);
       device = read_on g.D.BlockDevice inv.device c.read_block_pointer.ensures.reading.device;
       quiet = quiet g.D.BlockDevice c.in_ok-block.ensures.reading.faults ∙ inv.quiet;
       few = λ m lt.

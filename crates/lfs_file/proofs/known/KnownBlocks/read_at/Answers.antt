@@ -3,8 +3,8 @@ use Rattle.std.proofs.lemmas.Bool.Decides.{nat_tests}
 use Rattle.std.proofs.lemmas.List.{take_at}
 use Rattle.std.proofs.lemmas.Result.{err_from_is_err_and}
 use Rattle.lfs_device.specs.declared.geometry.Geometry.{Geometry}
-use Rattle.lfs_model.specs.Blocks.{Blocks, HasBlocksOfCountAndSize, block_bytes_by_number}
-use Rattle.lfs_model.specs.SkipLists.{IsPlaceOfByteInList, IsSkipList, pointer_count_of_list_block, list_block_count_for_size, list_blocks_from_head, bytes_of_skip_list, word_at_offset}
+use Rattle.lfs_model.specs.format.Blocks.{Blocks, HasBlockSizes, block_bytes}
+use Rattle.lfs_model.specs.format.SkipLists.{IsBytePlace, IsSkipList, pointer_count, block_count_for, blocks_to_head, list_bytes, word_at}
 use Rattle.lfs_file.proofs.Sizes.{blocks_for-last, place-lt, place_unique, place-mono, placed}
 use Rattle.lfs_file.proofs.Gathered.{IsPart, IsReadPass, filled, turn_bytes, turn_rest, turn_before, turn_index}
 use Rattle.lfs_file.proofs.Geometries.{count_by, last_is, chain, sized, shaped}
@@ -31,8 +31,8 @@ find_block-requires g c =
     let lt = place-lt c.geometry-block_size.result.block_size c.args.size _ _ _ large c.place-index.ensures (omega arith) in
     omega (arith, lt, c.blocks_for.ensures)
 
-same_count : (geometry made : Geometry) (size : ℕ) → made ≡ geometry → list_block_count_for_size made.block_size size ≡ list_block_count_for_size geometry.block_size size
-same_count geometry made size e = ap (λ (k : Geometry). list_block_count_for_size k.block_size size) e
+same_count : (geometry made : Geometry) (size : ℕ) → made ≡ geometry → block_count_for made.block_size size ≡ block_count_for geometry.block_size size
+same_count geometry made size e = ap (λ (k : Geometry). block_count_for k.block_size size) e
 
 pub returns-in_err-block-clause-corrupt : goal.returns-in_err-block-clause-corrupt
 returns-in_err-block-clause-corrupt g c =
@@ -68,33 +68,33 @@ blocks-2-init g c =
       in_range = c.in_ok-block.ensures.in_range;
       found = λ ok known i off is.
           c.in_ok-block.ensures.found (chain old size c.args.head c.args.size c.blocks_for.result large c.blocks_for.ensures ok) (known_by old c.args.head _ _ c.args.self.now (sym count) known)
-          ∙ ap (λ n. slice_index (list_blocks_from_head old n c.args.head) c.place-index.result.0) count
-          ∙ ap (slice_index (list_blocks_from_head old (list_block_count_for_size size c.args.size) c.args.head)) (place_unique size _ _ _ _ _ c.place-index.ensures is);
+          ∙ ap (λ n. slice_index (blocks_to_head old n c.args.head) c.place-index.result.0) count
+          ∙ ap (slice_index (blocks_to_head old (block_count_for size c.args.size) c.args.head)) (place_unique size _ _ _ _ _ c.place-index.ensures is);
       known = λ ok known. known_by old c.args.head _ _ c.find_block.new.self count
           (c.find_block.ensures.known (chain old size c.args.head c.args.size c.blocks_for.result large c.blocks_for.ensures ok) (known_by old c.args.head _ _ c.args.self.now (sym count) known));
-      bytes = λ ok known. nothing_yet (bytes_of_skip_list old size c.args.head c.args.size) c.args.buf.now c.args.pos c.min-len.result _ c.min-len.ensures;
+      bytes = λ ok known. nothing_yet (list_bytes old size c.args.head c.args.size) c.args.buf.now c.args.pos c.min-len.result _ c.min-len.ensures;
       rest = refl;
       device = c.find_block.ensures.reading.device;
       quiet = quiet g.D.BlockDevice c.in_ok-block.ensures.reading.faults;
       few = λ i last off end is there.
           let at = place_unique size _ _ _ _ _ c.place-index.ensures is in
-          let same = place_unique size _ _ _ _ _ c.place-index.ensures (subst (λ n. IsPlaceOfByteInList size (c.args.pos + n - 1) last end) (sym c.min-len.ensures) there) in
+          let same = place_unique size _ _ _ _ _ c.place-index.ensures (subst (λ n. IsBytePlace size (c.args.pos + n - 1) last end) (sym c.min-len.ensures) there) in
           found_at same (omega arith) (found_first count c.in_ok-block.ensures.few);
     }
 
-pub returns-in_err-read_block_bytes_into_buffer_range-clause-reading : goal.returns-in_err-read_block_bytes_into_buffer_range-clause-reading
-returns-in_err-read_block_bytes_into_buffer_range-clause-reading g c =
+pub returns-in_err-read_into_range-clause-reading : goal.returns-in_err-read_into_range-clause-reading
+returns-in_err-read_into_range-clause-reading g c =
     let inv = c.blocks-2.invariant in
-    let read = c.in_err-read_block_bytes_into_buffer_range.ensures in
-    let p = err_from_is_err_and c.from_residual-in_err-read_block_bytes_into_buffer_range.result c.from_residual-in_err-read_block_bytes_into_buffer_range.ensures.1 in
-    rw (p.1, p.2) (list_io g.D.BlockDevice (read_on g.D.BlockDevice inv.device c.read_block_bytes_into_buffer_range.ensures.device) (reported_on g.D.BlockDevice inv.quiet read.faults) read.errors)
+    let read = c.in_err-read_into_range.ensures in
+    let p = err_from_is_err_and c.from_residual-in_err-read_into_range.result c.from_residual-in_err-read_into_range.ensures.1 in
+    rw (p.1, p.2) (list_io g.D.BlockDevice (read_on g.D.BlockDevice inv.device c.read_into_range.ensures.device) (reported_on g.D.BlockDevice inv.quiet read.faults) read.errors)
 
 -- what is read at an iteration
-is_part : (block_size pos left n i off k : ℕ) → IsPlaceOfByteInList block_size (pos + left - 1) i off → k ≡ pointer_count_of_list_block i → n ≡ min left (off + 1 - 4 * k) → IsPart block_size pos left n i off
+is_part : (block_size pos left n i off k : ℕ) → IsBytePlace block_size (pos + left - 1) i off → k ≡ pointer_count i → n ≡ min left (off + 1 - 4 * k) → IsPart block_size pos left n i off
 is_part block_size pos left n i off k there many is = record { place = there; size = is ∙ ap (λ p. min left (off + 1 - 4 * p)) many }
 
-is_filled : (d same : Blocks) (new buf : List ℕ) (start n off block : ℕ) → same ≡ d → new ≡ take start buf ++ (take n (drop off (block_bytes_by_number same block)) ++ drop (start + n) buf) → new ≡ filled buf start n off (block_bytes_by_number d block)
-is_filled d same new buf start n off block e is = is ∙ ap (λ b. filled buf start n off (block_bytes_by_number b block)) e
+is_filled : (d same : Blocks) (new buf : List ℕ) (start n off block : ℕ) → same ≡ d → new ≡ take start buf ++ (take n (drop off (block_bytes same block)) ++ drop (start + n) buf) → new ≡ filled buf start n off (block_bytes d block)
+is_filled d same new buf start n off block e is = is ∙ ap (λ b. filled buf start n off (block_bytes b block)) e
 
 -- all of it is there
 all_there : (bytes new rest : List ℕ) (pos left len : ℕ) → left ≡ 0 → length new ≡ len + length rest → drop left new ≡ slice_range bytes (pos + left) (pos + len) ++ rest → take len new ≡ slice_range bytes pos (pos + len)
@@ -105,9 +105,9 @@ all_there bytes new rest pos left len none size is =
 
 -- what an iteration knows, as a turn
 turn_of : (d same : Blocks) (geometry made : Geometry) (size pos len left n i off k block : ℕ) (buf new old : List ℕ)
-    → made ≡ geometry → HasBlocksOfCountAndSize geometry.block_size geometry.block_count d → IsPlaceOfByteInList made.block_size (pos + left - 1) i off → k ≡ pointer_count_of_list_block i → n ≡ min left (off + 1 - 4 * k)
+    → made ≡ geometry → HasBlockSizes geometry.block_size geometry.block_count d → IsBytePlace made.block_size (pos + left - 1) i off → k ≡ pointer_count i → n ≡ min left (off + 1 - 4 * k)
     → 1 ≤ left → left ≤ len → len ≡ min (length old) (size - pos) → pos < size → length buf ≡ length old → block < geometry.block_count → same ≡ d
-    → new ≡ take (left - n) buf ++ (take n (drop (off + 1 - n) (block_bytes_by_number same block)) ++ drop (left - n + n) buf)
+    → new ≡ take (left - n) buf ++ (take n (drop (off + 1 - n) (block_bytes same block)) ++ drop (left - n + n) buf)
     → IsReadPass d made.block_size geometry.block_count size pos len left n i off block buf new
 turn_of d same geometry made size pos len left n i off k block buf new old e shape there many is some le len_is lt room in_range s bytes = record {
   large = made.valid.no_smaller;
@@ -123,39 +123,39 @@ turn_of d same geometry made size pos len left n i off k block buf new old e sha
 
 -- when nothing is left
 at_end : (d : Blocks) (geometry made : Geometry) (head size pos left len n : ℕ) (new buf old : List ℕ) → made ≡ geometry → n ≡ len → left ≡ 0 → length new ≡ length buf → length buf ≡ length old → len ≤ length old
-    → drop left new ≡ slice_range (bytes_of_skip_list d made.block_size head size) (pos + left) (pos + len) ++ drop len old
-    → take n new ≡ slice_range (bytes_of_skip_list d geometry.block_size head size) pos (pos + n)
+    → drop left new ≡ slice_range (list_bytes d made.block_size head size) (pos + left) (pos + len) ++ drop len old
+    → take n new ≡ slice_range (list_bytes d geometry.block_size head size) pos (pos + n)
 at_end d geometry made head size pos left len n new buf old e n_is none kept was room is =
     ap (λ k. take k new) n_is
-    ∙ all_there (bytes_of_skip_list d made.block_size head size) new (drop len old) pos left len none (omega (arith, length-drop len old)) is
-    ∙ ap (λ (k : Geometry). slice_range (bytes_of_skip_list d k.block_size head size) pos (pos + len)) e
-    ∙ ap (λ k. slice_range (bytes_of_skip_list d geometry.block_size head size) pos (pos + k)) (sym n_is)
+    ∙ all_there (list_bytes d made.block_size head size) new (drop len old) pos left len none (omega (arith, length-drop len old)) is
+    ∙ ap (λ (k : Geometry). slice_range (list_bytes d k.block_size head size) pos (pos + len)) e
+    ∙ ap (λ k. slice_range (list_bytes d geometry.block_size head size) pos (pos + k)) (sym n_is)
 
 pub returns-then-left-eq0-clause-bytes : goal.returns-then-left-eq0-clause-bytes
 returns-then-left-eq0-clause-bytes g c listed there =
     let inv = c.blocks-2.invariant in
-    let turn = turn_of _ _ _ _ c.args.size c.args.pos _ _ _ _ _ _ _ _ _ c.args.buf.now c.geometry-block_size.ensures (g.met.D.BlockDevice.shape c.args.dev.now) c.place-index-in-blocks-2.ensures c.pointer_count_at_index.ensures c.min-part.ensures
-    inv.some inv.high refl (omega arith) c.blocks-2.auto.buf inv.in_range inv.device.same c.in_ok-read_block_bytes_into_buffer_range.ensures.bytes in
+    let turn = turn_of _ _ _ _ c.args.size c.args.pos _ _ _ _ _ _ _ _ _ c.args.buf.now c.geometry-block_size.ensures (g.met.D.BlockDevice.shape c.args.dev.now) c.place-index-in-blocks-2.ensures c.pointer_count_at.ensures c.min-part.ensures
+    inv.some inv.high refl (omega arith) c.blocks-2.auto.buf inv.in_range inv.device.same c.in_ok-read_into_range.ensures.bytes in
     let ok = sized _ c.args.head c.args.size _ _ c.geometry-block_size.ensures listed in
     let known = known_by _ c.args.head _ _ c.args.self.now (sym (same_count _ _ c.args.size c.geometry-block_size.ensures)) there in
-    at_end _ _ _ c.args.head c.args.size c.args.pos _ _ _ _ _ _ c.geometry-block_size.ensures c.min-len.ensures c.if-left-eq0.true c.read_block_bytes_into_buffer_range.auto.buf c.blocks-2.auto.buf (omega arith)
+    at_end _ _ _ c.args.head c.args.size c.args.pos _ _ _ _ _ _ c.geometry-block_size.ensures c.min-len.ensures c.if-left-eq0.true c.read_into_range.auto.buf c.blocks-2.auto.buf (omega arith)
     (turn_bytes turn c.args.head _ ok (inv.found ok known _ _ c.place-index-in-blocks-2.ensures) (inv.bytes ok known))
 
 pub returns-then-left-eq0-clause-count : goal.returns-then-left-eq0-clause-count
 returns-then-left-eq0-clause-count g c =
     let inv = c.blocks-2.invariant in
-    let turn = turn_of _ _ _ _ c.args.size c.args.pos _ _ _ _ _ _ _ _ _ c.args.buf.now c.geometry-block_size.ensures (g.met.D.BlockDevice.shape c.args.dev.now) c.place-index-in-blocks-2.ensures c.pointer_count_at_index.ensures c.min-part.ensures
-    inv.some inv.high refl (omega arith) c.blocks-2.auto.buf inv.in_range inv.device.same c.in_ok-read_block_bytes_into_buffer_range.ensures.bytes in
-    (c.min-len.ensures, ap (λ k. drop k c.read_block_bytes_into_buffer_range.new.buf) c.min-len.ensures ∙ turn_rest turn ∙ inv.rest ∙ ap (λ k. drop k c.args.buf.now) (sym c.min-len.ensures))
+    let turn = turn_of _ _ _ _ c.args.size c.args.pos _ _ _ _ _ _ _ _ _ c.args.buf.now c.geometry-block_size.ensures (g.met.D.BlockDevice.shape c.args.dev.now) c.place-index-in-blocks-2.ensures c.pointer_count_at.ensures c.min-part.ensures
+    inv.some inv.high refl (omega arith) c.blocks-2.auto.buf inv.in_range inv.device.same c.in_ok-read_into_range.ensures.bytes in
+    (c.min-len.ensures, ap (λ k. drop k c.read_into_range.new.buf) c.min-len.ensures ∙ turn_rest turn ∙ inv.rest ∙ ap (λ k. drop k c.args.buf.now) (sym c.min-len.ensures))
 
 pub returns-then-left-eq0-clause-reading : goal.returns-then-left-eq0-clause-reading
 returns-then-left-eq0-clause-reading g c =
     let inv = c.blocks-2.invariant in
-    list_ok g.D.BlockDevice (read_on g.D.BlockDevice inv.device c.read_block_bytes_into_buffer_range.ensures.device) (quiet g.D.BlockDevice c.in_ok-read_block_bytes_into_buffer_range.ensures.faults ∙ inv.quiet)
+    list_ok g.D.BlockDevice (read_on g.D.BlockDevice inv.device c.read_into_range.ensures.device) (quiet g.D.BlockDevice c.in_ok-read_into_range.ensures.faults ∙ inv.quiet)
 
 -- a place by the geometry of the device
-placed_by : (geometry made : Geometry) (pos i off : ℕ) → made ≡ geometry → IsPlaceOfByteInList geometry.block_size pos i off → IsPlaceOfByteInList made.block_size pos i off
-placed_by geometry made pos i off e is = subst (λ (k : Geometry). IsPlaceOfByteInList k.block_size pos i off) (sym e) is
+placed_by : (geometry made : Geometry) (pos i off : ℕ) → made ≡ geometry → IsBytePlace geometry.block_size pos i off → IsBytePlace made.block_size pos i off
+placed_by geometry made pos i off e is = subst (λ (k : Geometry). IsBytePlace k.block_size pos i off) (sym e) is
 
 pub returns-then-left-eq0-clause-known : goal.returns-then-left-eq0-clause-known
 returns-then-left-eq0-clause-known g c listed there =
@@ -171,21 +171,21 @@ returns-then-left-eq0-clause-few g c first last off end is there =
     let is_first = placed_by _ _ _ first off made is in
     let is_last = placed_by _ _ _ last end made there in
     let low = place-mono _ _ _ _ _ _ _ is_first now (let s = inv.some in omega arith) in
-    let one = c.read_block_bytes_into_buffer_range.ensures.few in
+    let one = c.read_into_range.ensures.few in
     all_read _ (omega (arith, low)) (read_more 1 (omega (arith, one)) (found_by (same_count _ _ c.args.size made) (inv.few _ last _ end now is_last)))
 
 -- the block before is one of the list
-before_in : (d : Blocks) (geometry made now : Geometry) (head size i j : ℕ) → made ≡ geometry → now ≡ geometry → length d ≡ geometry.block_count → IsSkipList d made.block_size head size → i ≡ suc j → i < list_block_count_for_size made.block_size size
-    → now.block_count ≤ slice_index (list_blocks_from_head d (list_block_count_for_size made.block_size size) head) (i - 1) → ⊥
+before_in : (d : Blocks) (geometry made now : Geometry) (head size i j : ℕ) → made ≡ geometry → now ≡ geometry → length d ≡ geometry.block_count → IsSkipList d made.block_size head size → i ≡ suc j → i < block_count_for made.block_size size
+    → now.block_count ≤ slice_index (blocks_to_head d (block_count_for made.block_size size) head) (i - 1) → ⊥
 before_in d geometry made now head size i j e f len ok next low past =
-    let lt = in_range_at d (list_block_count_for_size made.block_size size) head (i - 1) ok.blocks (omega arith) in
+    let lt = in_range_at d (block_count_for made.block_size size) head (i - 1) ok.blocks (omega arith) in
     omega (arith, lt, len, past, ap (λ (k : Geometry). k.block_count) f)
 
 pub returns-in_err-block-2-clause-corrupt : goal.returns-in_err-block-2-clause-corrupt
 returns-in_err-block-2-clause-corrupt g c =
     let inv = c.blocks-2.invariant in
-    let turn = turn_of _ _ _ _ c.args.size c.args.pos _ _ _ _ _ _ _ _ _ c.args.buf.now c.geometry-block_size.ensures (g.met.D.BlockDevice.shape c.args.dev.now) c.place-index-in-blocks-2.ensures c.pointer_count_at_index.ensures c.min-part.ensures
-    inv.some inv.high refl (omega arith) c.blocks-2.auto.buf inv.in_range inv.device.same c.in_ok-read_block_bytes_into_buffer_range.ensures.bytes in
+    let turn = turn_of _ _ _ _ c.args.size c.args.pos _ _ _ _ _ _ _ _ _ c.args.buf.now c.geometry-block_size.ensures (g.met.D.BlockDevice.shape c.args.dev.now) c.place-index-in-blocks-2.ensures c.pointer_count_at.ensures c.min-part.ensures
+    inv.some inv.high refl (omega arith) c.blocks-2.auto.buf inv.in_range inv.device.same c.in_ok-read_into_range.ensures.bytes in
     let p = err_from_is_err_and c.from_residual-in_err-block-2.result c.from_residual-in_err-block-2.ensures.1 in
     rw (p.1, p.2) (λ is listed there.
     let size : ℕ = c.geometry-block_size.result.block_size in
@@ -196,10 +196,10 @@ returns-in_err-block-2-clause-corrupt g c =
     let before = placed size (c.args.pos + (c.blocks-2.left - c.min-part.result) - 1) c.geometry-block_size.result.valid.no_smaller in
     let next = turn_index turn more before.0 before.1.0 before.1.1 in
     let low = place-lt size c.args.size _ _ _ c.geometry-block_size.result.valid.no_smaller c.place-index-in-blocks-2.ensures (let h = inv.high in omega arith) in
-    let all : List ℕ = list_blocks_from_head old (list_block_count_for_size size c.args.size) c.args.head in
-    before_in old _ _ _ c.args.head c.args.size _ before.0 c.geometry-block_size.ensures (c.read_block_bytes_into_buffer_range.ensures.device.geometry ∙ inv.device.geometry) (g.met.D.BlockDevice.shape c.args.dev.now).count ok next low
-    (c.in_err-block-2.ensures.corrupt all is (inv.known ok known) (omega (arith, low, length_back old (list_block_count_for_size size c.args.size) c.args.head))
-    (ap (λ b. word_at_offset (block_bytes_by_number b c.blocks-2.block) 0) (c.read_block_bytes_into_buffer_range.ensures.device.same ∙ inv.device.same)
+    let all : List ℕ = blocks_to_head old (block_count_for size c.args.size) c.args.head in
+    before_in old _ _ _ c.args.head c.args.size _ before.0 c.geometry-block_size.ensures (c.read_into_range.ensures.device.geometry ∙ inv.device.geometry) (g.met.D.BlockDevice.shape c.args.dev.now).count ok next low
+    (c.in_err-block-2.ensures.corrupt all is (inv.known ok known) (omega (arith, low, length_back old (block_count_for size c.args.size) c.args.head))
+    (ap (λ b. word_at (block_bytes b c.blocks-2.block) 0) (c.read_into_range.ensures.device.same ∙ inv.device.same)
     ∙ turn_before turn c.args.head ok (inv.found ok known _ _ c.place-index-in-blocks-2.ensures) more before.0 before.1.0 before.1.1 ∙ ap (slice_index all) (let k : before.0 ≡ c.place-index-in-blocks-2.result.0 - 1 = omega (arith, next) in k))))
 
 pub returns-in_err-block-2-clause-known : goal.returns-in_err-block-2-clause-known
@@ -212,20 +212,20 @@ pub returns-in_err-block-2-clause-reading : goal.returns-in_err-block-2-clause-r
 returns-in_err-block-2-clause-reading g c =
     let inv = c.blocks-2.invariant in
     let p = err_from_is_err_and c.from_residual-in_err-block-2.result c.from_residual-in_err-block-2.ensures.1 in
-    rw (p.1, p.2) (list_on g.D.BlockDevice (read_on g.D.BlockDevice inv.device c.read_block_bytes_into_buffer_range.ensures.device) (quiet g.D.BlockDevice c.in_ok-read_block_bytes_into_buffer_range.ensures.faults ∙ inv.quiet)
+    rw (p.1, p.2) (list_on g.D.BlockDevice (read_on g.D.BlockDevice inv.device c.read_into_range.ensures.device) (quiet g.D.BlockDevice c.in_ok-read_into_range.ensures.faults ∙ inv.quiet)
     (list_as g.D.BlockDevice c.in_err-block-2.ensures.reading))
 
 pub blocks-2-preserved : goal.blocks-2-preserved
 blocks-2-preserved g c =
     let inv = c.blocks-2.invariant in
     let now = c.place-index-in-blocks-2.ensures in
-    let turn = turn_of _ _ _ _ c.args.size c.args.pos _ _ _ _ _ _ _ _ _ c.args.buf.now c.geometry-block_size.ensures (g.met.D.BlockDevice.shape c.args.dev.now) now c.pointer_count_at_index.ensures c.min-part.ensures
-    inv.some inv.high refl (omega arith) c.blocks-2.auto.buf inv.in_range inv.device.same c.in_ok-read_block_bytes_into_buffer_range.ensures.bytes in
+    let turn = turn_of _ _ _ _ c.args.size c.args.pos _ _ _ _ _ _ _ _ _ c.args.buf.now c.geometry-block_size.ensures (g.met.D.BlockDevice.shape c.args.dev.now) now c.pointer_count_at.ensures c.min-part.ensures
+    inv.some inv.high refl (omega arith) c.blocks-2.auto.buf inv.in_range inv.device.same c.in_ok-read_into_range.ensures.bytes in
     let size : ℕ = c.geometry-block_size.result.block_size in
     let large = c.geometry-block_size.result.valid.no_smaller in
     let old : Blocks = g.D.BlockDevice.blocks c.args.dev.now in
     let some : 1 ≤ c.blocks-2.left - c.min-part.result = omega arith in
-    let device = read_on g.D.BlockDevice inv.device c.read_block_bytes_into_buffer_range.ensures.device in
+    let device = read_on g.D.BlockDevice inv.device c.read_into_range.ensures.device in
     record {
       some = some;
       high = (let h = inv.high in omega arith);
@@ -233,20 +233,20 @@ blocks-2-preserved g c =
       found = λ ok known j end is.
           let next = turn_index turn some j end is in
           let low = place-lt size c.args.size _ _ _ large now (let h = inv.high in omega arith) in
-          let all : List ℕ = list_blocks_from_head old (list_block_count_for_size size c.args.size) c.args.head in
+          let all : List ℕ = blocks_to_head old (block_count_for size c.args.size) c.args.head in
           let back : j ≡ c.place-index-in-blocks-2.result.0 - 1 = omega (arith, next) in
-          c.in_ok-block-2.ensures.found all (inv.known ok known) (omega (arith, low, length_back old (list_block_count_for_size size c.args.size) c.args.head))
-          (ap (λ b. word_at_offset (block_bytes_by_number b c.blocks-2.block) 0) device.same ∙ turn_before turn c.args.head ok (inv.found ok known _ _ now) some j end is ∙ ap (slice_index all) back)
+          c.in_ok-block-2.ensures.found all (inv.known ok known) (omega (arith, low, length_back old (block_count_for size c.args.size) c.args.head))
+          (ap (λ b. word_at (block_bytes b c.blocks-2.block) 0) device.same ∙ turn_before turn c.args.head ok (inv.found ok known _ _ now) some j end is ∙ ap (slice_index all) back)
           ∙ ap (slice_index all) (sym back);
       known = inv.known;
       bytes = λ ok known. turn_bytes turn c.args.head _ ok (inv.found ok known _ _ now) (inv.bytes ok known);
       rest = turn_rest turn ∙ inv.rest;
       device = read_on g.D.BlockDevice device c.block_before.ensures.reading.device;
-      quiet = quiet g.D.BlockDevice c.in_ok-block-2.ensures.reading.faults ∙ quiet g.D.BlockDevice c.in_ok-read_block_bytes_into_buffer_range.ensures.faults ∙ inv.quiet;
+      quiet = quiet g.D.BlockDevice c.in_ok-block-2.ensures.reading.faults ∙ quiet g.D.BlockDevice c.in_ok-read_into_range.ensures.faults ∙ inv.quiet;
       few = λ j last off end is there.
           let next = turn_index turn some j off is in
           let order = place-mono _ _ _ _ _ _ _ now there (let h = inv.high in omega arith) in
-          let one = c.read_block_bytes_into_buffer_range.ensures.few in
+          let one = c.read_into_range.ensures.few in
           let other = c.block_before.ensures.few in
           found_at refl (omega (arith, next, order)) (read_more 2 (omega (arith, one, other)) (inv.few _ last _ end now there));
     }

@@ -1,8 +1,8 @@
 use Rattle.std.proofs.Common.{ℕ, ◌≡◌, ◌≤◌, ◌<◌, ◌+◌, ◌-◌, ◌*◌, ◌++◌, min, length, drop, slice_index, slice_range}
-use Rattle.lfs_device.specs.Calls.{ReadsOnly}
-use Rattle.lfs_model.specs.History.{fault_count_of_history}
-use Rattle.lfs_model.specs.SkipLists.{IsSkipList, IsPlaceOfByteInList, list_blocks_from_head, list_block_count_for_size, bytes_of_skip_list}
-use Rattle.lfs_file.specs.Known.{AreKnownListBlocks}
+use Rattle.lfs_device.specs.DeviceCalls.{ReadsOnly}
+use Rattle.lfs_model.specs.session.History.{fault_count}
+use Rattle.lfs_model.specs.format.SkipLists.{IsSkipList, IsBytePlace, blocks_to_head, block_count_for, list_bytes}
+use Rattle.lfs_file.specs.Known.{AreKnownBlocks}
 use Rattle.lfs_file.proofs.Recalled.{FindsWithMoreReads}
 use Rattle.lfs_file.proofs.known.KnownBlocks.read_at.Given as goal
 
@@ -17,17 +17,17 @@ invariant-blocks-2 g l =
       some : 1 ≤ l.left;
       high : l.left ≤ len;
       in_range : l.block < (geometry old).block_count;
-      found : IsSkipList (blocks old) l.block_size l.fn.head l.fn.size → AreKnownListBlocks (list_blocks_from_head (blocks old) (list_block_count_for_size l.block_size l.fn.size) l.fn.head) l.fn.self → (i off : ℕ) → IsPlaceOfByteInList l.block_size (l.fn.pos + l.left - 1) i off
-          → l.block ≡ slice_index (list_blocks_from_head (blocks old) (list_block_count_for_size l.block_size l.fn.size) l.fn.head) i;
-      known : IsSkipList (blocks old) l.block_size l.fn.head l.fn.size → AreKnownListBlocks (list_blocks_from_head (blocks old) (list_block_count_for_size l.block_size l.fn.size) l.fn.head) l.fn.self
-          → AreKnownListBlocks (list_blocks_from_head (blocks old) (list_block_count_for_size l.block_size l.fn.size) l.fn.head) l.self;
-      bytes : IsSkipList (blocks old) l.block_size l.fn.head l.fn.size → AreKnownListBlocks (list_blocks_from_head (blocks old) (list_block_count_for_size l.block_size l.fn.size) l.fn.head) l.fn.self
-          → drop l.left l.buf ≡ slice_range (bytes_of_skip_list (blocks old) l.block_size l.fn.head l.fn.size) (l.fn.pos + l.left) (l.fn.pos + len) ++ drop len l.fn.buf;
+      found : IsSkipList (blocks old) l.block_size l.fn.head l.fn.size → AreKnownBlocks (blocks_to_head (blocks old) (block_count_for l.block_size l.fn.size) l.fn.head) l.fn.self → (i off : ℕ) → IsBytePlace l.block_size (l.fn.pos + l.left - 1) i off
+          → l.block ≡ slice_index (blocks_to_head (blocks old) (block_count_for l.block_size l.fn.size) l.fn.head) i;
+      known : IsSkipList (blocks old) l.block_size l.fn.head l.fn.size → AreKnownBlocks (blocks_to_head (blocks old) (block_count_for l.block_size l.fn.size) l.fn.head) l.fn.self
+          → AreKnownBlocks (blocks_to_head (blocks old) (block_count_for l.block_size l.fn.size) l.fn.head) l.self;
+      bytes : IsSkipList (blocks old) l.block_size l.fn.head l.fn.size → AreKnownBlocks (blocks_to_head (blocks old) (block_count_for l.block_size l.fn.size) l.fn.head) l.fn.self
+          → drop l.left l.buf ≡ slice_range (list_bytes (blocks old) l.block_size l.fn.head l.fn.size) (l.fn.pos + l.left) (l.fn.pos + len) ++ drop len l.fn.buf;
       rest : drop len l.buf ≡ drop len l.fn.buf;
       device : ReadsOnly g.D.BlockDevice old l.dev;
-      quiet : fault_count_of_history (history l.dev) ≡ fault_count_of_history (history old);
-      few : (i last off end : ℕ) → IsPlaceOfByteInList l.block_size (l.fn.pos + l.left - 1) i off → IsPlaceOfByteInList l.block_size (l.fn.pos + len - 1) last end
-          → FindsWithMoreReads l.fn.self (list_block_count_for_size l.block_size l.fn.size) last l.self (history old) (history l.dev) (2 * (last - i));
+      quiet : fault_count (history l.dev) ≡ fault_count (history old);
+      few : (i last off end : ℕ) → IsBytePlace l.block_size (l.fn.pos + l.left - 1) i off → IsBytePlace l.block_size (l.fn.pos + len - 1) last end
+          → FindsWithMoreReads l.fn.self (block_count_for l.block_size l.fn.size) last l.self (history old) (history l.dev) (2 * (last - i));
     }
 
 abbrev pub decreases-blocks-2 : goal.decreases-blocks-2

@@ -1,14 +1,14 @@
 use Rattle.std.proofs.Common.{◌≡◌, None, true, is_some, arith, subst, sym}
-use Rattle.lfs_fs.specs.FileView.{open_file_at, reader_of_open_file_or_none, writer_of_open_file_or_none}
+use Rattle.lfs_fs.specs.FileView.{open_file_at, open_reader, open_writer}
 use Rattle.lfs_fs.proofs.OpenFiles.{few_set, inside_is}
 use Rattle.lfs_fs.proofs.files.Files.take.Goals as goal
 
 pub invariant_of-self : goal.invariant_of-self
 invariant_of-self c =
     let lt = inside_is c.self.inside.entries.items c.args.fd (subst (λ fs. is_some (open_file_at fs c.args.fd) ≡ true) (sym c.self.view_is) c.requires) in (
-      omega (arith, c.take_file_out_of_table.ensures.len, c.self.invariant.0),
+      omega (arith, c.take_from_table.ensures.len, c.self.invariant.0),
       (
-        few_set reader_of_open_file_or_none c.self.inside.entries.items _ c.args.fd 16 None c.take_file_out_of_table.ensures.files lt c.self.invariant.1.0 (omega arith),
-        few_set writer_of_open_file_or_none c.self.inside.entries.items _ c.args.fd 1 None c.take_file_out_of_table.ensures.files lt c.self.invariant.1.1 (omega arith),
+        few_set open_reader c.self.inside.entries.items _ c.args.fd 16 None c.take_from_table.ensures.files lt c.self.invariant.1.0 (omega arith),
+        few_set open_writer c.self.inside.entries.items _ c.args.fd 1 None c.take_from_table.ensures.files lt c.self.invariant.1.1 (omega arith),
       ),
     )

@@ -1,27 +1,27 @@
 use Rattle.std.proofs.Common.{◌≡◌, Some, is_some, ap, arith, subst, sym}
-use Rattle.lfs_fs.specs.FileView.{open_file_at, reader_of_open_file_or_none, writer_of_open_file_or_none}
+use Rattle.lfs_fs.specs.FileView.{open_file_at, open_reader, open_writer}
 use Rattle.lfs_fs.specs.declared.files.OpenFile.TheVariants as file
 use Rattle.lfs_fs.proofs.OpenFiles.{few_set, inside_is}
 use Rattle.lfs_fs.proofs.WritersInPlace.{as_many, same_files_before}
 use Rattle.lfs_fs.proofs.files.Files.write.Goals as goal
 
-pub write_by_writer_in_table-requires : goal.write_by_writer_in_table-requires
-write_by_writer_in_table-requires g c = (c.requires.0, subst (λ fs. open_file_at fs c.args.fd ≡ Some (file.Writing c.requires.0)) (sym c.self.view_is) c.requires.1, c.requires.2)
+pub write_in_table-requires : goal.write_in_table-requires
+write_in_table-requires g c = (c.requires.0, subst (λ fs. open_file_at fs c.args.fd ≡ Some (file.Writing c.requires.0)) (sym c.self.view_is) c.requires.1, c.requires.2)
 
 pub invariant_of-self : goal.invariant_of-self
 invariant_of-self g c =
     let fs = c.self.inside.entries.items in
     let e = subst (λ fs. open_file_at fs c.args.fd ≡ Some (file.Writing c.requires.0)) (sym c.self.view_is) c.requires.1 in
-    let h = c.write_by_writer_in_table.ensures.written c.requires.0 e in
+    let h = c.write_in_table.ensures.written c.requires.0 e in
     let lt = inside_is fs c.args.fd (ap is_some e) in (
-      omega (arith, c.write_by_writer_in_table.ensures.len, c.self.invariant.0),
+      omega (arith, c.write_in_table.ensures.len, c.self.invariant.0),
       (
-        few_set reader_of_open_file_or_none fs _ c.args.fd 16 _ h.only lt c.self.invariant.1.0 (omega arith),
-        few_set writer_of_open_file_or_none fs _ c.args.fd 1 _ h.only lt c.self.invariant.1.1 (as_many fs c.args.fd h.writer c.requires.0 e),
+        few_set open_reader fs _ c.args.fd 16 _ h.only lt c.self.invariant.1.0 (omega arith),
+        few_set open_writer fs _ c.args.fd 1 _ h.only lt c.self.invariant.1.1 (as_many fs c.args.fd h.writer c.requires.0 e),
       ),
     )
 
 pub returns-clause-written : goal.returns-clause-written
 returns-clause-written g c w e =
     same_files_before c.self.inside.entries.items _ c.args.fd _ c.self.view_is
-    (c.write_by_writer_in_table.ensures.written w (subst (λ fs. open_file_at fs c.args.fd ≡ Some (file.Writing w)) (sym c.self.view_is) e))
+    (c.write_in_table.ensures.written w (subst (λ fs. open_file_at fs c.args.fd ≡ Some (file.Writing w)) (sym c.self.view_is) e))

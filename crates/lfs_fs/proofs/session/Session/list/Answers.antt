@@ -1,8 +1,8 @@
 use Rattle.std.proofs.Common.{ap, map, refl, sym}
-use Rattle.lfs_model.specs.Operations as ops
-use Rattle.lfs_lookup.specs.Finds.{list_item_view}
-use Rattle.lfs_fs.specs.Replies.{reply_from_result}
-use Rattle.lfs_fs.specs.SessionView.{session_view_of_tree_and_files}
+use Rattle.lfs_model.specs.session.Operations as ops
+use Rattle.lfs_lookup.specs.Finds.{listed_item_view}
+use Rattle.lfs_fs.specs.Replies.{reply_from}
+use Rattle.lfs_fs.specs.SessionView.{view_of_session}
 use Rattle.lfs_fs.proofs.Answered.{question_call, files_asked, asked_by_checks, sound_by}
 use Rattle.lfs_fs.proofs.Stopping.{only_read, reads_of_checks}
 use Rattle.lfs_fs.proofs.Sparing.{asking_call}
@@ -14,11 +14,11 @@ pub returns : goal.returns
 returns g c =
     asking_call c.self.inside.tree c.self.inside.files _ (ops.ListAll c.args.path.now) _ _ c.self.view_is c.self.invariant.ready (λ s. refl) (λ k. absurd (cc))
     (record { few = λ l. c.check_and_list.ensures.few; none = λ l. c.check_and_list.ensures.kept; hand = λ path reply is same accepted s at ps a small. absurd (cc) })
-    (checked_ends c.self.inside.tree c.self.inside.files _ (ops.ListAll c.args.path.now) (λ items. ops.Items (map list_item_view items.items)) _ c.check_and_list.result c.check_and_list.new.tree c.self.view_is refl c.check_and_list.ensures.checks)
-    (files_asked c.args.self.now (ops.ListAll c.args.path.now) (reply_from_result (λ items. ops.Items (map list_item_view items.items)) c.check_and_list.result) c.self.inside.tree c.check_and_list.new.tree c.self.inside.files (asked_by_checks c.self.inside.tree c.self.inside.files (ops.ListAll c.args.path.now) _ c.check_and_list.result c.check_and_list.new.tree c.check_and_list.ensures.checks)
-    (question_call (session_view_of_tree_and_files c.self.inside.tree c.self.inside.files) _ (ops.ListAll c.args.path.now) (λ items. ops.Items (map list_item_view items.items)) _ c.check_and_list.result c.check_and_list.new.tree c.self.view_is
+    (checked_ends c.self.inside.tree c.self.inside.files _ (ops.ListAll c.args.path.now) (λ items. ops.Items (map listed_item_view items.items)) _ c.check_and_list.result c.check_and_list.new.tree c.self.view_is refl c.check_and_list.ensures.checks)
+    (files_asked c.args.self.now (ops.ListAll c.args.path.now) (reply_from (λ items. ops.Items (map listed_item_view items.items)) c.check_and_list.result) c.self.inside.tree c.check_and_list.new.tree c.self.inside.files (asked_by_checks c.self.inside.tree c.self.inside.files (ops.ListAll c.args.path.now) _ c.check_and_list.result c.check_and_list.new.tree c.check_and_list.ensures.checks)
+    (question_call (view_of_session c.self.inside.tree c.self.inside.files) _ (ops.ListAll c.args.path.now) (λ items. ops.Items (map listed_item_view items.items)) _ c.check_and_list.result c.check_and_list.new.tree c.self.view_is
     (sound_by c.self.inside.tree c.self.inside.files c.self.invariant.ready) refl refl (λ x p. ap ops.Items (sym p)) c.check_and_list.ensures.checks))
-    (only_read (session_view_of_tree_and_files c.self.inside.tree c.self.inside.files) _ (ops.ListAll c.args.path.now) c.check_and_list.new.tree c.self.view_is (sound_by c.self.inside.tree c.self.inside.files c.self.invariant.ready) (reads_of_checks (session_view_of_tree_and_files c.self.inside.tree c.self.inside.files) (ops.ListAll c.args.path.now) _ c.check_and_list.result c.check_and_list.new.tree c.check_and_list.ensures.checks))
+    (only_read (view_of_session c.self.inside.tree c.self.inside.files) _ (ops.ListAll c.args.path.now) c.check_and_list.new.tree c.self.view_is (sound_by c.self.inside.tree c.self.inside.files c.self.invariant.ready) (reads_of_checks (view_of_session c.self.inside.tree c.self.inside.files) (ops.ListAll c.args.path.now) _ c.check_and_list.result c.check_and_list.new.tree c.check_and_list.ensures.checks))
 
 pub invariant_of-self : goal.invariant_of-self
 invariant_of-self g c = between_checked c.self.inside.tree c.self.inside.files (ops.ListAll c.args.path.now) _ c.check_and_list.result c.check_and_list.new.tree c.self.invariant c.check_and_list.ensures.checks

@@ -5,14 +5,14 @@ use Rattle.lfs_model.proofs.Performing.{performed_turns}
 use Rattle.lfs_model.proofs.Survived.{run_survives}
 use Rattle.lfs_model.proofs.Kept.{session_shows}
 use Rattle.lfs_model.proofs.SessionSteps.{session_steps_joined}
-use Rattle.lfs_fs.specs.SessionView.{SessionView, system_state_of_session_view}
-use Rattle.lfs_fs.specs.OpView.{RefusesOnlyWithRefusalError}
+use Rattle.lfs_fs.specs.SessionView.{SessionView, system_state}
+use Rattle.lfs_fs.specs.OpView.{RefusesOnly}
 use Rattle.lfs_fs.proofs.Failing.{memory_fails_now}
 use Rattle.lfs_fs.proofs.Running.{first_op, named_further, none_run, run_further, run_ended, run_cut, silent_few}
 use Rattle.lfs_fs.proofs.session.Session.run.Goals as goal
 
 pub loop-op-init : goal.loop-op-init
-loop-op-init g c = (none_run c.args.self.now c.new-replies.result.items c.new-replies.ensures.items, subst (AllByRecursion RefusesOnlyWithRefusalError) (sym c.new-replies.ensures.items) tt)
+loop-op-init g c = (none_run c.args.self.now c.new-replies.result.items c.new-replies.ensures.items, subst (AllByRecursion RefusesOnly) (sym c.new-replies.ensures.items) tt)
 
 pub loop-op-preserved : goal.loop-op-preserved
 loop-op-preserved g c = (
@@ -29,25 +29,25 @@ returns-in-Err-clause-survives g c may = run_survives _ _ _ (inr (returns-in-Err
 pub returns-then-is_err-clause-ended : goal.returns-then-is_err-clause-ended
 returns-then-is_err-clause-ended g c =
     run_cut _ c.args.ops.now c.loop-op.op-index (first_op c.args.ops.now c.loop-op.op-index c.loop-op-test.true) c.loop-op.replies.items _ _ _ c.loop-op-test.true c.loop-op.invariant.0
-    (silent_few (system_state_of_session_view c.loop-op.self) _ (system_state_of_session_view c.fail.new.self) (ap (λ (h : SessionView). h.tree.history) c.fail.ensures.failed)) (memory_fails_now c.loop-op.self c.fail.new.self _ c.fail.ensures.failed) (c.fail.ensures.survives_loss _)
+    (silent_few (system_state c.loop-op.self) _ (system_state c.fail.new.self) (ap (λ (h : SessionView). h.tree.history) c.fail.ensures.failed)) (memory_fails_now c.loop-op.self c.fail.new.self _ c.fail.ensures.failed) (c.fail.ensures.survives_loss _)
 
 pub returns-then-is_err-clause-survives : goal.returns-then-is_err-clause-survives
 returns-then-is_err-clause-survives g c may = run_survives _ _ _ (inr (returns-then-is_err-clause-ended g c).ended) may
 
 pub returns-clause-survives : goal.returns-clause-survives
 returns-clause-survives g c may =
-    run_survives _ _ _ (inl (_, (run_ended c.args.ops.now c.loop-op.op-index c.loop-op.replies.items (system_state_of_session_view c.args.self.now) c.loop-op.self (omega arith) c.loop-op.invariant.0).performed)) may
+    run_survives _ _ _ (inl (_, (run_ended c.args.ops.now c.loop-op.op-index c.loop-op.replies.items (system_state c.args.self.now) c.loop-op.self (omega arith) c.loop-op.invariant.0).performed)) may
 
 pub returns-clause-performed : goal.returns-clause-performed
 returns-clause-performed g c = (run_ended c.args.ops.now c.loop-op.op-index c.loop-op.replies.items _ _ (omega arith) c.loop-op.invariant.0).performed
 
 pub returns-clause-headline : goal.returns-clause-headline
 returns-clause-headline g c from done answers known session_steps =
-    let run = performed_turns _ _ _ _ _ (run_ended c.args.ops.now c.loop-op.op-index c.loop-op.replies.items (system_state_of_session_view c.args.self.now) c.loop-op.self (omega arith) c.loop-op.invariant.0).performed in
-    session_shows from (system_state_of_session_view c.loop-op.self) _ _ known (session_steps_joined _ _ _ _ from (system_state_of_session_view c.args.self.now) (system_state_of_session_view c.loop-op.self) session_steps run)
+    let run = performed_turns _ _ _ _ _ (run_ended c.args.ops.now c.loop-op.op-index c.loop-op.replies.items (system_state c.args.self.now) c.loop-op.self (omega arith) c.loop-op.invariant.0).performed in
+    session_shows from (system_state c.loop-op.self) _ _ known (session_steps_joined _ _ _ _ from (system_state c.args.self.now) (system_state c.loop-op.self) session_steps run)
 
 pub returns-clause-named : goal.returns-clause-named
-returns-clause-named g c = All-from_recursion RefusesOnlyWithRefusalError c.loop-op.replies.items c.loop-op.invariant.1
+returns-clause-named g c = All-from_recursion RefusesOnly c.loop-op.replies.items c.loop-op.invariant.1
 
 pub returns-clause-no_fault : goal.returns-clause-no_fault
 returns-clause-no_fault g c = c.loop-op.invariant.0.no_fault

@@ -1,19 +1,19 @@
 use Rattle.std.proofs.Common.{refl, sym, ap, ap₂}
-use Rattle.lfs_model.specs.Operations as ops
-use Rattle.lfs_fs.specs.SessionView.{session_view_of_tree_and_files}
+use Rattle.lfs_model.specs.session.Operations as ops
+use Rattle.lfs_fs.specs.SessionView.{view_of_session}
 use Rattle.lfs_fs.proofs.Errors.{given_on}
 use Rattle.lfs_fs.proofs.SetAttrChecks.{set_attr_can}
 use Rattle.lfs_fs.proofs.Staying.{set_attr_left}
-use Rattle.lfs_model.specs.Content.{attributes_with_attribute}
+use Rattle.lfs_model.specs.format.Content.{attributes_with}
 use Rattle.lfs_tree.specs.TreeState.{tree_view}
-use Rattle.lfs_tree.specs.SlotChanges.{tree_with_attributes_changed}
+use Rattle.lfs_tree.specs.SlotChanges.{tree_with_attributes}
 use Rattle.lfs_fs.proofs.Checked.{passed_writable}
 use Rattle.lfs_fs.proofs.Called.{done_call, ended_as_call}
 use Rattle.lfs_fs.proofs.DeviceLaws.{between_checked}
 use Rattle.lfs_fs.proofs.session.Session.set_attr.Goals as goal
 
 pub set_attr-answer-requires : goal.set_attr-answer-requires
-set_attr-answer-requires g c = set_attr_can (session_view_of_tree_and_files c.self.inside.tree c.self.inside.files) c.args.path.now c.args.kind c.args.value.now _ _ (λ works. c.tree_changes_spare_open_files.ensures.few c.self.inside.tree c.self.inside.files (c.self.invariant.ready works)) c.in_ok-path.ensures
+set_attr-answer-requires g c = set_attr_can (view_of_session c.self.inside.tree c.self.inside.files) c.args.path.now c.args.kind c.args.value.now _ _ (λ works. c.lemma_files_stay.ensures.few c.self.inside.tree c.self.inside.files (c.self.invariant.ready works)) c.in_ok-path.ensures
 
 pub check_set_attr-requires : goal.check_set_attr-requires
 check_set_attr-requires g c = c.self.invariant.ready
@@ -25,8 +25,8 @@ pub invariant_of-self-2 : goal.invariant_of-self-2
 invariant_of-self-2 g c =
     let h = c.in_ok-path.ensures in
     record {
-      ready = λ works. (set_attr_left _ c.self.inside.tree c.check_set_attr.new.tree c.set_attr-answer.new.self c.self.inside.files c.args.path.now c.args.kind c.args.value.now c.set_attr-answer.result c.tree_changes_spare_open_files.ensures.stay c.self.invariant.ready h.0 h.1 c.set_attr-answer.ensures.done (λ f. f (ops.SetAttr c.args.path.now c.args.kind c.args.value.now) (c.args.path.now, (refl, sym h.2))) c.set_attr-answer.ensures.broken works).ready;
-      reported = λ works. c.show_conforming_device_calls_to_proof.ensures;
+      ready = λ works. (set_attr_left _ c.self.inside.tree c.check_set_attr.new.tree c.set_attr-answer.new.self c.self.inside.files c.args.path.now c.args.kind c.args.value.now c.set_attr-answer.result c.lemma_files_stay.ensures.stay c.self.invariant.ready h.0 h.1 c.set_attr-answer.ensures.done (λ f. f (ops.SetAttr c.args.path.now c.args.kind c.args.value.now) (c.args.path.now, (refl, sym h.2))) c.set_attr-answer.ensures.broken works).ready;
+      reported = λ works. c.lemma_calls_conform.ensures;
     }
 
 -- a check ends it
@@ -39,7 +39,7 @@ pub returns : goal.returns
 returns g c =
     let h = c.in_ok-path.ensures in
     done_call _ _ c.self.inside.tree c.check_set_attr.new.tree c.set_attr-answer.new.self c.self.inside.files _ (ops.SetAttr c.args.path.now c.args.kind c.args.value.now) c.set_attr-answer.result _ c.self.view_is c.self.invariant h.0 h.1 refl refl refl refl refl refl refl refl refl refl refl
-    (passed_writable (session_view_of_tree_and_files c.self.inside.tree c.self.inside.files) (ops.SetAttr c.args.path.now c.args.kind c.args.value.now) _ refl h.1)
-    (set_attr_left _ c.self.inside.tree c.check_set_attr.new.tree c.set_attr-answer.new.self c.self.inside.files c.args.path.now c.args.kind c.args.value.now c.set_attr-answer.result c.tree_changes_spare_open_files.ensures.stay c.self.invariant.ready h.0 h.1 c.set_attr-answer.ensures.done (λ f. f (ops.SetAttr c.args.path.now c.args.kind c.args.value.now) (c.args.path.now, (refl, sym h.2))) c.set_attr-answer.ensures.broken) c.show_conforming_device_calls_to_proof.ensures
+    (passed_writable (view_of_session c.self.inside.tree c.self.inside.files) (ops.SetAttr c.args.path.now c.args.kind c.args.value.now) _ refl h.1)
+    (set_attr_left _ c.self.inside.tree c.check_set_attr.new.tree c.set_attr-answer.new.self c.self.inside.files c.args.path.now c.args.kind c.args.value.now c.set_attr-answer.result c.lemma_files_stay.ensures.stay c.self.invariant.ready h.0 h.1 c.set_attr-answer.ensures.done (λ f. f (ops.SetAttr c.args.path.now c.args.kind c.args.value.now) (c.args.path.now, (refl, sym h.2))) c.set_attr-answer.ensures.broken) c.lemma_calls_conform.ensures
     c.set_attr-answer.ensures.done (λ f. f (ops.SetAttr c.args.path.now c.args.kind c.args.value.now) (c.args.path.now, (refl, sym h.2))) c.set_attr-answer.ensures.alone (λ f. f (ops.SetAttr c.args.path.now c.args.kind c.args.value.now) (c.args.path.now, (refl, sym h.2))) c.set_attr-answer.ensures.broken c.set_attr-answer.ensures.errors c.set_attr-answer.ensures.survives
-    (ap₂ (λ p t. tree_with_attributes_changed p (attributes_with_attribute c.args.kind c.args.value.now) t) h.2 (ap tree_view h.0.same))
+    (ap₂ (λ p t. tree_with_attributes p (attributes_with c.args.kind c.args.value.now) t) h.2 (ap tree_view h.0.same))

@@ -2,7 +2,7 @@ use Rattle.lfs_fs.proofs.ImageLimits.{read_if_ok, ready_if_read}
 use Rattle.lfs_fs.proofs.session.Session.superblock.Goals as goal
 
 pub invariant_of-self : goal.invariant_of-self
-invariant_of-self g c = ready_if_read c.self.inside.tree c.superblock-superblock.new.self c.self.inside.files c.superblock-superblock.result c.self.invariant c.superblock-superblock.ensures.asks c.show_conforming_device_calls_to_proof.ensures
+invariant_of-self g c = ready_if_read c.self.inside.tree c.superblock-superblock.new.self c.self.inside.files c.superblock-superblock.result c.self.invariant c.superblock-superblock.ensures.asks c.lemma_calls_conform.ensures
 
 pub returns-clause-read : goal.returns-clause-read
 returns-clause-read g c =

@@ -1,10 +1,10 @@
 use Rattle.std.proofs.Common.{◌≡◌, map, drop}
 use Rattle.lfs_model.specs.declared.order.NameOrder.{NameOrder}
 use Rattle.lfs_tag.specs.ContentView.{slot_view}
-use Rattle.lfs_mount.specs.KnownView.{directory_scan_view}
-use Rattle.lfs_mount.specs.Scanned.{directory_scan_after_slots}
+use Rattle.lfs_mount.specs.KnownView.{scan_view}
+use Rattle.lfs_mount.specs.Scanned.{scan_after_slots}
 use Rattle.lfs_mount.proofs.directory_scan.ScannedDirectory.scan_directory_slots.Given as goal
 
 abbrev pub invariant-loop-slot : goal.invariant-loop-slot
 invariant-loop-slot l = (order : NameOrder)
-    → directory_scan_after_slots order l.places (directory_scan_view order l.initial.self) (map slot_view l.slots) ≡ directory_scan_after_slots order l.places (directory_scan_view order l.self) (map slot_view (drop l.slot-index l.slots))
+    → scan_after_slots order l.places (scan_view order l.initial.self) (map slot_view l.slots) ≡ scan_after_slots order l.places (scan_view order l.self) (map slot_view (drop l.slot-index l.slots))

@@ -1,5 +1,5 @@
 use Rattle.std.proofs.Common.{arith}
-use Rattle.lfs_model.specs.Log.{chain_of, log_entries_of_block}
+use Rattle.lfs_model.specs.format.Log.{chain_of, block_entries}
 use Rattle.lfs_tag.proofs.Runs.{all_run, all_is, run_count}
 use Rattle.lfs_tag.proofs.entries.Entries.of_commit_sequence.Goals as goal
 
@@ -12,5 +12,5 @@ returns-clause-value c = rw (c.requires.end, c.from_bits.ensures) (all_is c.args
 pub returns-clause-small : goal.returns-clause-small
 returns-clause-small c =
     let b = c.args.block.now in
-    let count = run_count b 4 0xffffffff (log_entries_of_block b) (chain_of b).end (chain_of b).last (all_run b) in
+    let count = run_count b 4 0xffffffff (block_entries b) (chain_of b).end (chain_of b).last (all_run b) in
     omega (arith, count, c.requires.end)

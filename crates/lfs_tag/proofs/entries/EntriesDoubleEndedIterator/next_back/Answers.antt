@@ -1,5 +1,5 @@
 use Rattle.std.proofs.Common.{sym, ◌∙◌}
-use Rattle.lfs_tag.specs.Walk.{entries_left_to_walk}
+use Rattle.lfs_tag.specs.EntryWalk.{entries_left}
 use Rattle.lfs_tag.proofs.Runs.{run_past, back, shorter}
 use Rattle.lfs_tag.proofs.entries.EntriesDoubleEndedIterator.next_back.Goals as goal
 
@@ -10,21 +10,21 @@ returns-then-self-clause-steps c =
     (none, none)
 
 pub entry_before-found-requires-clause-room : goal.entry_before-found-requires-clause-room
-entry_before-found-requires-clause-room c = let s = c.self.inside in (back s.block.now s.at s.before (entries_left_to_walk s) s.end s.last c.self.invariant.run c.if-self.false).room
+entry_before-found-requires-clause-room c = let s = c.self.inside in (back s.block.now s.at s.before (entries_left s) s.end s.last c.self.invariant.run c.if-self.false).room
 
 pub entry_before-found-requires-clause-within : goal.entry_before-found-requires-clause-within
-entry_before-found-requires-clause-within c = let s = c.self.inside in (back s.block.now s.at s.before (entries_left_to_walk s) s.end s.last c.self.invariant.run c.if-self.false).within
+entry_before-found-requires-clause-within c = let s = c.self.inside in (back s.block.now s.at s.before (entries_left s) s.end s.last c.self.invariant.run c.if-self.false).within
 
 pub invariant_of-self : goal.invariant_of-self
 invariant_of-self c =
     let s = c.self.inside in
-    let b = back s.block.now s.at s.before (entries_left_to_walk s) s.end s.last c.self.invariant.run c.if-self.false in
+    let b = back s.block.now s.at s.before (entries_left s) s.end s.last c.self.invariant.run c.if-self.false in
     record { run = rw c.entry_before-found.ensures.before (b.run c.entry_before-found.result.0 c.entry_before-found.ensures.start) }
 
 steps : goal.returns-clause-steps
 steps c =
     let s = c.self.inside in
-    let b = back s.block.now s.at s.before (entries_left_to_walk s) s.end s.last c.self.invariant.run c.if-self.false in
+    let b = back s.block.now s.at s.before (entries_left s) s.end s.last c.self.invariant.run c.if-self.false in
     sym c.self.view_is ∙ rw (c.entry_before-found.ensures.tag, c.entry_before-found.ensures.bytes) (b.list c.entry_before-found.result.0 c.entry_before-found.ensures.start)
 
 pub returns-clause-steps : goal.returns-clause-steps

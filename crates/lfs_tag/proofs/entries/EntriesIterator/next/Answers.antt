@@ -19,13 +19,13 @@ pub invariant_of-self : goal.invariant_of-self
 invariant_of-self c =
     let s = c.self.inside in
     let e = log_entry_view c.in-Some.entry in
-    rw c.as_previous_of_next_tag-self-inside.ensures (record { run = run_rest s.block.now s.at s.before s.end s.last e c.if-self.false (sym c.in-Some.ensures.value) c.self.invariant.run })
+    rw c.as_previous_tag-self-inside.ensures (record { run = run_rest s.block.now s.at s.before s.end s.last e c.if-self.false (sym c.in-Some.ensures.value) c.self.invariant.run })
 
 steps : goal.returns-clause-steps
 steps c =
     let s = c.self.inside in
     let e = log_entry_view c.in-Some.entry in
-    rw c.as_previous_of_next_tag-self-inside.ensures (sym c.self.view_is ∙ run_on s.block.now s.at s.before s.end e c.if-self.false (sym c.in-Some.ensures.value))
+    rw c.as_previous_tag-self-inside.ensures (sym c.self.view_is ∙ run_on s.block.now s.at s.before s.end e c.if-self.false (sym c.in-Some.ensures.value))
 
 pub returns-clause-steps : goal.returns-clause-steps
 returns-clause-steps c = steps c

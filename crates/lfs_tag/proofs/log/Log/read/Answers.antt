@@ -1,5 +1,5 @@
 use Rattle.std.proofs.Common.{rules, sym, ap, ◌∙◌, refl, ℕ}
-use Rattle.lfs_model.specs.Log.{chain_of}
+use Rattle.lfs_model.specs.format.Log.{chain_of}
 use Rattle.lfs_model.proofs.Chains.{chain_follows, chain_stops}
 use Rattle.lfs_tag.proofs.log.Log.read.Goals as goal
 

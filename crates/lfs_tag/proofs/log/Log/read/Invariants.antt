@@ -1,12 +1,12 @@
 use Rattle.std.proofs.Common.{◌≡◌, ◌≤◌, ◌-◌, length}
-use Rattle.lfs_model.specs.Log.{longest_commit_sequence_at, chain_of}
+use Rattle.lfs_model.specs.format.Log.{longest_sequence, chain_of}
 use Rattle.lfs_model.proofs.Chains.{chain_stop}
 use Rattle.lfs_tag.proofs.log.Log.read.Given as goal
 
 abbrev pub invariant-loop-commit : goal.invariant-loop-commit
 invariant-loop-commit l = record {
   start : l.start ≤ l.end;
-  same : chain_stop (longest_commit_sequence_at l.block l.start l.end l.last) ≡ chain_stop (chain_of l.block);
+  same : chain_stop (longest_sequence l.block l.start l.end l.last) ≡ chain_stop (chain_of l.block);
 }
 
 abbrev pub decreases-loop-commit : goal.decreases-loop-commit

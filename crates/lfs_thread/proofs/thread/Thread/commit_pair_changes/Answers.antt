@@ -1,22 +1,22 @@
 use Rattle.std.proofs.Common.{◌+◌, sym, ap, ap₂, subst, ◌∙◌, inl, inr, set}
-use Rattle.lfs_device.specs.Shown.{disk_of_geometry_and_blocks}
+use Rattle.lfs_device.specs.DeviceDisk.{disk_of_blocks}
 use Rattle.lfs_pair.specs.ChangeView.{changes_view}
-use Rattle.lfs_model.proofs.Histories.{IsTrueAfterAnyPowerLossSince-weaker}
-use Rattle.lfs_thread.specs.Device.{PowerLossLeavesSuchBlocksAfterCleanErases}
-use Rattle.lfs_thread.specs.Kept.{ThreadView, disk_of_device, kept_thread_in_order, kept_thread_of_device}
-use Rattle.lfs_thread.specs.CachedLog.{cached_log, read_count_unless_cached}
-use Rattle.lfs_thread.specs.Steps.{CanChangePair, IoMeantFaultNoMemoryWroteNothing, IsPairChanged, PowerLossLeavesPairOldOrChanged, IsCommitRefused, ThreadChangesOnlyBlocksWithinReadLimit, thread_pair_at_index}
+use Rattle.lfs_model.proofs.Histories.{HoldsAtLosses-weaker}
+use Rattle.lfs_thread.specs.ThreadDevice.{LossLeavesCleanly}
+use Rattle.lfs_thread.specs.Kept.{ThreadView, disk_of_device, kept_in_order, kept_of_device}
+use Rattle.lfs_thread.specs.CachedLog.{cached_log, reads_unless_cached}
+use Rattle.lfs_thread.specs.ThreadSteps.{CanChangePair, IoMeantFaultNoMemoryWroteNothing, IsPairCommitted, LossLeavesPairChanged, RefusesCommit, ChangesWithinReads, thread_pair_at}
 use Rattle.lfs_thread.proofs.Changing.{at_there, can_commit, device_kept, device_changed, ok_outcome, full_kept, refused, left_in_thread}
 use Rattle.lfs_thread.proofs.CachedPair.{reading_there}
 use Rattle.lfs_thread.proofs.InOrder.{can_change, changed_in, left_changed_in, refused_in}
 use Rattle.lfs_thread.proofs.Reported.{reported_from, reading_from}
 use Rattle.lfs_thread.proofs.thread.Thread.commit_pair_changes.Goals as goal
-use Rattle.lfs_model.specs.Thread.{blocks_of_pair_address}
+use Rattle.lfs_model.specs.format.Thread.{address_blocks}
 
 pub commit_with_cache-outcome-requires-clause-can : goal.commit_with_cache-outcome-requires-clause-can
 commit_with_cache-outcome-requires-clause-can g c =
     let works = ap (λ (v : ThreadView). v.failed) c.self.view_is ∙ c.requires.works in
-    let can = can_change c.self.inside.order (kept_thread_of_device g.D.BlockDevice c.self.inside.device c.self.inside.pairs.items c.self.inside.map) c.args.index (changes_view c.args.changes.now) (subst (λ (v : ThreadView). CanChangePair v.kept c.args.index (changes_view c.args.changes.now)) (sym c.self.view_is) c.requires.can) in
+    let can = can_change c.self.inside.order (kept_of_device g.D.BlockDevice c.self.inside.device c.self.inside.pairs.items c.self.inside.map) c.args.index (changes_view c.args.changes.now) (subst (λ (v : ThreadView). CanChangePair v.kept c.args.index (changes_view c.args.changes.now)) (sym c.self.view_is) c.requires.can) in
     let a = at_there (disk_of_device g.D.BlockDevice c.self.inside.device) c.self.inside.pairs.items c.args.index c.index_mut.result.now can.below c.index_mut.ensures.value in
     can_commit _ _ c.self.inside.pairs.items c.self.inside.map c.args.index c.index_mut.result.now _ a (c.self.invariant works).0 can.content can.made
 
@@ -28,12 +28,12 @@ commit_with_cache-outcome-requires-clause-current g c =
 pub invariant_of-self : goal.invariant_of-self
 invariant_of-self g c ok =
     let works = ap (λ (v : ThreadView). v.failed) c.self.view_is ∙ c.requires.works in
-    let can = can_change c.self.inside.order (kept_thread_of_device g.D.BlockDevice c.self.inside.device c.self.inside.pairs.items c.self.inside.map) c.args.index (changes_view c.args.changes.now) (subst (λ (v : ThreadView). CanChangePair v.kept c.args.index (changes_view c.args.changes.now)) (sym c.self.view_is) c.requires.can) in
+    let can = can_change c.self.inside.order (kept_of_device g.D.BlockDevice c.self.inside.device c.self.inside.pairs.items c.self.inside.map) c.args.index (changes_view c.args.changes.now) (subst (λ (v : ThreadView). CanChangePair v.kept c.args.index (changes_view c.args.changes.now)) (sym c.self.view_is) c.requires.can) in
     let a = at_there (disk_of_device g.D.BlockDevice c.self.inside.device) c.self.inside.pairs.items c.args.index c.index_mut.result.now can.below c.index_mut.ensures.value in
     let e = c.commit_with_cache-outcome.ensures in (
       elim (ok_outcome c.commit_with_cache-outcome.result (sym c.is_err-self-inside.ensures.value ∙ ok)) [
         | inl done ↦ device_kept _ _ _ _ _ _ _ _ _ _ _ _ e.device.only.geometry a (c.self.invariant works).0 can (e.done done) e.device.only.others e.device.only.elsewhere
-        | inr full ↦ full_kept _ _ _ _ _ _ _ _ _ a (c.self.invariant works).0 (ap₂ disk_of_geometry_and_blocks (e.full full).device.geometry (e.full full).device.same) (e.full full).pair (e.full full).device.reads
+        | inr full ↦ full_kept _ _ _ _ _ _ _ _ _ a (c.self.invariant works).0 (ap₂ disk_of_blocks (e.full full).device.geometry (e.full full).device.same) (e.full full).pair (e.full full).device.reads
       ],
       e.current,
     )
@@ -41,47 +41,47 @@ invariant_of-self g c ok =
 pub returns-clause-done : goal.returns-clause-done
 returns-clause-done g c done =
     let works = ap (λ (v : ThreadView). v.failed) c.self.view_is ∙ c.requires.works in
-    let can = can_change c.self.inside.order (kept_thread_of_device g.D.BlockDevice c.self.inside.device c.self.inside.pairs.items c.self.inside.map) c.args.index (changes_view c.args.changes.now) (subst (λ (v : ThreadView). CanChangePair v.kept c.args.index (changes_view c.args.changes.now)) (sym c.self.view_is) c.requires.can) in
+    let can = can_change c.self.inside.order (kept_of_device g.D.BlockDevice c.self.inside.device c.self.inside.pairs.items c.self.inside.map) c.args.index (changes_view c.args.changes.now) (subst (λ (v : ThreadView). CanChangePair v.kept c.args.index (changes_view c.args.changes.now)) (sym c.self.view_is) c.requires.can) in
     let a = at_there (disk_of_device g.D.BlockDevice c.self.inside.device) c.self.inside.pairs.items c.args.index c.index_mut.result.now can.below c.index_mut.ensures.value in
     let e = c.commit_with_cache-outcome.ensures in
-    subst (λ (v : ThreadView). IsPairChanged v.kept c.args.index (changes_view c.args.changes.now) (kept_thread_in_order g.D.BlockDevice c.self.inside.order c.commit_with_cache-outcome.new.device (set c.self.inside.pairs.items c.args.index c.commit_with_cache-outcome.new.pair) c.self.inside.map)) c.self.view_is
-    (changed_in c.self.inside.order (kept_thread_of_device g.D.BlockDevice c.self.inside.device c.self.inside.pairs.items c.self.inside.map)
-    (kept_thread_of_device g.D.BlockDevice c.commit_with_cache-outcome.new.device (set c.self.inside.pairs.items c.args.index c.commit_with_cache-outcome.new.pair) c.self.inside.map) c.args.index (changes_view c.args.changes.now)
+    subst (λ (v : ThreadView). IsPairCommitted v.kept c.args.index (changes_view c.args.changes.now) (kept_in_order g.D.BlockDevice c.self.inside.order c.commit_with_cache-outcome.new.device (set c.self.inside.pairs.items c.args.index c.commit_with_cache-outcome.new.pair) c.self.inside.map)) c.self.view_is
+    (changed_in c.self.inside.order (kept_of_device g.D.BlockDevice c.self.inside.device c.self.inside.pairs.items c.self.inside.map)
+    (kept_of_device g.D.BlockDevice c.commit_with_cache-outcome.new.device (set c.self.inside.pairs.items c.args.index c.commit_with_cache-outcome.new.pair) c.self.inside.map) c.args.index (changes_view c.args.changes.now)
     (device_changed _ _ _ _ _ _ c.self.inside.pairs.items _ c.args.index _ _ _ e.device.only.geometry a (c.self.invariant works).0 can (e.done done) e.device.only.others e.device.only.elsewhere))
 
 pub returns-clause-full : goal.returns-clause-full
 returns-clause-full g c full =
-    let can = can_change c.self.inside.order (kept_thread_of_device g.D.BlockDevice c.self.inside.device c.self.inside.pairs.items c.self.inside.map) c.args.index (changes_view c.args.changes.now) (subst (λ (v : ThreadView). CanChangePair v.kept c.args.index (changes_view c.args.changes.now)) (sym c.self.view_is) c.requires.can) in
+    let can = can_change c.self.inside.order (kept_of_device g.D.BlockDevice c.self.inside.device c.self.inside.pairs.items c.self.inside.map) c.args.index (changes_view c.args.changes.now) (subst (λ (v : ThreadView). CanChangePair v.kept c.args.index (changes_view c.args.changes.now)) (sym c.self.view_is) c.requires.can) in
     let a = at_there (disk_of_device g.D.BlockDevice c.self.inside.device) c.self.inside.pairs.items c.args.index c.index_mut.result.now can.below c.index_mut.ensures.value in
     let e = c.commit_with_cache-outcome.ensures in
-    subst (λ (v : ThreadView). IsCommitRefused v.kept c.args.index (changes_view c.args.changes.now) (kept_thread_in_order g.D.BlockDevice c.self.inside.order c.commit_with_cache-outcome.new.device (set c.self.inside.pairs.items c.args.index c.commit_with_cache-outcome.new.pair) c.self.inside.map)) c.self.view_is
-    (refused_in c.self.inside.order (kept_thread_of_device g.D.BlockDevice c.self.inside.device c.self.inside.pairs.items c.self.inside.map)
-    (kept_thread_of_device g.D.BlockDevice c.commit_with_cache-outcome.new.device (set c.self.inside.pairs.items c.args.index c.commit_with_cache-outcome.new.pair) c.self.inside.map) c.args.index (changes_view c.args.changes.now)
-    (refused _ _ _ _ c.self.inside.pairs.items _ c.args.index _ _ _ can.content a can.made (e.full full).completed (ap₂ disk_of_geometry_and_blocks (e.full full).device.geometry (e.full full).device.same) (e.full full).pair (e.full full).device.reads))
+    subst (λ (v : ThreadView). RefusesCommit v.kept c.args.index (changes_view c.args.changes.now) (kept_in_order g.D.BlockDevice c.self.inside.order c.commit_with_cache-outcome.new.device (set c.self.inside.pairs.items c.args.index c.commit_with_cache-outcome.new.pair) c.self.inside.map)) c.self.view_is
+    (refused_in c.self.inside.order (kept_of_device g.D.BlockDevice c.self.inside.device c.self.inside.pairs.items c.self.inside.map)
+    (kept_of_device g.D.BlockDevice c.commit_with_cache-outcome.new.device (set c.self.inside.pairs.items c.args.index c.commit_with_cache-outcome.new.pair) c.self.inside.map) c.args.index (changes_view c.args.changes.now)
+    (refused _ _ _ _ c.self.inside.pairs.items _ c.args.index _ _ _ can.content a can.made (e.full full).completed (ap₂ disk_of_blocks (e.full full).device.geometry (e.full full).device.same) (e.full full).pair (e.full full).device.reads))
 
 pub returns-clause-errors : goal.returns-clause-errors
 returns-clause-errors g c =
-    subst (λ (v : ThreadView). IoMeantFaultNoMemoryWroteNothing v.kept (kept_thread_in_order g.D.BlockDevice c.self.inside.order c.commit_with_cache-outcome.new.device (set c.self.inside.pairs.items c.args.index c.commit_with_cache-outcome.new.pair) c.self.inside.map) c.commit_with_cache-outcome.result) c.self.view_is
+    subst (λ (v : ThreadView). IoMeantFaultNoMemoryWroteNothing v.kept (kept_in_order g.D.BlockDevice c.self.inside.order c.commit_with_cache-outcome.new.device (set c.self.inside.pairs.items c.args.index c.commit_with_cache-outcome.new.pair) c.self.inside.map) c.commit_with_cache-outcome.result) c.self.view_is
     (reported_from g.D.BlockDevice c.self.inside.order c.self.inside.device c.commit_with_cache-outcome.new.device c.self.inside.pairs.items (set c.self.inside.pairs.items c.args.index c.commit_with_cache-outcome.new.pair) c.self.inside.map c.self.inside.map c.commit_with_cache-outcome.result c.commit_with_cache-outcome.ensures.errors)
 
 pub returns-clause-device : goal.returns-clause-device
 returns-clause-device g c =
     let works = ap (λ (v : ThreadView). v.failed) c.self.view_is ∙ c.requires.works in
-    let can = can_change c.self.inside.order (kept_thread_of_device g.D.BlockDevice c.self.inside.device c.self.inside.pairs.items c.self.inside.map) c.args.index (changes_view c.args.changes.now) (subst (λ (v : ThreadView). CanChangePair v.kept c.args.index (changes_view c.args.changes.now)) (sym c.self.view_is) c.requires.can) in
+    let can = can_change c.self.inside.order (kept_of_device g.D.BlockDevice c.self.inside.device c.self.inside.pairs.items c.self.inside.map) c.args.index (changes_view c.args.changes.now) (subst (λ (v : ThreadView). CanChangePair v.kept c.args.index (changes_view c.args.changes.now)) (sym c.self.view_is) c.requires.can) in
     let disk = disk_of_device g.D.BlockDevice c.self.inside.device in
     let a = at_there disk c.self.inside.pairs.items c.args.index c.index_mut.result.now can.below c.index_mut.ensures.value in
     let new = c.commit_with_cache-outcome.new in
     let reading = reading_there disk (g.D.BlockDevice.history c.self.inside.device) c.self.inside.pairs.items c.self.inside.map c.args.index c.index_mut.result.now a (c.self.invariant works).0
-    g.D.BlockDevice c.self.inside.device new.device blocks_of_pair_address 1 c.self.inside.cache c.commit_with_cache-outcome.ensures.device in
-    subst (λ (v : ThreadView). ThreadChangesOnlyBlocksWithinReadLimit (1 + read_count_unless_cached (cached_log v c.args.index)) (blocks_of_pair_address (thread_pair_at_index v.kept c.args.index).at) v.kept (kept_thread_in_order g.D.BlockDevice c.self.inside.order new.device (set c.self.inside.pairs.items c.args.index new.pair) c.self.inside.map)) c.self.view_is
+    g.D.BlockDevice c.self.inside.device new.device address_blocks 1 c.self.inside.cache c.commit_with_cache-outcome.ensures.device in
+    subst (λ (v : ThreadView). ChangesWithinReads (1 + reads_unless_cached (cached_log v c.args.index)) (address_blocks (thread_pair_at v.kept c.args.index).at) v.kept (kept_in_order g.D.BlockDevice c.self.inside.order new.device (set c.self.inside.pairs.items c.args.index new.pair) c.self.inside.map)) c.self.view_is
     (reading_from g.D.BlockDevice c.self.inside.order c.self.inside.device new.device c.self.inside.pairs.items (set c.self.inside.pairs.items c.args.index new.pair) c.self.inside.map c.self.inside.map _ reading)
 
 pub returns-clause-stops : goal.returns-clause-stops
 returns-clause-stops g c cleanly =
     let works = ap (λ (v : ThreadView). v.failed) c.self.view_is ∙ c.requires.works in
-    let can = can_change c.self.inside.order (kept_thread_of_device g.D.BlockDevice c.self.inside.device c.self.inside.pairs.items c.self.inside.map) c.args.index (changes_view c.args.changes.now) (subst (λ (v : ThreadView). CanChangePair v.kept c.args.index (changes_view c.args.changes.now)) (sym c.self.view_is) c.requires.can) in
+    let can = can_change c.self.inside.order (kept_of_device g.D.BlockDevice c.self.inside.device c.self.inside.pairs.items c.self.inside.map) c.args.index (changes_view c.args.changes.now) (subst (λ (v : ThreadView). CanChangePair v.kept c.args.index (changes_view c.args.changes.now)) (sym c.self.view_is) c.requires.can) in
     let a = at_there (disk_of_device g.D.BlockDevice c.self.inside.device) c.self.inside.pairs.items c.args.index c.index_mut.result.now can.below c.index_mut.ensures.value in
-    subst (λ (v : ThreadView). PowerLossLeavesSuchBlocksAfterCleanErases v.kept.history (g.D.BlockDevice.history c.commit_with_cache-outcome.new.device) (PowerLossLeavesPairOldOrChanged v.kept c.args.index (changes_view c.args.changes.now))) c.self.view_is
-    (λ clean. IsTrueAfterAnyPowerLossSince-weaker (λ left l. left_changed_in c.self.inside.order (kept_thread_of_device g.D.BlockDevice c.self.inside.device c.self.inside.pairs.items c.self.inside.map) c.args.index (changes_view c.args.changes.now) left
+    subst (λ (v : ThreadView). LossLeavesCleanly v.kept.history (g.D.BlockDevice.history c.commit_with_cache-outcome.new.device) (LossLeavesPairChanged v.kept c.args.index (changes_view c.args.changes.now))) c.self.view_is
+    (λ clean. HoldsAtLosses-weaker (λ left l. left_changed_in c.self.inside.order (kept_of_device g.D.BlockDevice c.self.inside.device c.self.inside.pairs.items c.self.inside.map) c.args.index (changes_view c.args.changes.now) left
     (left_in_thread _ _ c.self.inside.pairs.items c.self.inside.map c.args.index _ _ left a (c.self.invariant works).0 can.content can.made l)) (c.commit_with_cache-outcome.ensures.stops clean))
     cleanly

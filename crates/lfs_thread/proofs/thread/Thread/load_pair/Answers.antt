@@ -1,13 +1,13 @@
 use Rattle.std.proofs.Common.{ap, ap₂, sym, subst, ◌∙◌, ◌≡◌, ◌<◌, ◌≤◌, ◌+◌, length}
 use Rattle.std.specs.Prelude.{IsSome, OnOk}
-use Rattle.lfs_device.specs.Shown.{disk_of_geometry_and_blocks}
-use Rattle.lfs_model.specs.Cache.{cached_bytes_of_block}
-use Rattle.lfs_thread.specs.Kept.{IsCacheCurrent, IsKeptThreadOnDisk, ThreadView, disk_of_device, kept_thread_in_order}
-use Rattle.lfs_thread.specs.CachedLog.{cached_log, cache_after_load}
+use Rattle.lfs_device.specs.DeviceDisk.{disk_of_blocks}
+use Rattle.lfs_model.specs.layers.Cache.{cached_bytes}
+use Rattle.lfs_thread.specs.Kept.{IsCacheCurrent, IsKeptOnDisk, ThreadView, disk_of_device, kept_in_order}
+use Rattle.lfs_thread.specs.CachedLog.{cached_log, loaded_cache}
 use Rattle.lfs_thread.proofs.CachedLogs.{current_filled, filled_front, filled_there}
 use Rattle.lfs_thread.proofs.Changing.{at_there, kept_read}
-use Rattle.lfs_model.specs.History.{read_count_of_history}
-use Rattle.lfs_thread.specs.Steps.{IoMeantFaultNoMemoryWroteNothing}
+use Rattle.lfs_model.specs.session.History.{read_count}
+use Rattle.lfs_thread.specs.ThreadSteps.{IoMeantFaultNoMemoryWroteNothing}
 use Rattle.lfs_thread.proofs.Reported.{reported_from}
 use Rattle.lfs_thread.proofs.CachedPair.{active_is, active_there, few_reads}
 use Rattle.lfs_thread.proofs.thread.Thread.load_pair.Goals as goal
@@ -24,7 +24,7 @@ pub invariant_of-self : goal.invariant_of-self
 invariant_of-self g c ok =
     let works = ap (λ (v : ThreadView). v.failed) c.self.view_is ∙ c.requires.works in
     let e = c.fill.ensures in (
-      subst (λ d. IsKeptThreadOnDisk d (g.D.BlockDevice.history c.fill.new.device) c.self.inside.pairs.items c.self.inside.map) (sym (ap₂ disk_of_geometry_and_blocks e.device.geometry e.device.same))
+      subst (λ d. IsKeptOnDisk d (g.D.BlockDevice.history c.fill.new.device) c.self.inside.pairs.items c.self.inside.map) (sym (ap₂ disk_of_blocks e.device.geometry e.device.same))
           (kept_read _ _ _ _ c.self.inside.pairs.items c.self.inside.map e.device.reads (c.self.invariant works).0),
       subst (λ bs. IsCacheCurrent bs c.fill.new.self) (sym e.device.same) (current_filled _ _ _ c.index.result.now.active c.fill.result e.filled e.err (c.self.invariant works).1),
     )
@@ -36,9 +36,9 @@ returns-clause-cached_log g c =
     let disk = disk_of_device g.D.BlockDevice c.self.inside.device in
     let a = at_there disk c.self.inside.pairs.items c.args.index c.index.result.now below c.index.ensures in
     let e = c.fill.ensures in
-    let kept = subst (λ d. IsKeptThreadOnDisk d (g.D.BlockDevice.history c.fill.new.device) c.self.inside.pairs.items c.self.inside.map) (sym (ap₂ disk_of_geometry_and_blocks e.device.geometry e.device.same))
+    let kept = subst (λ d. IsKeptOnDisk d (g.D.BlockDevice.history c.fill.new.device) c.self.inside.pairs.items c.self.inside.map) (sym (ap₂ disk_of_blocks e.device.geometry e.device.same))
     (kept_read _ _ _ _ c.self.inside.pairs.items c.self.inside.map e.device.reads (c.self.invariant works).0) in
-    subst (λ b. OnOk c.fill.result (IsSome (cached_bytes_of_block c.fill.new.self b)))
+    subst (λ b. OnOk c.fill.result (IsSome (cached_bytes c.fill.new.self b)))
     (active_is (disk_of_device g.D.BlockDevice c.fill.new.device) (g.D.BlockDevice.history c.fill.new.device) c.self.inside.pairs.items c.self.inside.map c.args.index c.index.result.now a kept)
     (filled_there _ _ _ c.index.result.now.active c.fill.result e.filled)
 
@@ -49,19 +49,19 @@ returns-clause-no_call g c there =
     let disk = disk_of_device g.D.BlockDevice c.self.inside.device in
     let a = at_there disk c.self.inside.pairs.items c.args.index c.index.result.now below c.index.ensures in
     let here = subst (λ (v : ThreadView). IsSome (cached_log v c.args.index)) (sym c.self.view_is) there in
-    let is = subst (λ b. IsSome (cached_bytes_of_block c.self.inside.cache b))
+    let is = subst (λ b. IsSome (cached_bytes c.self.inside.cache b))
     (sym (active_is disk (g.D.BlockDevice.history c.self.inside.device) c.self.inside.pairs.items c.self.inside.map c.args.index c.index.result.now a (c.self.invariant works).0)) here in
-    ap (λ d. kept_thread_in_order g.D.BlockDevice c.self.inside.order d c.self.inside.pairs.items c.self.inside.map) (c.fill.ensures.calls.no_call is) ∙ ap (λ (v : ThreadView). v.kept) c.self.view_is
+    ap (λ d. kept_in_order g.D.BlockDevice c.self.inside.order d c.self.inside.pairs.items c.self.inside.map) (c.fill.ensures.calls.no_call is) ∙ ap (λ (v : ThreadView). v.kept) c.self.view_is
 
 pub returns-clause-few : goal.returns-clause-few
 returns-clause-few g c =
-    subst (λ (v : ThreadView). read_count_of_history (g.D.BlockDevice.history c.fill.new.device) ≤ read_count_of_history v.kept.history + 1) c.self.view_is
+    subst (λ (v : ThreadView). read_count (g.D.BlockDevice.history c.fill.new.device) ≤ read_count v.kept.history + 1) c.self.view_is
     (few_reads g.D.BlockDevice _ _ c.self.inside.device c.fill.new.device c.fill.result c.fill.ensures.calls c.fill.ensures.errors)
 
 pub returns-clause-errors : goal.returns-clause-errors
 returns-clause-errors g c =
     let e = c.fill.ensures in
-    subst (λ (v : ThreadView). IoMeantFaultNoMemoryWroteNothing v.kept (kept_thread_in_order g.D.BlockDevice c.self.inside.order c.fill.new.device c.self.inside.pairs.items c.self.inside.map) c.fill.result) c.self.view_is
+    subst (λ (v : ThreadView). IoMeantFaultNoMemoryWroteNothing v.kept (kept_in_order g.D.BlockDevice c.self.inside.order c.fill.new.device c.self.inside.pairs.items c.self.inside.map) c.fill.result) c.self.view_is
     (reported_from g.D.BlockDevice c.self.inside.order c.self.inside.device c.fill.new.device c.self.inside.pairs.items c.self.inside.pairs.items c.self.inside.map c.self.inside.map c.fill.result (record { errors = e.errors; faults = e.faults; unwritten = λ no. e.device }))
 
 pub returns-clause-recent : goal.returns-clause-recent
@@ -72,5 +72,5 @@ returns-clause-recent g c =
     let a = at_there disk c.self.inside.pairs.items c.args.index c.index.result.now below c.index.ensures in
     let kept = (c.self.invariant works).0 in
     let at = active_is disk (g.D.BlockDevice.history c.self.inside.device) c.self.inside.pairs.items c.self.inside.map c.args.index c.index.result.now a kept in
-    subst (λ (v : ThreadView). OnOk c.fill.result (c.fill.new.self ≡ cache_after_load v c.args.index)) c.self.view_is
+    subst (λ (v : ThreadView). OnOk c.fill.result (c.fill.new.self ≡ loaded_cache v c.args.index)) c.self.view_is
     (filled_front (g.D.BlockDevice.blocks c.self.inside.device) c.self.inside.cache c.fill.new.self c.index.result.now.active _ c.fill.result at (c.self.invariant works).1 c.fill.ensures.filled)

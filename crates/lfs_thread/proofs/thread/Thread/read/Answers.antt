@@ -1,9 +1,9 @@
 use Rattle.std.proofs.Common.{◌≡◌, ◌+◌, ◌∙◌, ap, ap₂, refl, subst, sym}
-use Rattle.lfs_device.specs.Shown.{disk_of_geometry_and_blocks}
-use Rattle.lfs_model.specs.Content.{content_of_pair_at}
-use Rattle.lfs_model.specs.Disk.{Disk, block_count}
-use Rattle.lfs_model.specs.History.{read_count_of_history}
-use Rattle.lfs_model.specs.Thread.{IsThreadOfMetadataPairs}
+use Rattle.lfs_device.specs.DeviceDisk.{disk_of_blocks}
+use Rattle.lfs_model.specs.format.Content.{content_at}
+use Rattle.lfs_model.specs.format.Disk.{Disk, block_count}
+use Rattle.lfs_model.specs.session.History.{read_count}
+use Rattle.lfs_model.specs.format.Thread.{IsThread}
 use Rattle.lfs_thread.specs.Kept.{disk_of_device, pairs_of_headers}
 use Rattle.lfs_thread.proofs.HeaderReads.{header_reads_of}
 use Rattle.lfs_thread.proofs.Keeping.{kept_thread}
@@ -14,10 +14,10 @@ returns-in-Ok-read_thread_headers-clause-read g c =
     let reported = c.in-Ok-read_thread_headers.ensures.reported in
     let disk : Disk = disk_of_device g.D.BlockDevice c.args.device in
     let ps = pairs_of_headers (disk_of_device g.D.BlockDevice c.read_thread_headers.new.device) c.read_thread_headers.new.pairs.items in
-    let same : disk_of_device g.D.BlockDevice c.read_thread_headers.new.device ≡ disk = ap₂ disk_of_geometry_and_blocks reported.device.geometry reported.device.same in
-    let thread : IsThreadOfMetadataPairs (content_of_pair_at disk) (g.D.BlockDevice.geometry c.args.device).block_count ps =
-    subst (λ k. IsThreadOfMetadataPairs (content_of_pair_at disk) k ps) (g.met.D.BlockDevice.shape c.args.device).count
-    (subst (λ (d : Disk). IsThreadOfMetadataPairs (content_of_pair_at d) (block_count d) ps) same (kept_thread _ _ _ _ c.in-Ok-read_thread_headers.ensures.kept)) in
+    let same : disk_of_device g.D.BlockDevice c.read_thread_headers.new.device ≡ disk = ap₂ disk_of_blocks reported.device.geometry reported.device.same in
+    let thread : IsThread (content_at disk) (g.D.BlockDevice.geometry c.args.device).block_count ps =
+    subst (λ k. IsThread (content_at disk) k ps) (g.met.D.BlockDevice.shape c.args.device).count
+    (subst (λ (d : Disk). IsThread (content_at d) (block_count d) ps) same (kept_thread _ _ _ _ c.in-Ok-read_thread_headers.ensures.kept)) in
     let read = c.in-Ok-read_thread_headers.ensures.few in
     record {
       works = refl;
@@ -27,5 +27,5 @@ returns-in-Ok-read_thread_headers-clause-read g c =
       disk = same;
       only = reported.device.reads;
       no_fault = reported.no_fault (λ e. absurd (cc));
-      few = read ∙ ap (λ n. read_count_of_history (g.D.BlockDevice.history c.args.device) + n) (sym (header_reads_of (disk_of_device g.D.BlockDevice c.read_thread_headers.new.device) disk c.read_thread_headers.new.pairs.items));
+      few = read ∙ ap (λ n. read_count (g.D.BlockDevice.history c.args.device) + n) (sym (header_reads_of (disk_of_device g.D.BlockDevice c.read_thread_headers.new.device) disk c.read_thread_headers.new.pairs.items));
     }

@@ -1,8 +1,8 @@
 use Rattle.std.proofs.Common.{List, ap, map, ◌∙◌}
 use Rattle.std.specs.List.{fold}
-use Rattle.lfs_model.specs.Slots.{gstate_xor, zero_gstate}
+use Rattle.lfs_model.specs.format.Slots.{gstate_xor, zero_gstate}
 use Rattle.lfs_tag.specs.FieldsView.{move_view}
-use Rattle.lfs_model.specs.Thread.{gstate_of_pairs}
+use Rattle.lfs_model.specs.format.Thread.{pairs_gstate}
 use Rattle.lfs_thread.specs.Kept.{PairHeader, ThreadView, disk_of_device}
 use Rattle.lfs_thread.proofs.GlobalState.{state_is}
 use Rattle.lfs_thread.proofs.thread.Thread.state.Goals as goal
@@ -11,6 +11,6 @@ pub returns : goal.returns
 returns g c =
     let works = ap (λ (v : ThreadView). v.failed) c.self.view_is ∙ c.requires.works in
     let kept = (c.self.invariant works).0 in
-    c.global_state_of_pairs.ensures ∙ ap (λ (hs : List PairHeader). fold gstate_xor zero_gstate (map (λ (p : PairHeader). move_view p.move_state) hs)) c.deref.ensures.value
+    c.headers_gstate.ensures ∙ ap (λ (hs : List PairHeader). fold gstate_xor zero_gstate (map (λ (p : PairHeader). move_view p.move_state) hs)) c.deref.ensures.value
     ∙ state_is (disk_of_device g.D.BlockDevice c.self.inside.device) (g.D.BlockDevice.history c.self.inside.device) c.self.inside.pairs.items kept.each
-    ∙ ap (λ (v : ThreadView). gstate_of_pairs v.kept.pairs) c.self.view_is
+    ∙ ap (λ (v : ThreadView). pairs_gstate v.kept.pairs) c.self.view_is

@@ -1,10 +1,10 @@
 use Rattle.std.proofs.Common.{◌∷◌, true}
-use Rattle.lfs_model.specs.History.{device_call_event_with_blocks}
-use Rattle.lfs_model.specs.History.DeviceCall.{Erase}
-use Rattle.lfs_tool.specs.SparseView.{blocks_of_sparse_device}
+use Rattle.lfs_model.specs.session.History.{call_event}
+use Rattle.lfs_model.specs.session.History.DeviceCall.{Erase}
+use Rattle.lfs_tool.specs.SparseView.{sparse_blocks}
 use Rattle.lfs_tool.proofs.sparse.SparseDeviceBlockDevice.erase.Given as goal
 
-abbrev pub ghost-with_history_chosen_by_proof : goal.ghost-with_history_chosen_by_proof
-ghost-with_history_chosen_by_proof a =
+abbrev pub ghost-with_ghost_history : goal.ghost-with_ghost_history
+ghost-with_ghost_history a =
     let e = a._device.now in
-    device_call_event_with_blocks (Erase a._call.now) (blocks_of_sparse_device e) (blocks_of_sparse_device e) true ∷ e.trace.events
+    call_event (Erase a._call.now) (sparse_blocks e) (sparse_blocks e) true ∷ e.trace.events

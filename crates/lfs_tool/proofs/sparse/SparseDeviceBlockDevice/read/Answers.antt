@@ -3,7 +3,7 @@ use Rattle.lfs_model.proofs.Conformance.{conforms_next, conforms_read}
 use Rattle.lfs_tool.proofs.sparse.SparseDeviceBlockDevice.read.Goals as goal
 
 pub invariant_of-self-clause-conforms : goal.invariant_of-self-clause-conforms
-invariant_of-self-clause-conforms c = conforms_next c.with_history_chosen_by_proof-self.ensures (conforms_read _ _ _ _ _ _ refl) c.args.self.now.conforms
+invariant_of-self-clause-conforms c = conforms_next c.with_ghost_history-self.ensures (conforms_read _ _ _ _ _ _ refl) c.args.self.now.conforms
 
 pub invariant_of-self-else-is_missing-clause-conforms : goal.invariant_of-self-else-is_missing-clause-conforms
-invariant_of-self-else-is_missing-clause-conforms c = conforms_next c.with_history_chosen_by_proof-self.ensures (conforms_read _ _ _ _ _ _ refl) c.args.self.now.conforms
+invariant_of-self-else-is_missing-clause-conforms c = conforms_next c.with_ghost_history-self.ensures (conforms_read _ _ _ _ _ _ refl) c.args.self.now.conforms

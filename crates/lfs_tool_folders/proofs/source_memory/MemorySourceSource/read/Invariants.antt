@@ -1,8 +1,8 @@
 use Rattle.std.proofs.Common.{◌≡◌, None, map, take}
 use Rattle.std.specs.Prelude.{find}
 use Rattle.std.specs.Str.{bytes_eq}
-use Rattle.lfs_tool_folders.specs.MemorySources.{path_and_bytes_of_memory_entry}
+use Rattle.lfs_tool_folders.specs.MemorySources.{memory_view}
 use Rattle.lfs_tool_folders.proofs.source_memory.MemorySourceSource.read.Given as goal
 
 abbrev pub invariant-loop-held : goal.invariant-loop-held
-invariant-loop-held l = find (λ e. bytes_eq e.0 l.file) (map path_and_bytes_of_memory_entry (take l.held-index l.held-items)) ≡ None
+invariant-loop-held l = find (λ e. bytes_eq e.0 l.file) (map memory_view (take l.held-index l.held-items)) ≡ None

@@ -1,4 +1,4 @@
 use Rattle.lfs_tool_folders.proofs.tally.Tally.none.Given as goal
 
-abbrev pub ghost-with_count_given_by_proof : goal.ghost-with_count_given_by_proof
-ghost-with_count_given_by_proof a = 0
+abbrev pub ghost-with_ghost_count : goal.ghost-with_ghost_count
+ghost-with_ghost_count a = 0

@@ -1,12 +1,12 @@
 use Rattle.std.proofs.Common.{◌∙◌, ap, arith, refl, subst}
 use Rattle.std.proofs.lemmas.Result.{err_from_is_err_and}
-use Rattle.lfs_model.specs.History.{read_count_of_history}
-use Rattle.lfs_model.specs.Operations as ops
+use Rattle.lfs_model.specs.session.History.{read_count}
+use Rattle.lfs_model.specs.session.Operations as ops
 use Rattle.lfs_thread.specs.Kept.{ThreadView}
-use Rattle.lfs_tree.specs.Permissions.{CanAddEntryToImage}
-use Rattle.lfs_tree.specs.Calls as call
-use Rattle.lfs_tree.specs.Reads.{ReadsAtMostSixTimes}
-use Rattle.lfs_tree.specs.TreeState.{TreeState, kept_thread_of_tree_state}
+use Rattle.lfs_tree.specs.Permissions.{CanAddTo}
+use Rattle.lfs_tree.specs.TreeCalls as call
+use Rattle.lfs_tree.specs.TreeReads.{ReadsSixAtMost}
+use Rattle.lfs_tree.specs.TreeState.{TreeState, kept_thread}
 use Rattle.lfs_tree.proofs.CreationPaths.{creation_known_behind}
 use Rattle.lfs_tree.proofs.Operated.{plain_create}
 use Rattle.lfs_tree.proofs.RecoveredFirst.{add_after}
@@ -19,31 +19,31 @@ returns-in_err-recover-clause-does g c =
     recovery_failed c.args.self.now c.recover.new.self (call.Create c.args.path.now) c.recover.result c.from_residual.result _ p.0 c.in_err-recover.was p.1 p.2 c.recover.ensures.does
 
 pub returns-in_err-recover-clause-few : goal.returns-in_err-recover-clause-few
-returns-in_err-recover-clause-few g c none = let same = ap (λ (s : TreeState). read_count_of_history s.history) (c.recover.ensures.idle none) in omega (arith, same)
+returns-in_err-recover-clause-few g c none = let same = ap (λ (s : TreeState). read_count s.history) (c.recover.ensures.idle none) in omega (arith, same)
 
-pub create_empty_file_at-created-requires-clause-rests : goal.create_empty_file_at-created-requires-clause-rests
-create_empty_file_at-created-requires-clause-rests g c = rests_behind c.args.self.now c.recover.new.self c.requires.can.works c.requires.can.writable (c.in_ok-recover.ensures.does.done ops.Recover refl) c.in_ok-recover.ensures.settled c.self.inside.thread c.self.inside.root c.self.inside.is_writable c.self.invariant c.self.view_is
+pub create_empty_file-created-requires-clause-rests : goal.create_empty_file-created-requires-clause-rests
+create_empty_file-created-requires-clause-rests g c = rests_behind c.args.self.now c.recover.new.self c.requires.can.works c.requires.can.writable (c.in_ok-recover.ensures.does.done ops.Recover refl) c.in_ok-recover.ensures.settled c.self.inside.thread c.self.inside.root c.self.inside.is_writable c.self.invariant c.self.view_is
 
-pub create_empty_file_at-created-requires-clause-can : goal.create_empty_file_at-created-requires-clause-can
-create_empty_file_at-created-requires-clause-can g c =
-    add_after (kept_thread_of_tree_state c.args.self.now) c.self.inside.thread.kept (settled_here c.args.self.now c.recover.new.self c.requires.can.works c.requires.can.writable (c.in_ok-recover.ensures.does.done ops.Recover refl) c.in_ok-recover.ensures.settled c.self.inside.thread c.self.inside.root c.self.inside.is_writable c.self.invariant c.self.view_is) c.args.path.now 2
-    (allowed c.args.self.now c.recover.new.self c.requires.can.works c.requires.can.writable (c.in_ok-recover.ensures.does.done ops.Recover refl) c.in_ok-recover.ensures.settled c.self.inside.thread c.self.inside.root c.self.inside.is_writable c.self.invariant c.self.view_is (λ s. CanAddEntryToImage s c.args.path.now 2) c.requires.can)
+pub create_empty_file-created-requires-clause-can : goal.create_empty_file-created-requires-clause-can
+create_empty_file-created-requires-clause-can g c =
+    add_after (kept_thread c.args.self.now) c.self.inside.thread.kept (settled_here c.args.self.now c.recover.new.self c.requires.can.works c.requires.can.writable (c.in_ok-recover.ensures.does.done ops.Recover refl) c.in_ok-recover.ensures.settled c.self.inside.thread c.self.inside.root c.self.inside.is_writable c.self.invariant c.self.view_is) c.args.path.now 2
+    (allowed c.args.self.now c.recover.new.self c.requires.can.works c.requires.can.writable (c.in_ok-recover.ensures.does.done ops.Recover refl) c.in_ok-recover.ensures.settled c.self.inside.thread c.self.inside.root c.self.inside.is_writable c.self.invariant c.self.view_is (λ s. CanAddTo s c.args.path.now 2) c.requires.can)
 
-pub create_empty_file_at-created-requires-clause-known : goal.create_empty_file_at-created-requires-clause-known
-create_empty_file_at-created-requires-clause-known g c = creation_known_behind c.args.self.now c.recover.new.self c.self.inside.thread c.args.path.now c.args.known c.recover.ensures.idle (ap kept_thread_of_tree_state c.self.view_is) c.requires.known
+pub create_empty_file-created-requires-clause-known : goal.create_empty_file-created-requires-clause-known
+create_empty_file-created-requires-clause-known g c = creation_known_behind c.args.self.now c.recover.new.self c.self.inside.thread c.args.path.now c.args.known c.recover.ensures.idle (ap kept_thread c.self.view_is) c.requires.known
 
 pub invariant_of-self : goal.invariant_of-self
 invariant_of-self g c =
     held_noted c.args.self.now c.recover.new.self c.requires.can.works c.requires.can.writable (c.in_ok-recover.ensures.does.done ops.Recover refl) c.in_ok-recover.ensures.settled c.self.inside.thread c.self.inside.root c.self.inside.is_writable c.self.invariant c.self.view_is (call.Create c.args.path.now) (plain_create c.args.path.now) c.recover.ensures.does.survives
-    c.create_empty_file_at-created.new.thread c.mark_thread_failed_on_error.new.thread c.create_empty_file_at-created.result c.create_empty_file_at-created.ensures.does c.mark_thread_failed_on_error.ensures
+    c.create_empty_file-created.new.thread c.mark_failed.new.thread c.create_empty_file-created.result c.create_empty_file-created.ensures.does c.mark_failed.ensures
 
 pub returns-clause-does : goal.returns-clause-does
 returns-clause-does g c =
     operates_noted c.args.self.now c.recover.new.self c.requires.can.works c.requires.can.writable (c.in_ok-recover.ensures.does.done ops.Recover refl) c.in_ok-recover.ensures.settled c.self.inside.thread c.self.inside.root c.self.inside.is_writable c.self.invariant c.self.view_is (call.Create c.args.path.now) (plain_create c.args.path.now) c.recover.ensures.does.survives
-    c.create_empty_file_at-created.new.thread c.mark_thread_failed_on_error.new.thread c.create_empty_file_at-created.result c.create_empty_file_at-created.ensures.does c.mark_thread_failed_on_error.ensures
+    c.create_empty_file-created.new.thread c.mark_failed.new.thread c.create_empty_file-created.result c.create_empty_file-created.ensures.does c.mark_failed.ensures
 
 pub returns-clause-few : goal.returns-clause-few
 returns-clause-few g c none =
-    let few = subst (λ (s : TreeState). ReadsAtMostSixTimes s c.create_empty_file_at-created.new.thread.kept.history) (c.self.view_is ∙ c.recover.ensures.idle none) (λ settled. c.create_empty_file_at-created.ensures.few (c.requires.looked_up none)) none in
-    let same = ap (λ (t : ThreadView). read_count_of_history t.kept.history) c.mark_thread_failed_on_error.ensures in
+    let few = subst (λ (s : TreeState). ReadsSixAtMost s c.create_empty_file-created.new.thread.kept.history) (c.self.view_is ∙ c.recover.ensures.idle none) (λ settled. c.create_empty_file-created.ensures.few (c.requires.looked_up none)) none in
+    let same = ap (λ (t : ThreadView). read_count t.kept.history) c.mark_failed.ensures in
     omega (arith, few, same)

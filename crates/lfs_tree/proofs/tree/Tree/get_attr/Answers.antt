@@ -1,42 +1,42 @@
 use Rattle.std.proofs.Common.{ap, subst, sym}
 use Rattle.std.specs.Prelude.{IfOk}
-use Rattle.lfs_model.specs.TreeEdits.{attributes_of_node}
-use Rattle.lfs_model.specs.Shown.{tree_on_disk}
-use Rattle.lfs_model.specs.Frame.{ancestor_paths_of_path}
-use Rattle.lfs_lookup.specs.Finds.{IsFoundNodeAtPath}
-use Rattle.lfs_tree.specs.Reads.{ReadsDirectoryPairsAtMostOnce}
+use Rattle.lfs_model.specs.session.TreeEdits.{node_attributes_of}
+use Rattle.lfs_model.specs.tree.Shown.{tree_on_disk}
+use Rattle.lfs_model.specs.crash.Frame.{ancestor_paths}
+use Rattle.lfs_lookup.specs.Finds.{IsFoundNode}
+use Rattle.lfs_tree.specs.TreeReads.{ReadsPairsOnce}
 use Rattle.lfs_tree.specs.TreeState.{TreeState, tree_view}
 use Rattle.lfs_thread.specs.Kept.{ThreadView}
 use Rattle.lfs_tree.proofs.Asking.{asking, held, rooted_held}
 use Rattle.lfs_lookup.proofs.AttributeAtSlots.{attribute_given, attribute_then}
 use Rattle.lfs_tree.proofs.tree.Tree.get_attr.Goals as goal
 
-pub find_attribute_at_path-found-requires : goal.find_attribute_at_path-found-requires
-find_attribute_at_path-found-requires g c =
+pub find_attribute-found-requires : goal.find_attribute-found-requires
+find_attribute-found-requires g c =
     let held = rooted_held c.self.inside.thread c.self.inside.root c.self.inside.is_writable c.args.self.now c.self.invariant c.self.view_is c.requires in
     record { works = held.works; accepted = held.sound.accepted; root = held.root_is }
 
 pub invariant_of-self : goal.invariant_of-self
 invariant_of-self g c =
-    held c.self.inside.thread c.find_attribute_at_path-found.new.thread c.self.inside.root c.self.inside.is_writable (rooted_held c.self.inside.thread c.self.inside.root c.self.inside.is_writable c.args.self.now c.self.invariant c.self.view_is c.requires) c.find_attribute_at_path-found.result c.mark_thread_failed_on_error.new.thread c.mark_thread_failed_on_error.ensures c.find_attribute_at_path-found.ensures.reading
+    held c.self.inside.thread c.find_attribute-found.new.thread c.self.inside.root c.self.inside.is_writable (rooted_held c.self.inside.thread c.self.inside.root c.self.inside.is_writable c.args.self.now c.self.invariant c.self.view_is c.requires) c.find_attribute-found.result c.mark_failed.new.thread c.mark_failed.ensures c.find_attribute-found.ensures.reading
 
 pub returns-clause-asks : goal.returns-clause-asks
 returns-clause-asks g c =
-    asking c.self.inside.thread c.find_attribute_at_path-found.new.thread c.self.inside.root c.self.inside.is_writable (rooted_held c.self.inside.thread c.self.inside.root c.self.inside.is_writable c.args.self.now c.self.invariant c.self.view_is c.requires) c.args.self.now c.find_attribute_at_path-found.result c.mark_thread_failed_on_error.new.thread c.self.view_is c.mark_thread_failed_on_error.ensures c.find_attribute_at_path-found.ensures.reading
+    asking c.self.inside.thread c.find_attribute-found.new.thread c.self.inside.root c.self.inside.is_writable (rooted_held c.self.inside.thread c.self.inside.root c.self.inside.is_writable c.args.self.now c.self.invariant c.self.view_is c.requires) c.args.self.now c.find_attribute-found.result c.mark_failed.new.thread c.self.view_is c.mark_failed.ensures c.find_attribute-found.ensures.reading
 
 pub returns-clause-bytes : goal.returns-clause-bytes
 returns-clause-bytes g c =
     let t = c.self.inside.thread.kept in
-    attribute_given c.args.kind (attributes_of_node (tree_view c.args.self.now c.args.path.now)) c.find_attribute_at_path-found.result
-    (attribute_then c.args.kind (attributes_of_node (tree_on_disk t.disk t.pairs c.args.path.now)) (attributes_of_node (tree_view c.args.self.now c.args.path.now)) c.find_attribute_at_path-found.result
-    (ap (λ (s : TreeState). attributes_of_node (tree_view s c.args.path.now)) c.self.view_is) c.find_attribute_at_path-found.ensures.is)
-    c.find_attribute_at_path-found.ensures.short
+    attribute_given c.args.kind (node_attributes_of (tree_view c.args.self.now c.args.path.now)) c.find_attribute-found.result
+    (attribute_then c.args.kind (node_attributes_of (tree_on_disk t.disk t.pairs c.args.path.now)) (node_attributes_of (tree_view c.args.self.now c.args.path.now)) c.find_attribute-found.result
+    (ap (λ (s : TreeState). node_attributes_of (tree_view s c.args.path.now)) c.self.view_is) c.find_attribute-found.ensures.is)
+    c.find_attribute-found.ensures.short
 
 pub returns-clause-few : goal.returns-clause-few
 returns-clause-few g c =
-    subst (λ (t : ThreadView). ReadsDirectoryPairsAtMostOnce (ancestor_paths_of_path c.args.path.now) c.args.self.now t.kept.history) (sym c.mark_thread_failed_on_error.ensures)
-    (subst (λ (s : TreeState). ReadsDirectoryPairsAtMostOnce (ancestor_paths_of_path c.args.path.now) s c.find_attribute_at_path-found.new.thread.kept.history) c.self.view_is (record { few = c.find_attribute_at_path-found.ensures.reads.few; none = c.find_attribute_at_path-found.ensures.reads.kept }))
+    subst (λ (t : ThreadView). ReadsPairsOnce (ancestor_paths c.args.path.now) c.args.self.now t.kept.history) (sym c.mark_failed.ensures)
+    (subst (λ (s : TreeState). ReadsPairsOnce (ancestor_paths c.args.path.now) s c.find_attribute-found.new.thread.kept.history) c.self.view_is (record { few = c.find_attribute-found.ensures.reads.few; none = c.find_attribute-found.ensures.reads.kept }))
 
 pub returns-clause-found : goal.returns-clause-found
 returns-clause-found g c =
-    subst (λ (s : TreeState). IfOk c.find_attribute_at_path-found.result (λ found. IsFoundNodeAtPath (tree_view s) c.args.path.now found.finding)) c.self.view_is c.find_attribute_at_path-found.ensures.found
+    subst (λ (s : TreeState). IfOk c.find_attribute-found.result (λ found. IsFoundNode (tree_view s) c.args.path.now found.finding)) c.self.view_is c.find_attribute-found.ensures.found

@@ -1,6 +1,6 @@
 use Rattle.std.proofs.Common.{◌∙◌, ◌==◌, ap}
 use Rattle.std.specs.List.{list_any}
-use Rattle.lfs_model.specs.Shown.{used_blocks}
+use Rattle.lfs_model.specs.tree.Shown.{used_blocks}
 use Rattle.lfs_tree.specs.TreeState.{TreeState}
 use Rattle.lfs_tree.proofs.Asking.{rooted_held}
 use Rattle.lfs_tree.proofs.UsedBlocks.{used_is}

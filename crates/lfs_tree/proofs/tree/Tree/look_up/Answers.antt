@@ -1,35 +1,35 @@
 use Rattle.std.proofs.Common.{◌≡◌, None, subst, sym}
 use Rattle.std.specs.Prelude.{IfOk}
-use Rattle.lfs_model.specs.Cache.{cached_block_limit}
-use Rattle.lfs_model.specs.Frame.{ancestor_paths_of_path}
-use Rattle.lfs_lookup.specs.CachedPairs.{AreDirectoriesAtThesePathsAmongLastUsed, AreFewDirectoriesOfOnePairEach}
-use Rattle.lfs_tree.specs.Reads.{ReadsDirectoryPairsAtMostOnce}
+use Rattle.lfs_model.specs.layers.Cache.{cache_limit}
+use Rattle.lfs_model.specs.crash.Frame.{ancestor_paths}
+use Rattle.lfs_lookup.specs.CachedPairs.{AreAllLastUsed, AreFewSmall}
+use Rattle.lfs_tree.specs.TreeReads.{ReadsPairsOnce}
 use Rattle.lfs_tree.specs.TreeState.{TreeState}
 use Rattle.lfs_lookup.proofs.LoadedDown.{hand_after}
 use Rattle.lfs_thread.specs.Kept.{ThreadView}
 use Rattle.lfs_tree.proofs.Asking.{asking, held, rooted_held}
 use Rattle.lfs_tree.proofs.tree.Tree.look_up.Goals as goal
 
-pub find_node_at_path-found-requires : goal.find_node_at_path-found-requires
-find_node_at_path-found-requires g c =
+pub find_node-found-requires : goal.find_node-found-requires
+find_node-found-requires g c =
     let held = rooted_held c.self.inside.thread c.self.inside.root c.self.inside.is_writable c.args.self.now c.self.invariant c.self.view_is c.requires in
     record { works = held.works; accepted = held.sound.accepted; root = held.root_is }
 
 pub invariant_of-self : goal.invariant_of-self
 invariant_of-self g c =
-    held c.self.inside.thread c.find_node_at_path-found.new.thread c.self.inside.root c.self.inside.is_writable (rooted_held c.self.inside.thread c.self.inside.root c.self.inside.is_writable c.args.self.now c.self.invariant c.self.view_is c.requires) c.find_node_at_path-found.result c.mark_thread_failed_on_error.new.thread c.mark_thread_failed_on_error.ensures c.find_node_at_path-found.ensures.reading
+    held c.self.inside.thread c.find_node-found.new.thread c.self.inside.root c.self.inside.is_writable (rooted_held c.self.inside.thread c.self.inside.root c.self.inside.is_writable c.args.self.now c.self.invariant c.self.view_is c.requires) c.find_node-found.result c.mark_failed.new.thread c.mark_failed.ensures c.find_node-found.ensures.reading
 
 pub returns-clause-asks : goal.returns-clause-asks
 returns-clause-asks g c =
-    asking c.self.inside.thread c.find_node_at_path-found.new.thread c.self.inside.root c.self.inside.is_writable (rooted_held c.self.inside.thread c.self.inside.root c.self.inside.is_writable c.args.self.now c.self.invariant c.self.view_is c.requires) c.args.self.now c.find_node_at_path-found.result c.mark_thread_failed_on_error.new.thread c.self.view_is c.mark_thread_failed_on_error.ensures c.find_node_at_path-found.ensures.reading
+    asking c.self.inside.thread c.find_node-found.new.thread c.self.inside.root c.self.inside.is_writable (rooted_held c.self.inside.thread c.self.inside.root c.self.inside.is_writable c.args.self.now c.self.invariant c.self.view_is c.requires) c.args.self.now c.find_node-found.result c.mark_failed.new.thread c.self.view_is c.mark_failed.ensures c.find_node-found.ensures.reading
 
 pub returns-clause-few : goal.returns-clause-few
 returns-clause-few g c =
-    subst (λ (t : ThreadView). ReadsDirectoryPairsAtMostOnce (ancestor_paths_of_path c.args.path.now) c.args.self.now t.kept.history) (sym c.mark_thread_failed_on_error.ensures)
-    (subst (λ (s : TreeState). ReadsDirectoryPairsAtMostOnce (ancestor_paths_of_path c.args.path.now) s c.find_node_at_path-found.new.thread.kept.history) c.self.view_is (record { few = c.find_node_at_path-found.ensures.reads.few; none = c.find_node_at_path-found.ensures.reads.loads.none }))
+    subst (λ (t : ThreadView). ReadsPairsOnce (ancestor_paths c.args.path.now) c.args.self.now t.kept.history) (sym c.mark_failed.ensures)
+    (subst (λ (s : TreeState). ReadsPairsOnce (ancestor_paths c.args.path.now) s c.find_node-found.new.thread.kept.history) c.self.view_is (record { few = c.find_node-found.ensures.reads.few; none = c.find_node-found.ensures.reads.loads.none }))
 
 pub returns-clause-hand : goal.returns-clause-hand
 returns-clause-hand g c = λ small.
-    subst (λ (t : ThreadView). IfOk c.find_node_at_path-found.result (λ found. found.fault ≡ None → AreDirectoriesAtThesePathsAmongLastUsed cached_block_limit t.kept.disk t.cache t.kept.pairs (ancestor_paths_of_path c.args.path.now))) (sym c.mark_thread_failed_on_error.ensures)
-    (hand_after c.self.inside.thread c.find_node_at_path-found.new.thread (λ found. found.fault ≡ None) (ancestor_paths_of_path c.args.path.now) c.find_node_at_path-found.result c.find_node_at_path-found.ensures.reads.loads c.find_node_at_path-found.ensures.reading.only
-    (subst (λ (s : TreeState). AreFewDirectoriesOfOnePairEach s.pairs (ancestor_paths_of_path c.args.path.now)) (sym c.self.view_is) small))
+    subst (λ (t : ThreadView). IfOk c.find_node-found.result (λ found. found.fault ≡ None → AreAllLastUsed cache_limit t.kept.disk t.cache t.kept.pairs (ancestor_paths c.args.path.now))) (sym c.mark_failed.ensures)
+    (hand_after c.self.inside.thread c.find_node-found.new.thread (λ found. found.fault ≡ None) (ancestor_paths c.args.path.now) c.find_node-found.result c.find_node-found.ensures.reads.loads c.find_node-found.ensures.reading.only
+    (subst (λ (s : TreeState). AreFewSmall s.pairs (ancestor_paths c.args.path.now)) (sym c.self.view_is) small))

@@ -1,38 +1,38 @@
 use Rattle.std.proofs.Common.{◌≤◌, ◌+◌, ap, subst, sym, ◌∙◌}
 use Rattle.std.specs.Prelude.{IfOk, IfSome, sum_by}
-use Rattle.lfs_model.specs.Frame.{pair_count_of_directory_at}
-use Rattle.lfs_model.specs.History.{read_count_of_history}
-use Rattle.lfs_model.specs.Thread.{gstate_of_pairs}
+use Rattle.lfs_model.specs.crash.Frame.{pair_count_at}
+use Rattle.lfs_model.specs.session.History.{read_count}
+use Rattle.lfs_model.specs.format.Thread.{pairs_gstate}
 use Rattle.lfs_thread.specs.Kept.{ThreadView}
-use Rattle.lfs_tree.specs.RootedThreads.{IsSoundThreadWithRootAtPairNumber}
-use Rattle.lfs_tree.specs.RenamePaths.{AreLookupResultsAtBothRenamePaths, directories_searched_for_rename}
+use Rattle.lfs_tree.specs.RootedThreads.{IsSoundWithRoot}
+use Rattle.lfs_tree.specs.RenameFindings.{AreRenameResults, rename_directories}
 use Rattle.lfs_tree.specs.TreeState.{TreeState}
 use Rattle.lfs_tree.proofs.Asking.{asking, held, rooted_held}
 use Rattle.lfs_tree.proofs.RenamePaths.{found_since}
 use Rattle.lfs_tree.proofs.tree.Tree.look_up_rename.Goals as goal
 
-pub look_up_both_rename_paths-found-requires : goal.look_up_both_rename_paths-found-requires
-look_up_both_rename_paths-found-requires g c =
-    subst (λ a. IsSoundThreadWithRootAtPairNumber c.self.inside.thread c.self.inside.root a) (ap (λ (s : TreeState). s.writable) c.self.view_is ∙ c.requires.writable)
+pub rename_targets-found-requires : goal.rename_targets-found-requires
+rename_targets-found-requires g c =
+    subst (λ a. IsSoundWithRoot c.self.inside.thread c.self.inside.root a) (ap (λ (s : TreeState). s.writable) c.self.view_is ∙ c.requires.writable)
     (rooted_held c.self.inside.thread c.self.inside.root c.self.inside.is_writable c.args.self.now c.self.invariant c.self.view_is c.requires.works)
 
 pub invariant_of-self : goal.invariant_of-self
 invariant_of-self g c =
-    held c.self.inside.thread c.look_up_both_rename_paths-found.new.thread c.self.inside.root c.self.inside.is_writable (rooted_held c.self.inside.thread c.self.inside.root c.self.inside.is_writable c.args.self.now c.self.invariant c.self.view_is c.requires.works) c.look_up_both_rename_paths-found.result c.mark_thread_failed_on_error.new.thread c.mark_thread_failed_on_error.ensures c.look_up_both_rename_paths-found.ensures.reading
+    held c.self.inside.thread c.rename_targets-found.new.thread c.self.inside.root c.self.inside.is_writable (rooted_held c.self.inside.thread c.self.inside.root c.self.inside.is_writable c.args.self.now c.self.invariant c.self.view_is c.requires.works) c.rename_targets-found.result c.mark_failed.new.thread c.mark_failed.ensures c.rename_targets-found.ensures.reading
 
 pub returns-clause-asks : goal.returns-clause-asks
 returns-clause-asks g c =
-    asking c.self.inside.thread c.look_up_both_rename_paths-found.new.thread c.self.inside.root c.self.inside.is_writable (rooted_held c.self.inside.thread c.self.inside.root c.self.inside.is_writable c.args.self.now c.self.invariant c.self.view_is c.requires.works) c.args.self.now c.look_up_both_rename_paths-found.result c.mark_thread_failed_on_error.new.thread c.self.view_is c.mark_thread_failed_on_error.ensures c.look_up_both_rename_paths-found.ensures.reading
+    asking c.self.inside.thread c.rename_targets-found.new.thread c.self.inside.root c.self.inside.is_writable (rooted_held c.self.inside.thread c.self.inside.root c.self.inside.is_writable c.args.self.now c.self.invariant c.self.view_is c.requires.works) c.args.self.now c.rename_targets-found.result c.mark_failed.new.thread c.self.view_is c.mark_failed.ensures c.rename_targets-found.ensures.reading
 
 pub returns-clause-targets : goal.returns-clause-targets
 returns-clause-targets g c =
-    subst (λ (t : ThreadView). IfOk c.look_up_both_rename_paths-found.result (λ found. IfSome found.targets (AreLookupResultsAtBothRenamePaths t.kept c.args.from.now c.args.to.now))) (sym c.mark_thread_failed_on_error.ensures)
-    (found_since c.self.inside.thread.kept c.look_up_both_rename_paths-found.new.thread.kept c.args.from.now c.args.to.now c.look_up_both_rename_paths-found.result c.look_up_both_rename_paths-found.ensures.reading.only c.look_up_both_rename_paths-found.ensures.targets)
+    subst (λ (t : ThreadView). IfOk c.rename_targets-found.result (λ found. IfSome found.targets (AreRenameResults t.kept c.args.from.now c.args.to.now))) (sym c.mark_failed.ensures)
+    (found_since c.self.inside.thread.kept c.rename_targets-found.new.thread.kept c.args.from.now c.args.to.now c.rename_targets-found.result c.rename_targets-found.ensures.reading.only c.rename_targets-found.ensures.targets)
 
 pub returns-clause-handed_on : goal.returns-clause-handed_on
-returns-clause-handed_on g c = λ settled. c.look_up_both_rename_paths-found.ensures.handed_on (ap (λ (s : TreeState). gstate_of_pairs s.pairs) c.self.view_is ∙ settled)
+returns-clause-handed_on g c = λ settled. c.rename_targets-found.ensures.handed_on (ap (λ (s : TreeState). pairs_gstate s.pairs) c.self.view_is ∙ settled)
 
 pub returns-clause-few : goal.returns-clause-few
 returns-clause-few g c =
-    subst (λ (t : ThreadView). read_count_of_history t.kept.history ≤ read_count_of_history c.args.self.now.history + sum_by (pair_count_of_directory_at c.args.self.now.pairs) (directories_searched_for_rename c.args.from.now c.args.to.now)) (sym c.mark_thread_failed_on_error.ensures)
-    (subst (λ (s : TreeState). read_count_of_history c.look_up_both_rename_paths-found.new.thread.kept.history ≤ read_count_of_history s.history + sum_by (pair_count_of_directory_at s.pairs) (directories_searched_for_rename c.args.from.now c.args.to.now)) c.self.view_is c.look_up_both_rename_paths-found.ensures.few)
+    subst (λ (t : ThreadView). read_count t.kept.history ≤ read_count c.args.self.now.history + sum_by (pair_count_at c.args.self.now.pairs) (rename_directories c.args.from.now c.args.to.now)) (sym c.mark_failed.ensures)
+    (subst (λ (s : TreeState). read_count c.rename_targets-found.new.thread.kept.history ≤ read_count s.history + sum_by (pair_count_at s.pairs) (rename_directories c.args.from.now c.args.to.now)) c.self.view_is c.rename_targets-found.ensures.few)

@@ -1,10 +1,10 @@
 use Rattle.std.proofs.Common.{◌≡◌, ap, drop, length, subst, sym, take}
 use Rattle.std.specs.Prelude.{IfOk, OnOk}
-use Rattle.lfs_model.specs.TreeEdits.{file_bytes_of_node}
-use Rattle.lfs_file.specs.Known.{AreKnownListBlocks, ReadsKnownList}
-use Rattle.lfs_model.specs.Shown.{skip_list_blocks_of_struct}
+use Rattle.lfs_model.specs.session.TreeEdits.{file_bytes}
+use Rattle.lfs_file.specs.Known.{AreKnownBlocks, ReadsKnownList}
+use Rattle.lfs_model.specs.tree.Shown.{struct_blocks}
 use Rattle.lfs_thread.specs.Kept.{ThreadView}
-use Rattle.lfs_lookup.specs.FileContents.{IsInlineBytesOrSkipListOfFileAtPath, struct_of_file_contents}
+use Rattle.lfs_lookup.specs.FileContents.{IsStorageAt, contents_struct}
 use Rattle.lfs_tree.specs.TreeState.{TreeState, tree_view}
 use Rattle.lfs_tree.proofs.Asking.{asking, held, rooted_held}
 use Rattle.lfs_tree.proofs.ReadContents.{list_read}
@@ -18,32 +18,32 @@ read_known_contents-count-requires-clause-list g c =
     let r = rooted_held c.self.inside.thread c.self.inside.root c.self.inside.is_writable c.args.self.now c.self.invariant c.self.view_is c.requires.works in
     let t = c.self.inside.thread.kept in
     list_read t.disk t.pairs c.requires.there.0 c.args.contents.now r.sound.accepted
-    (subst (λ (s : TreeState). IsInlineBytesOrSkipListOfFileAtPath s.pairs c.requires.there.0 c.args.contents.now) (sym c.self.view_is) c.requires.there.1)
+    (subst (λ (s : TreeState). IsStorageAt s.pairs c.requires.there.0 c.args.contents.now) (sym c.self.view_is) c.requires.there.1)
 
 pub invariant_of-self : goal.invariant_of-self
 invariant_of-self g c =
-    held c.self.inside.thread c.read_known_contents-count.new.thread c.self.inside.root c.self.inside.is_writable (rooted_held c.self.inside.thread c.self.inside.root c.self.inside.is_writable c.args.self.now c.self.invariant c.self.view_is c.requires.works) c.read_known_contents-count.result c.mark_thread_failed_on_error.new.thread c.mark_thread_failed_on_error.ensures c.read_known_contents-count.ensures.reading
+    held c.self.inside.thread c.read_known_contents-count.new.thread c.self.inside.root c.self.inside.is_writable (rooted_held c.self.inside.thread c.self.inside.root c.self.inside.is_writable c.args.self.now c.self.invariant c.self.view_is c.requires.works) c.read_known_contents-count.result c.mark_failed.new.thread c.mark_failed.ensures c.read_known_contents-count.ensures.reading
 
 pub returns-clause-asks : goal.returns-clause-asks
 returns-clause-asks g c =
-    asking c.self.inside.thread c.read_known_contents-count.new.thread c.self.inside.root c.self.inside.is_writable (rooted_held c.self.inside.thread c.self.inside.root c.self.inside.is_writable c.args.self.now c.self.invariant c.self.view_is c.requires.works) c.args.self.now c.read_known_contents-count.result c.mark_thread_failed_on_error.new.thread c.self.view_is c.mark_thread_failed_on_error.ensures c.read_known_contents-count.ensures.reading
+    asking c.self.inside.thread c.read_known_contents-count.new.thread c.self.inside.root c.self.inside.is_writable (rooted_held c.self.inside.thread c.self.inside.root c.self.inside.is_writable c.args.self.now c.self.invariant c.self.view_is c.requires.works) c.args.self.now c.read_known_contents-count.result c.mark_failed.new.thread c.self.view_is c.mark_failed.ensures c.read_known_contents-count.ensures.reading
 
 pub returns-clause-bytes : goal.returns-clause-bytes
 returns-clause-bytes g c path there =
-    subst (λ (s : TreeState). IfOk c.read_known_contents-count.result (λ n. take n c.read_known_contents-count.new.buf ≡ take (length c.args.buf.now) (drop c.args.position (file_bytes_of_node (tree_view s path))))) c.self.view_is
-    (c.read_known_contents-count.ensures.bytes path (subst (λ (s : TreeState). IsInlineBytesOrSkipListOfFileAtPath s.pairs path c.args.contents.now) (sym c.self.view_is) there))
+    subst (λ (s : TreeState). IfOk c.read_known_contents-count.result (λ n. take n c.read_known_contents-count.new.buf ≡ take (length c.args.buf.now) (drop c.args.position (file_bytes (tree_view s path))))) c.self.view_is
+    (c.read_known_contents-count.ensures.bytes path (subst (λ (s : TreeState). IsStorageAt s.pairs path c.args.contents.now) (sym c.self.view_is) there))
 
 pub read_known_contents-count-requires-clause-blocks : goal.read_known_contents-count-requires-clause-blocks
 read_known_contents-count-requires-clause-blocks g c =
-    subst (λ (s : TreeState). AreKnownListBlocks (skip_list_blocks_of_struct s.disk (struct_of_file_contents c.args.contents.now)) c.args.known.now) (sym c.self.view_is) c.requires.blocks
+    subst (λ (s : TreeState). AreKnownBlocks (struct_blocks s.disk (contents_struct c.args.contents.now)) c.args.known.now) (sym c.self.view_is) c.requires.blocks
 
 pub returns-clause-blocks : goal.returns-clause-blocks
 returns-clause-blocks g c =
-    subst (λ (s : TreeState). AreKnownListBlocks (skip_list_blocks_of_struct s.disk (struct_of_file_contents c.args.contents.now)) c.read_known_contents-count.new.known) c.self.view_is c.read_known_contents-count.ensures.blocks
+    subst (λ (s : TreeState). AreKnownBlocks (struct_blocks s.disk (contents_struct c.args.contents.now)) c.read_known_contents-count.new.known) c.self.view_is c.read_known_contents-count.ensures.blocks
 
 pub returns-clause-few : goal.returns-clause-few
 returns-clause-few g c head size is =
-    let history = ap (λ (t : ThreadView). t.kept.history) c.mark_thread_failed_on_error.ensures in
-    subst (λ (s : TreeState). OnOk c.read_known_contents-count.result (ReadsKnownList s.disk.block_size size c.args.position (length c.args.buf.now) c.args.known.now c.read_known_contents-count.new.known s.history c.mark_thread_failed_on_error.new.thread.kept.history)) c.self.view_is
+    let history = ap (λ (t : ThreadView). t.kept.history) c.mark_failed.ensures in
+    subst (λ (s : TreeState). OnOk c.read_known_contents-count.result (ReadsKnownList s.disk.block_size size c.args.position (length c.args.buf.now) c.args.known.now c.read_known_contents-count.new.known s.history c.mark_failed.new.thread.kept.history)) c.self.view_is
     (subst (λ h. OnOk c.read_known_contents-count.result (ReadsKnownList c.self.inside.thread.kept.disk.block_size size c.args.position (length c.args.buf.now) c.args.known.now c.read_known_contents-count.new.known c.self.inside.thread.kept.history h)) (sym history)
     (c.read_known_contents-count.ensures.few head size is))

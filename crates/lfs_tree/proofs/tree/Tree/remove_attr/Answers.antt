@@ -1,9 +1,9 @@
 use Rattle.std.proofs.Common.{refl}
 use Rattle.std.proofs.lemmas.Result.{err_from_is_err_and}
-use Rattle.lfs_model.specs.Operations as ops
-use Rattle.lfs_tree.specs.Permissions.{CanRemoveAttrInImage}
-use Rattle.lfs_tree.specs.Calls as call
-use Rattle.lfs_tree.specs.TreeState.{kept_thread_of_tree_state}
+use Rattle.lfs_model.specs.session.Operations as ops
+use Rattle.lfs_tree.specs.Permissions.{CanRemoveAttrIn}
+use Rattle.lfs_tree.specs.TreeCalls as call
+use Rattle.lfs_tree.specs.TreeState.{kept_thread}
 use Rattle.lfs_tree.proofs.Operated.{plain_clear}
 use Rattle.lfs_tree.proofs.RecoveredFirst.{remove_attr_after}
 use Rattle.lfs_tree.proofs.TreeCalls.{allowed, held_noted, operates_noted, recovery_failed, rests_behind, settled_here}
@@ -19,15 +19,15 @@ remove_attr_at-removed-requires-clause-rests g c = rests_behind c.args.self.now 
 
 pub remove_attr_at-removed-requires-clause-can : goal.remove_attr_at-removed-requires-clause-can
 remove_attr_at-removed-requires-clause-can g c =
-    remove_attr_after (kept_thread_of_tree_state c.args.self.now) c.self.inside.thread.kept (settled_here c.args.self.now c.recover.new.self c.requires.works c.requires.writable (c.in_ok-recover.ensures.does.done ops.Recover refl) c.in_ok-recover.ensures.settled c.self.inside.thread c.self.inside.root c.self.inside.is_writable c.self.invariant c.self.view_is) c.args.path.now c.args.kind
-    (allowed c.args.self.now c.recover.new.self c.requires.works c.requires.writable (c.in_ok-recover.ensures.does.done ops.Recover refl) c.in_ok-recover.ensures.settled c.self.inside.thread c.self.inside.root c.self.inside.is_writable c.self.invariant c.self.view_is (λ s. CanRemoveAttrInImage s c.args.path.now c.args.kind) c.requires)
+    remove_attr_after (kept_thread c.args.self.now) c.self.inside.thread.kept (settled_here c.args.self.now c.recover.new.self c.requires.works c.requires.writable (c.in_ok-recover.ensures.does.done ops.Recover refl) c.in_ok-recover.ensures.settled c.self.inside.thread c.self.inside.root c.self.inside.is_writable c.self.invariant c.self.view_is) c.args.path.now c.args.kind
+    (allowed c.args.self.now c.recover.new.self c.requires.works c.requires.writable (c.in_ok-recover.ensures.does.done ops.Recover refl) c.in_ok-recover.ensures.settled c.self.inside.thread c.self.inside.root c.self.inside.is_writable c.self.invariant c.self.view_is (λ s. CanRemoveAttrIn s c.args.path.now c.args.kind) c.requires)
 
 pub invariant_of-self : goal.invariant_of-self
 invariant_of-self g c =
     held_noted c.args.self.now c.recover.new.self c.requires.works c.requires.writable (c.in_ok-recover.ensures.does.done ops.Recover refl) c.in_ok-recover.ensures.settled c.self.inside.thread c.self.inside.root c.self.inside.is_writable c.self.invariant c.self.view_is (call.RemoveAttr c.args.path.now c.args.kind) (plain_clear c.args.path.now c.args.kind) c.recover.ensures.does.survives
-    c.remove_attr_at-removed.new.thread c.mark_thread_failed_on_error.new.thread c.remove_attr_at-removed.result c.remove_attr_at-removed.ensures c.mark_thread_failed_on_error.ensures
+    c.remove_attr_at-removed.new.thread c.mark_failed.new.thread c.remove_attr_at-removed.result c.remove_attr_at-removed.ensures c.mark_failed.ensures
 
 pub returns : goal.returns
 returns g c =
     operates_noted c.args.self.now c.recover.new.self c.requires.works c.requires.writable (c.in_ok-recover.ensures.does.done ops.Recover refl) c.in_ok-recover.ensures.settled c.self.inside.thread c.self.inside.root c.self.inside.is_writable c.self.invariant c.self.view_is (call.RemoveAttr c.args.path.now c.args.kind) (plain_clear c.args.path.now c.args.kind) c.recover.ensures.does.survives
-    c.remove_attr_at-removed.new.thread c.mark_thread_failed_on_error.new.thread c.remove_attr_at-removed.result c.remove_attr_at-removed.ensures c.mark_thread_failed_on_error.ensures
+    c.remove_attr_at-removed.new.thread c.mark_failed.new.thread c.remove_attr_at-removed.result c.remove_attr_at-removed.ensures c.mark_failed.ensures

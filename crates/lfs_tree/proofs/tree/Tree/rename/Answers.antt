@@ -1,9 +1,9 @@
 use Rattle.std.proofs.Common.{ap, refl}
 use Rattle.std.proofs.lemmas.Result.{err_from_is_err_and}
-use Rattle.lfs_model.specs.Operations as ops
-use Rattle.lfs_tree.specs.Permissions.{CanRenameInImage}
-use Rattle.lfs_tree.specs.Calls as call
-use Rattle.lfs_tree.specs.TreeState.{kept_thread_of_tree_state}
+use Rattle.lfs_model.specs.session.Operations as ops
+use Rattle.lfs_tree.specs.Permissions.{CanRenameIn}
+use Rattle.lfs_tree.specs.TreeCalls as call
+use Rattle.lfs_tree.specs.TreeState.{kept_thread}
 use Rattle.lfs_tree.proofs.Operated.{plain_rename}
 use Rattle.lfs_tree.proofs.RecoveredFirst.{rename_after}
 use Rattle.lfs_tree.proofs.RenamePaths.{known_behind}
@@ -20,18 +20,18 @@ rename_at-renamed-requires-clause-rests g c = rests_behind c.args.self.now c.rec
 
 pub rename_at-renamed-requires-clause-can : goal.rename_at-renamed-requires-clause-can
 rename_at-renamed-requires-clause-can g c =
-    rename_after (kept_thread_of_tree_state c.args.self.now) c.self.inside.thread.kept (settled_here c.args.self.now c.recover.new.self c.requires.can.works c.requires.can.writable (c.in_ok-recover.ensures.does.done ops.Recover refl) c.in_ok-recover.ensures.settled c.self.inside.thread c.self.inside.root c.self.inside.is_writable c.self.invariant c.self.view_is) c.args.from.now c.args.to.now
-    (allowed c.args.self.now c.recover.new.self c.requires.can.works c.requires.can.writable (c.in_ok-recover.ensures.does.done ops.Recover refl) c.in_ok-recover.ensures.settled c.self.inside.thread c.self.inside.root c.self.inside.is_writable c.self.invariant c.self.view_is (λ s. CanRenameInImage s c.args.from.now c.args.to.now) c.requires.can)
+    rename_after (kept_thread c.args.self.now) c.self.inside.thread.kept (settled_here c.args.self.now c.recover.new.self c.requires.can.works c.requires.can.writable (c.in_ok-recover.ensures.does.done ops.Recover refl) c.in_ok-recover.ensures.settled c.self.inside.thread c.self.inside.root c.self.inside.is_writable c.self.invariant c.self.view_is) c.args.from.now c.args.to.now
+    (allowed c.args.self.now c.recover.new.self c.requires.can.works c.requires.can.writable (c.in_ok-recover.ensures.does.done ops.Recover refl) c.in_ok-recover.ensures.settled c.self.inside.thread c.self.inside.root c.self.inside.is_writable c.self.invariant c.self.view_is (λ s. CanRenameIn s c.args.from.now c.args.to.now) c.requires.can)
 
 pub rename_at-renamed-requires-clause-known : goal.rename_at-renamed-requires-clause-known
-rename_at-renamed-requires-clause-known g c = known_behind c.args.self.now c.recover.new.self c.self.inside.thread c.args.from.now c.args.to.now c.args.known c.recover.ensures.idle (ap kept_thread_of_tree_state c.self.view_is) c.requires.known
+rename_at-renamed-requires-clause-known g c = known_behind c.args.self.now c.recover.new.self c.self.inside.thread c.args.from.now c.args.to.now c.args.known c.recover.ensures.idle (ap kept_thread c.self.view_is) c.requires.known
 
 pub invariant_of-self : goal.invariant_of-self
 invariant_of-self g c =
     held_noted c.args.self.now c.recover.new.self c.requires.can.works c.requires.can.writable (c.in_ok-recover.ensures.does.done ops.Recover refl) c.in_ok-recover.ensures.settled c.self.inside.thread c.self.inside.root c.self.inside.is_writable c.self.invariant c.self.view_is (call.Rename c.args.from.now c.args.to.now) (plain_rename c.args.from.now c.args.to.now c.requires.apart) c.recover.ensures.does.survives
-    c.rename_at-renamed.new.thread c.mark_thread_failed_on_error.new.thread c.rename_at-renamed.result c.rename_at-renamed.ensures c.mark_thread_failed_on_error.ensures
+    c.rename_at-renamed.new.thread c.mark_failed.new.thread c.rename_at-renamed.result c.rename_at-renamed.ensures c.mark_failed.ensures
 
 pub returns : goal.returns
 returns g c =
     operates_noted c.args.self.now c.recover.new.self c.requires.can.works c.requires.can.writable (c.in_ok-recover.ensures.does.done ops.Recover refl) c.in_ok-recover.ensures.settled c.self.inside.thread c.self.inside.root c.self.inside.is_writable c.self.invariant c.self.view_is (call.Rename c.args.from.now c.args.to.now) (plain_rename c.args.from.now c.args.to.now c.requires.apart) c.recover.ensures.does.survives
-    c.rename_at-renamed.new.thread c.mark_thread_failed_on_error.new.thread c.rename_at-renamed.result c.rename_at-renamed.ensures c.mark_thread_failed_on_error.ensures
+    c.rename_at-renamed.new.thread c.mark_failed.new.thread c.rename_at-renamed.result c.rename_at-renamed.ensures c.mark_failed.ensures

@@ -1,9 +1,9 @@
 use Rattle.std.proofs.Common.{refl}
 use Rattle.std.proofs.lemmas.Result.{err_from_is_err_and}
-use Rattle.lfs_model.specs.Operations as ops
-use Rattle.lfs_tree.specs.Permissions.{CanSetAttrInImage}
-use Rattle.lfs_tree.specs.Calls as call
-use Rattle.lfs_tree.specs.TreeState.{kept_thread_of_tree_state}
+use Rattle.lfs_model.specs.session.Operations as ops
+use Rattle.lfs_tree.specs.Permissions.{CanSetAttrIn}
+use Rattle.lfs_tree.specs.TreeCalls as call
+use Rattle.lfs_tree.specs.TreeState.{kept_thread}
 use Rattle.lfs_tree.proofs.Operated.{plain_set}
 use Rattle.lfs_tree.proofs.RecoveredFirst.{set_attr_after}
 use Rattle.lfs_tree.proofs.TreeCalls.{allowed, held_noted, operates_noted, recovery_failed, rests_behind, settled_here}
@@ -19,15 +19,15 @@ set_attr_at-set-requires-clause-rests g c = rests_behind c.args.self.now c.recov
 
 pub set_attr_at-set-requires-clause-can : goal.set_attr_at-set-requires-clause-can
 set_attr_at-set-requires-clause-can g c =
-    set_attr_after (kept_thread_of_tree_state c.args.self.now) c.self.inside.thread.kept (settled_here c.args.self.now c.recover.new.self c.requires.works c.requires.writable (c.in_ok-recover.ensures.does.done ops.Recover refl) c.in_ok-recover.ensures.settled c.self.inside.thread c.self.inside.root c.self.inside.is_writable c.self.invariant c.self.view_is) c.args.path.now c.args.kind c.args.bytes.now
-    (allowed c.args.self.now c.recover.new.self c.requires.works c.requires.writable (c.in_ok-recover.ensures.does.done ops.Recover refl) c.in_ok-recover.ensures.settled c.self.inside.thread c.self.inside.root c.self.inside.is_writable c.self.invariant c.self.view_is (λ s. CanSetAttrInImage s c.args.path.now c.args.kind c.args.bytes.now) c.requires)
+    set_attr_after (kept_thread c.args.self.now) c.self.inside.thread.kept (settled_here c.args.self.now c.recover.new.self c.requires.works c.requires.writable (c.in_ok-recover.ensures.does.done ops.Recover refl) c.in_ok-recover.ensures.settled c.self.inside.thread c.self.inside.root c.self.inside.is_writable c.self.invariant c.self.view_is) c.args.path.now c.args.kind c.args.bytes.now
+    (allowed c.args.self.now c.recover.new.self c.requires.works c.requires.writable (c.in_ok-recover.ensures.does.done ops.Recover refl) c.in_ok-recover.ensures.settled c.self.inside.thread c.self.inside.root c.self.inside.is_writable c.self.invariant c.self.view_is (λ s. CanSetAttrIn s c.args.path.now c.args.kind c.args.bytes.now) c.requires)
 
 pub invariant_of-self : goal.invariant_of-self
 invariant_of-self g c =
     held_noted c.args.self.now c.recover.new.self c.requires.works c.requires.writable (c.in_ok-recover.ensures.does.done ops.Recover refl) c.in_ok-recover.ensures.settled c.self.inside.thread c.self.inside.root c.self.inside.is_writable c.self.invariant c.self.view_is (call.SetAttr c.args.path.now c.args.kind c.args.bytes.now) (plain_set c.args.path.now c.args.kind c.args.bytes.now) c.recover.ensures.does.survives
-    c.set_attr_at-set.new.thread c.mark_thread_failed_on_error.new.thread c.set_attr_at-set.result c.set_attr_at-set.ensures c.mark_thread_failed_on_error.ensures
+    c.set_attr_at-set.new.thread c.mark_failed.new.thread c.set_attr_at-set.result c.set_attr_at-set.ensures c.mark_failed.ensures
 
 pub returns : goal.returns
 returns g c =
     operates_noted c.args.self.now c.recover.new.self c.requires.works c.requires.writable (c.in_ok-recover.ensures.does.done ops.Recover refl) c.in_ok-recover.ensures.settled c.self.inside.thread c.self.inside.root c.self.inside.is_writable c.self.invariant c.self.view_is (call.SetAttr c.args.path.now c.args.kind c.args.bytes.now) (plain_set c.args.path.now c.args.kind c.args.bytes.now) c.recover.ensures.does.survives
-    c.set_attr_at-set.new.thread c.mark_thread_failed_on_error.new.thread c.set_attr_at-set.result c.set_attr_at-set.ensures c.mark_thread_failed_on_error.ensures
+    c.set_attr_at-set.new.thread c.mark_failed.new.thread c.set_attr_at-set.result c.set_attr_at-set.ensures c.mark_failed.ensures

@@ -1,8 +1,8 @@
 use Rattle.std.proofs.Common.{◌≡◌, ◌<◌, ◌≤◌, ◌∙◌, arith, ap, length, subst, sym}
-use Rattle.lfs_model.specs.Blocks.{HasBlocksOfCountAndSize}
-use Rattle.lfs_model.specs.Disk.{Disk}
-use Rattle.lfs_model.specs.TreeEdits.{file_bytes_of_node}
-use Rattle.lfs_lookup.specs.FileContents.{AreInlineContentsShorterThanTagLength, IsInlineBytesOrSkipListOfFileAtPath}
+use Rattle.lfs_model.specs.format.Blocks.{HasBlockSizes}
+use Rattle.lfs_model.specs.format.Disk.{Disk}
+use Rattle.lfs_model.specs.session.TreeEdits.{file_bytes}
+use Rattle.lfs_lookup.specs.FileContents.{ContentsFitTag, IsStorageAt}
 use Rattle.lfs_tree.specs.TreeState.{TreeState, tree_view}
 use Rattle.lfs_tree.proofs.Asking.{rooted_held}
 use Rattle.lfs_tree.proofs.ReadContents.{contents_sized, size_of_file_contents}
@@ -10,7 +10,7 @@ use Rattle.lfs_tree.proofs.tree.Tree.size_of_contents.Goals as goal
 
 pub overflow_cast-result : goal.overflow_cast-result
 overflow_cast-result g c =
-    let few : length c.in-Inline.bytes.items < 0x3ff = subst AreInlineContentsShorterThanTagLength c.in-Inline.is c.requires.there.1.fits in
+    let few : length c.in-Inline.bytes.items < 0x3ff = subst ContentsFitTag c.in-Inline.is c.requires.there.1.fits in
     omega (arith, few, c.len.ensures, c.in-Inline.bytes.ok.0)
 
 pub returns-in-Inline-clause-size : goal.returns-in-Inline-clause-size
@@ -20,10 +20,10 @@ returns-in-Inline-clause-size g c path there =
     let device = c.device-device.result.now in
     let len : c.len.result ≡ length c.in-Inline.bytes.items = omega (arith, c.len.ensures, c.in-Inline.bytes.ok.0) in
     len ∙ sym (ap size_of_file_contents c.in-Inline.is)
-    ∙ subst (λ (s : TreeState). size_of_file_contents c.args.contents.now ≡ length (file_bytes_of_node (tree_view s path))) c.self.view_is
+    ∙ subst (λ (s : TreeState). size_of_file_contents c.args.contents.now ≡ length (file_bytes (tree_view s path))) c.self.view_is
     (contents_sized t.disk t.pairs path c.args.contents.now (g.D.BlockDevice.geometry device).block_count r.sound.accepted
-    (subst (λ (k : Disk). (1024 ≤ k.block_size) × HasBlocksOfCountAndSize k.block_size (g.D.BlockDevice.geometry device).block_count k.blocks) c.device-device.ensures.disk ((g.D.BlockDevice.geometry device).valid.no_smaller, g.met.D.BlockDevice.shape device))
-    (subst (λ (s : TreeState). IsInlineBytesOrSkipListOfFileAtPath s.pairs path c.args.contents.now) (sym c.self.view_is) there))
+    (subst (λ (k : Disk). (1024 ≤ k.block_size) × HasBlockSizes k.block_size (g.D.BlockDevice.geometry device).block_count k.blocks) c.device-device.ensures.disk ((g.D.BlockDevice.geometry device).valid.no_smaller, g.met.D.BlockDevice.shape device))
+    (subst (λ (s : TreeState). IsStorageAt s.pairs path c.args.contents.now) (sym c.self.view_is) there))
 
 pub returns-in-List-clause-size : goal.returns-in-List-clause-size
 returns-in-List-clause-size g c path there =
@@ -31,7 +31,7 @@ returns-in-List-clause-size g c path there =
     let t = c.self.inside.thread.kept in
     let device = c.device-device.result.now in
     sym (ap size_of_file_contents c.in-List.is)
-    ∙ subst (λ (s : TreeState). size_of_file_contents c.args.contents.now ≡ length (file_bytes_of_node (tree_view s path))) c.self.view_is
+    ∙ subst (λ (s : TreeState). size_of_file_contents c.args.contents.now ≡ length (file_bytes (tree_view s path))) c.self.view_is
     (contents_sized t.disk t.pairs path c.args.contents.now (g.D.BlockDevice.geometry device).block_count r.sound.accepted
-    (subst (λ (k : Disk). (1024 ≤ k.block_size) × HasBlocksOfCountAndSize k.block_size (g.D.BlockDevice.geometry device).block_count k.blocks) c.device-device.ensures.disk ((g.D.BlockDevice.geometry device).valid.no_smaller, g.met.D.BlockDevice.shape device))
-    (subst (λ (s : TreeState). IsInlineBytesOrSkipListOfFileAtPath s.pairs path c.args.contents.now) (sym c.self.view_is) there))
+    (subst (λ (k : Disk). (1024 ≤ k.block_size) × HasBlockSizes k.block_size (g.D.BlockDevice.geometry device).block_count k.blocks) c.device-device.ensures.disk ((g.D.BlockDevice.geometry device).valid.no_smaller, g.met.D.BlockDevice.shape device))
+    (subst (λ (s : TreeState). IsStorageAt s.pairs path c.args.contents.now) (sym c.self.view_is) there))

@@ -1,6 +1,6 @@
 use Rattle.std.proofs.Common.{◌∙◌, ap, false, length}
-use Rattle.lfs_model.specs.Shown.{used_blocks}
-use Rattle.lfs_tree.specs.RootedThreads.{tree_state_of_kept_thread}
+use Rattle.lfs_model.specs.tree.Shown.{used_blocks}
+use Rattle.lfs_tree.specs.RootedThreads.{kept_state}
 use Rattle.lfs_tree.specs.TreeState.{TreeState}
 use Rattle.lfs_tree.proofs.Asking.{rooted_held}
 use Rattle.lfs_tree.proofs.UsedBlocks.{count_is}
@@ -9,5 +9,5 @@ use Rattle.lfs_tree.proofs.tree.Tree.used_count.Goals as goal
 pub returns : goal.returns
 returns g c =
     let held = rooted_held c.self.inside.thread c.self.inside.root c.self.inside.is_writable c.args.self.now c.self.invariant c.self.view_is c.requires in
-    c.used_count.ensures ∙ count_is (tree_state_of_kept_thread c.self.inside.thread.kept c.self.inside.is_writable false) held.sound
+    c.used_count.ensures ∙ count_is (kept_state c.self.inside.thread.kept c.self.inside.is_writable false) held.sound
     ∙ ap (λ (s : TreeState). length (used_blocks s.disk s.pairs)) c.self.view_is

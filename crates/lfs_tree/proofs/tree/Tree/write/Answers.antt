@@ -1,7 +1,7 @@
 use Rattle.std.proofs.Common.{◌∙◌, ◌≤◌, sym, ap, ap₂, subst}
 use Rattle.std.specs.Prelude.{IfOk, length}
-use Rattle.lfs_model.specs.Disk.{inline_limit}
-use Rattle.lfs_tree.specs.OpenContents.{CanWriteWriterContents, AreWriterContentsOverTreeFile, AreWriterContentsOverFileOnThread}
+use Rattle.lfs_model.specs.format.Disk.{inline_limit}
+use Rattle.lfs_tree.specs.OpenContents.{CanWriteWriterContents, OverTreeFile, OverThreadFile}
 use Rattle.lfs_tree.specs.TreeState.{TreeState}
 use Rattle.lfs_thread.specs.Kept.{ThreadView}
 use Rattle.lfs_tree.proofs.Asking.{rooted_held}
@@ -19,16 +19,16 @@ write_file-written-requires-clause-can g c =
 pub invariant_of-self : goal.invariant_of-self
 invariant_of-self g c =
     let held = rooted_held c.self.inside.thread c.self.inside.root c.self.inside.is_writable c.args.self.now c.self.invariant c.self.view_is c.requires.works in
-    held_beside c.self.inside.thread c.write_file-written.new.thread c.self.inside.root c.self.inside.is_writable held c.write_file-written.ensures.works c.write_file-written.ensures.leaves c.write_file-written.result c.mark_thread_failed_on_error.new.thread c.mark_thread_failed_on_error.ensures
+    held_beside c.self.inside.thread c.write_file-written.new.thread c.self.inside.root c.self.inside.is_writable held c.write_file-written.ensures.works c.write_file-written.ensures.leaves c.write_file-written.result c.mark_failed.new.thread c.mark_failed.ensures
 
 pub returns-clause-over : goal.returns-clause-over
 returns-clause-over g c path over =
     let held = rooted_held c.self.inside.thread c.self.inside.root c.self.inside.is_writable c.args.self.now c.self.invariant c.self.view_is c.requires.works in
-    subst (λ (t : ThreadView). IfOk c.write_file-written.result (AreWriterContentsOverFileOnThread t.kept path)) (sym c.mark_thread_failed_on_error.ensures)
+    subst (λ (t : ThreadView). IfOk c.write_file-written.result (OverThreadFile t.kept path)) (sym c.mark_failed.ensures)
     (all_over c.self.inside.thread c.write_file-written.new.thread c.self.inside.root c.self.inside.is_writable held c.write_file-written.ensures.works c.write_file-written.ensures.leaves
-    path c.args.contents _ _ c.write_file-written.result (subst (λ (s : TreeState). AreWriterContentsOverTreeFile s path c.args.contents) (sym c.self.view_is) over) c.write_file-written.ensures.written c.write_file-written.ensures.owned)
+    path c.args.contents _ _ c.write_file-written.result (subst (λ (s : TreeState). OverTreeFile s path c.args.contents) (sym c.self.view_is) over) c.write_file-written.ensures.written c.write_file-written.ensures.owned)
 
 pub returns-clause-writes : goal.returns-clause-writes
 returns-clause-writes g c =
     let held = rooted_held c.self.inside.thread c.self.inside.root c.self.inside.is_writable c.args.self.now c.self.invariant c.self.view_is c.requires.works in
-    writing c.self.inside.thread c.write_file-written.new.thread c.self.inside.root c.self.inside.is_writable held c.write_file-written.ensures.works c.write_file-written.ensures.leaves c.args.self.now c.write_file-written.result c.mark_thread_failed_on_error.new.thread c.self.view_is c.mark_thread_failed_on_error.ensures c.write_file-written.ensures.reports
+    writing c.self.inside.thread c.write_file-written.new.thread c.self.inside.root c.self.inside.is_writable held c.write_file-written.ensures.works c.write_file-written.ensures.leaves c.args.self.now c.write_file-written.result c.mark_failed.new.thread c.self.view_is c.mark_failed.ensures c.write_file-written.ensures.reports

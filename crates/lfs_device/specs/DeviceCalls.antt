@@ -1,0 +1,35 @@
+-- What a function may promise of the device that it is given: `g` is what a contract sees of the device, `old` and `new` are the
+-- device before and after. Each record joins facts that always come together.
+use Rattle.std.specs.Prelude.{◌≡◌, ◌<◌, ℕ, List, [], ◌∷◌, Result}
+use Rattle.std.specs.Prelude.{IsErrOf}
+use Rattle.lfs_device.specs.declared.device.BlockDevice.{Ghosts}
+use Rattle.lfs_device.specs.declared.error.Error.{Error}
+use Rattle.lfs_device.specs.declared.error.Error.TheVariants.{Io}
+use Rattle.lfs_model.specs.format.Blocks.{SameExcept, SameExceptThese}
+use Rattle.lfs_model.specs.session.History.{LossLeavesAtWorst, HoldsAtLosses, OnlyReadsSince, StayUnprogrammed, fault_count}
+
+-- The device is only read: its blocks stay, and so does what a loss of power may leave.
+pub record ReadsOnly {D : Type 0} (g : Ghosts D) (old new : D) : Type 0 where
+  pub same : g.blocks new ≡ g.blocks old
+  pub geometry : g.geometry new ≡ g.geometry old
+  pub reads : OnlyReadsSince (g.blocks old) (g.history old) (g.history new)
+
+-- No block but this one changes, and bytes of other blocks that were unprogrammed still are. A loss of power during the call
+-- leaves each other block as it was.
+pub record ChangesOnlyThisBlock {D : Type 0} (g : Ghosts D) (b : ℕ) (old new : D) : Type 0 where
+  pub others : SameExcept b (g.blocks old) (g.blocks new)
+  pub elsewhere : StayUnprogrammed (b ∷ []) (g.history old) (g.history new)
+  pub geometry : g.geometry new ≡ g.geometry old
+  pub at_worst : HoldsAtLosses LossLeavesAtWorst (g.history old) (g.history new) (SameExcept b (g.blocks old))
+
+-- the same of several blocks
+pub record ChangesOnlyTheseBlocks {D : Type 0} (g : Ghosts D) (bs : List ℕ) (old new : D) : Type 0 where
+  pub others : SameExceptThese bs (g.blocks old) (g.blocks new)
+  pub elsewhere : StayUnprogrammed bs (g.history old) (g.history new)
+  pub geometry : g.geometry new ≡ g.geometry old
+  pub at_worst : HoldsAtLosses LossLeavesAtWorst (g.history old) (g.history new) (SameExceptThese bs (g.blocks old))
+
+-- `Io` comes with a fault of the device, and any other result without one.
+pub record ReportsFaults {D X : Type 0} (g : Ghosts D) (old new : D) (result : Result X Error) : Type 0 where
+  pub fault : IsErrOf result Io → fault_count (g.history old) < fault_count (g.history new)
+  pub no_fault : (IsErrOf result Io → ⊥) → fault_count (g.history new) ≡ fault_count (g.history old)

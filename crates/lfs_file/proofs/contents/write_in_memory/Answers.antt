@@ -1,0 +1,37 @@
+use Rattle.std.proofs.Common.{ℕ, ◌≡◌, ◌+◌, List, length, max, sym, ap, ◌∙◌, arith}
+use Rattle.lfs_model.specs.format.Blocks.{Blocks}
+use Rattle.lfs_file.specs.Contents.{buffered_bytes}
+use Rattle.lfs_file.specs.Form.{InMemory}
+use Rattle.lfs_file.proofs.Forms.{length-written, written_few}
+use Rattle.lfs_file.proofs.ContentsMemories.{held_size}
+use Rattle.lfs_file.proofs.contents.write_in_memory.Goals as goal
+
+pub returns-then-size-limit-clause-written : goal.returns-then-size-limit-clause-written
+returns-then-size-limit-clause-written g c =
+    let d : Blocks = g.D.BlockDevice.blocks c.args.dev.now in
+    let old : List ℕ = buffered_bytes c.args.list in
+    let n : ℕ = length c.args.bytes.now in
+    let quiet = c.requires.stands in
+    let m = c.max-size.ensures in
+    let size = c.size.ensures in
+    let all = held_size c.args.list quiet.resting.held in
+    let test = c.if-size-limit.true in
+    let long : length (buffered_bytes c.write_buffered_at.new.self) ≡ max (length old) (c.args.place + n) = ap length c.write_buffered_at.ensures.rest ∙ length-written old c.args.place c.args.bytes.now in
+    record {
+      stands = record {
+        idle = quiet.idle;
+        resting = record { geometry = quiet.resting.geometry ∙ sym ((c.write_buffered_at.ensures.holds d).geometry); held = c.write_buffered_at.ensures.held };
+      };
+      has = c.write_buffered_at.ensures.rest;
+      form = ap InMemory long ∙ sym (written_few c.args.limit c.args.place n (InMemory (length old)) (omega arith));
+    }
+
+pub move_to_list-requires-clause-room : goal.move_to_list-requires-clause-room
+move_to_list-requires-clause-room g c =
+    let m = c.max-size.ensures in
+    let size = c.size.ensures in
+    let all = held_size c.args.list c.requires.stands.resting.held in
+    let test = c.if-size-limit.false in
+    let some = c.requires.fits.some in
+    let room = c.requires.fits.room (omega arith) in
+    record { longer = omega arith; small = c.requires.fits.small; room = omega arith }

@@ -1,5 +1,0 @@
-use Rattle.lfs_file.proofs.Ends.{base_chain}
-use Rattle.lfs_file.proofs.list_ends.release_base_list_blocks_from_index.Goals as goal
-
-pub release_list_blocks_from-requires-clause-chain : goal.release_list_blocks_from-requires-clause-chain
-release_list_blocks_from-requires-clause-chain g c = base_chain _ _ _ _ _ _ c.geometry-block_size.ensures c.blocks_for-count.ensures c.requires.base

@@ -1,0 +1,29 @@
+use Rattle.std.proofs.Common.{◌∙◌, List, map, sym, ap, subst}
+use Rattle.std.proofs.lemmas.Option.{same_Some}
+use Rattle.lfs_model.specs.format.Content.{RawContent, RawSlot, slot_of_id}
+use Rattle.lfs_model.specs.layers.LoggedContent.{AttributesInOrder, AreWellFormed}
+use Rattle.lfs_model.specs.format.Slots.{attributes_size}
+use Rattle.lfs_model.proofs.Logged.{logged}
+use Rattle.lfs_model.proofs.Completed.{completed_parts}
+use Rattle.lfs_tag.specs.ContentView.{content_view, slot_view}
+use Rattle.lfs_lookup.proofs.AttributeAtSlots.{parts_of_id, same_attributes}
+use Rattle.lfs_lookup.proofs.AttributesPut.{sized}
+use Rattle.lfs_lookup.proofs.BytesAtSlots.{raw_slot}
+use Rattle.lfs_lookup.proofs.attribute_sizes.size_in_log.Goals as goal
+
+pub size_in_slots-requires : goal.size_in_slots-requires
+size_in_slots-requires c =
+    let (content, is) = c.requires in
+    let read = c.in_ok-content.ensures.content in
+    let sound = logged c.args.log.now (content_view c.in_ok-content.content) is.bytes read in
+    subst AreWellFormed (sym (ap (map slot_view) c.deref.ensures.value)) sound.slots
+
+pub returns-clause-is : goal.returns-clause-is
+returns-clause-is c content slot is at =
+    let read = c.in_ok-content.ensures.content in
+    let sound = logged c.args.log.now (content_view c.in_ok-content.content) is.bytes read in
+    let same = ap (λ (r : RawContent). r.slots) (same_Some (content_view c.in_ok-content.content) is.raw (sym read ∙ is.log)) in
+    let held = same_attributes (slot_of_id is.raw.slots c.args.id) slot (raw_slot is.raw.slots content.slots c.args.id slot (completed_parts is.raw content is.complete).slots at) in
+    let whole = ap (λ (raw : List RawSlot). (slot_of_id raw c.args.id).attributes) same ∙ held in
+    sized slot.attributes c.size_in_slots.result (subst (AttributesInOrder 0) whole (parts_of_id (content_view c.in_ok-content.content).slots c.args.id sound.slots).attributes)
+    (c.size_in_slots.ensures ∙ ap (λ (raw : List RawSlot). attributes_size (slot_of_id raw c.args.id).attributes) (ap (map slot_view) c.deref.ensures.value) ∙ ap attributes_size whole)

@@ -1,7 +1,0 @@
-use Rattle.std.proofs.Common.{◌≡◌, ◌+◌, drop, map}
-use Rattle.lfs_model.specs.Slots.{attributes_size}
-use Rattle.lfs_tag.specs.ContentView.{attribute_view}
-use Rattle.lfs_lookup.proofs.attribute_sizes.size_of_all_attributes.Given as goal
-
-abbrev pub invariant-loop-attribute : goal.invariant-loop-attribute
-invariant-loop-attribute l = l.size + attributes_size (map attribute_view (drop l.attribute-index l.attributes)) ≡ attributes_size (map attribute_view l.attributes)

@@ -1,0 +1,7 @@
+use Rattle.std.proofs.Common.{◌≡◌, ◌+◌, drop, map}
+use Rattle.lfs_model.specs.format.Slots.{attributes_size}
+use Rattle.lfs_tag.specs.ContentView.{attribute_view}
+use Rattle.lfs_lookup.proofs.attribute_sizes.total_attributes_size.Given as goal
+
+abbrev pub invariant-loop-attribute : goal.invariant-loop-attribute
+invariant-loop-attribute l = l.size + attributes_size (map attribute_view (drop l.attribute-index l.attributes)) ≡ attributes_size (map attribute_view l.attributes)

@@ -1,0 +1,20 @@
+use Rattle.std.proofs.Common.{◌≡◌, ◌<◌, ◌≤◌, ◌+◌, ◌-◌, ◌++◌, IfSome, Some, drop, length}
+use Rattle.std.specs.Option.{option_map_or}
+use Rattle.lfs_model.specs.session.History.{read_count}
+use Rattle.lfs_lookup.specs.Items.{directory_items_view}
+use Rattle.lfs_lookup.specs.Listed.{joined_pairs, joined_count_from, joined_pairs_from, pair_entries_from}
+use Rattle.lfs_lookup.proofs.Reading.{HasRead}
+use Rattle.lfs_lookup.proofs.RecentBlocks.{HasKept}
+use Rattle.lfs_lookup.proofs.directory.directory_items.Given as goal
+
+abbrev pub invariant-loop-pair : goal.invariant-loop-pair
+invariant-loop-pair g l = record {
+  read : HasRead l.fn.thread l.thread;
+  few : read_count l.thread.kept.history + joined_count_from l.fn.thread.kept.pairs l.pair ≤ read_count l.fn.thread.kept.history + joined_count_from l.fn.thread.kept.pairs (Some l.first);
+  along : HasKept (joined_pairs (drop l.first l.fn.thread.kept.pairs)) (joined_pairs_from l.fn.thread.kept.pairs l.pair) l.fn.thread l.thread;
+  below : IfSome l.pair (λ pair. pair < length l.fn.thread.kept.pairs);
+  items : directory_items_view l.items.items ++ pair_entries_from l.fn.thread.kept.pairs l.pair ≡ pair_entries_from l.fn.thread.kept.pairs (Some l.first);
+}
+
+abbrev pub decreases-loop-pair : goal.decreases-loop-pair
+decreases-loop-pair g l = option_map_or (λ pair. length l.fn.thread.kept.pairs - pair) l.pair 0

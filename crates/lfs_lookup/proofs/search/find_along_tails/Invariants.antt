@@ -1,0 +1,25 @@
+use Rattle.std.proofs.Common.{◌≡◌, ◌<◌, ◌≤◌, ◌+◌, ◌-◌, length, drop, false, get_or}
+use Rattle.lfs_model.specs.session.History.{fault_count, read_count}
+use Rattle.lfs_model.specs.session.InDirectory.{joined_count}
+use Rattle.lfs_thread.specs.ThreadSteps.{OnlyReadsThread, empty_anchor}
+use Rattle.lfs_lookup.specs.Listed.{joined_pairs}
+use Rattle.lfs_lookup.specs.NameSearch.{IsAbsent}
+use Rattle.lfs_lookup.proofs.RecentBlocks.{HasBrought}
+use Rattle.lfs_lookup.proofs.ShownAlong.{IsReached}
+use Rattle.lfs_lookup.proofs.search.find_along_tails.Given as goal
+
+abbrev pub invariant-loop-id : goal.invariant-loop-id
+invariant-loop-id g l = record {
+  only : OnlyReadsThread l.fn.thread.kept l.thread.kept;
+  no_fault : fault_count l.thread.kept.history ≡ fault_count l.fn.thread.kept.history;
+  works : l.thread.failed ≡ false;
+  few : read_count l.thread.kept.history + joined_count (drop l.pair l.fn.thread.kept.pairs) ≤ read_count l.fn.thread.kept.history + joined_count (drop l.fn.first l.fn.thread.kept.pairs);
+  along : HasBrought (joined_pairs (drop l.fn.first l.fn.thread.kept.pairs)) (joined_pairs (drop l.pair l.fn.thread.kept.pairs)) l.fn.thread l.thread;
+  from : l.fn.first ≤ l.pair;
+  below : l.pair < length l.fn.thread.kept.pairs;
+  reached : IsReached l.fn.thread.kept.pairs l.fn.first l.pair (get_or l.fn.thread.kept.pairs l.pair empty_anchor);
+  absent : IsAbsent l.fn.moved l.pair (drop l.pair l.fn.thread.kept.pairs) l.fn.name → IsAbsent l.fn.moved l.fn.first (drop l.fn.first l.fn.thread.kept.pairs) l.fn.name;
+}
+
+abbrev pub decreases-loop-id : goal.decreases-loop-id
+decreases-loop-id g l = length l.fn.thread.kept.pairs - l.pair

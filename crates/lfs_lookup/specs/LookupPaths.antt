@@ -1,0 +1,139 @@
+-- What paths lead to.
+use Rattle.std.specs.Prelude.{ℕ, ◌≡◌, List, Option, Some, None, ◌∷◌, [], ◌++◌}
+use Rattle.lfs_model.specs.declared.order.NameOrder.{NameOrder}
+use Rattle.lfs_model.specs.session.InDirectory.{IsPairAt, BelongsAt, IsPlaceOf}
+use Rattle.lfs_model.specs.format.Names.{Name}
+use Rattle.lfs_model.specs.session.Operations.{Refusal, NoEnt, NotDir}
+use Rattle.lfs_model.specs.session.Session.{directory_refusal, parents_refusal}
+use Rattle.lfs_model.specs.session.SlotEdits.{slot_of}
+use Rattle.lfs_model.specs.format.Slots.{zero_gstate}
+use Rattle.lfs_model.specs.format.Thread.{Pair, pairs_gstate}
+use Rattle.lfs_model.specs.tree.Tree.{Path}
+use Rattle.lfs_model.specs.tree.View.{IsAccepted}
+use Rattle.lfs_model.specs.tree.Shown.{LeadsTo, tree_on_disk}
+use Rattle.lfs_thread.specs.Kept.{KeptThread}
+use Rattle.lfs_lookup.specs.Entry.{IsStorage}
+use Rattle.lfs_lookup.specs.NameSearch.{HidesFrom, skipped_id}
+use Rattle.lfs_lookup.specs.declared.paths.PathLookup.{PathLookup}
+use Rattle.lfs_lookup.specs.declared.paths.PathLookup.TheVariants as found
+use Rattle.lfs_lookup.specs.declared.paths.VisiblePathLookup.{VisiblePathLookup}
+use Rattle.lfs_lookup.specs.declared.paths.VisiblePathLookup.TheVariants as shown
+use Rattle.lfs_lookup.specs.declared.search.SlotPosition.{SlotPosition}
+use Rattle.lfs_lookup.specs.declared.paths.Parent.{Parent}
+use Rattle.lfs_lookup.specs.declared.paths.Parent.TheVariants as parent
+
+-- the image is accepted, and has nothing to recover
+pub record IsSettled (t : KeptThread) : Type 0 where
+  pub accepted : IsAccepted t.disk t.pairs
+  pub settled : pairs_gstate t.pairs ≡ zero_gstate
+
+-- the image is accepted, and that slot and no other counts as deleted
+pub record HidesMovedSlot (t : KeptThread) (moved : Option SlotPosition) : Type 0 where
+  pub accepted : IsAccepted t.disk t.pairs
+  pub hides : HidesFrom (pairs_gstate t.pairs) moved 0 t.pairs
+
+-- the path leads to a directory that begins with the pair of number `first`
+pub record LeadsToPair (ps : List Pair) (path : Path) (first : ℕ) : Type 0 where
+  pub at : ℕ × ℕ
+  pub leads : LeadsTo ps path at
+  pub begins : IsPairAt ps at first
+
+-- the entry at a path, where a directory is wanted
+abbrev pub IsNodeAt : KeptThread → Path → Parent → Type 0
+IsNodeAt t path (parent.Directory first) = LeadsToPair t.pairs path first
+IsNodeAt t path parent.File = directory_refusal (tree_on_disk t.disk t.pairs path) ≡ Some NotDir
+IsNodeAt t path parent.Nothing = directory_refusal (tree_on_disk t.disk t.pairs path) ≡ Some NoEnt
+
+-- the refusal of a path for the component before its last
+abbrev pub parent_refusal : Parent → Option Refusal
+parent_refusal (parent.Directory first) = None
+parent_refusal parent.File = Some NotDir
+parent_refusal parent.Nothing = Some NoEnt
+
+abbrev pub IfParent : Parent → (ℕ → Type 0) → Type 0
+IfParent (parent.Directory first) P = P first
+IfParent parent.File P = Unit {0}
+IfParent parent.Nothing P = Unit {0}
+
+-- what the directories of a path lead to
+pub record ParentReached (t : KeptThread) (path : Path) (parent : Parent) : Type 0 where
+  pub fault : (name : Name) → parents_refusal (tree_on_disk t.disk t.pairs) [] (path ++ name ∷ []) ≡ parent_refusal parent
+  pub begins : IfParent parent (LeadsToPair t.pairs path)
+
+-- ---- what is found
+
+-- The name is in the directory at the path above, in the slot at the spot. This slot is the slot of its path.
+pub record IsSlotBelow (ps : List Pair) (above : Path) (name : Name) (first : ℕ) (spot : SlotPosition) : Type 0 where
+  pub on : LeadsToPair ps above first
+  pub stands : IsPlaceOf ps first name spot.pair spot.id
+  pub slot : slot_of ps (above ++ name ∷ []) ≡ Some stands.stands.slot
+
+-- nothing is at its path, and the name belongs in the directory at the path above, before the slot at the spot
+pub record BelongsAtPath (order : NameOrder) (ps : List Pair) (above : Path) (name : Name) (first : ℕ) (spot : SlotPosition) : Type 0 where
+  pub on : LeadsToPair ps above first
+  pub belongs : BelongsAt order ps first name spot.pair spot.id
+  pub nothing : slot_of ps (above ++ name ∷ []) ≡ None
+
+-- the entry of a name in the directory at a path
+abbrev pub IsNamedEntry : NameOrder → List Pair → Path → Name → PathLookup → Type 0
+IsNamedEntry order ps above name (found.Directory parent slot first) = IsSlotBelow ps above name parent slot × LeadsToPair ps (above ++ name ∷ []) first
+IsNamedEntry order ps above name (found.File parent slot contents) = (s : IsSlotBelow ps above name parent slot) × IsStorage contents s.stands.stands.slot.struct
+IsNamedEntry order ps above name (found.Nothing parent place) = BelongsAtPath order ps above name parent place
+IsNamedEntry order ps above name found.Root = ⊥
+IsNamedEntry order ps above name found.ParentIsFile = ⊥
+IsNamedEntry order ps above name found.ParentIsMissing = ⊥
+
+-- the refusal of a path for its parents
+abbrev pub lookup_refusal : PathLookup → Option Refusal
+lookup_refusal found.ParentIsFile = Some NotDir
+lookup_refusal found.ParentIsMissing = Some NoEnt
+lookup_refusal _ = None
+
+-- the last name of the path has that entry
+pub record IsLastEntry (order : NameOrder) (ps : List Pair) (path : Path) (found : PathLookup) : Type 0 where
+  pub above : Path
+  pub name : Name
+  pub is : path ≡ above ++ name ∷ []
+  pub there : IsNamedEntry order ps above name found
+
+-- what is found for the path, unless a parent refuses
+abbrev pub IsFoundOrRefused : KeptThread → Path → PathLookup → Type 0
+IsFoundOrRefused t path found.Root = path ≡ []
+IsFoundOrRefused t path found.ParentIsFile = Unit {0}
+IsFoundOrRefused t path found.ParentIsMissing = Unit {0}
+IsFoundOrRefused t path there = IsLastEntry t.disk.order t.pairs path there
+
+-- what a path leads to
+pub record LeadsToResult (t : KeptThread) (path : Path) (found : PathLookup) : Type 0 where
+  pub parents : parents_refusal (tree_on_disk t.disk t.pairs) [] path ≡ lookup_refusal found
+  pub there : IsFoundOrRefused t path found
+
+-- ---- what is found where a slot counts as deleted
+
+-- The last name of the path is at the spot, in the directory at the path above, and not in the slot that counts as deleted. This
+-- slot is the slot of the path.
+pub record IsUnmoved (ps : List Pair) (moved : Option SlotPosition) (path : Path) (spot : SlotPosition) : Type 0 where
+  pub above : Path
+  pub name : Name
+  pub is : path ≡ above ++ name ∷ []
+  pub first : ℕ
+  pub on : LeadsToPair ps above first
+  pub stands : IsPlaceOf ps first name spot.pair spot.id
+  pub kept : skipped_id moved spot.pair ≡ Some spot.id → ⊥
+  pub slot : slot_of ps path ≡ Some stands.stands.slot
+
+-- the entry at a path below the root
+abbrev pub IsBelowRoot : List Pair → Option SlotPosition → Path → VisiblePathLookup → Type 0
+IsBelowRoot ps moved path (shown.Directory spot first) = IsUnmoved ps moved path spot × LeadsToPair ps path first
+IsBelowRoot ps moved path (shown.File spot contents) = (s : IsUnmoved ps moved path spot) × IsStorage contents s.stands.stands.slot.struct
+IsBelowRoot ps moved path shown.Nothing = slot_of ps path ≡ None
+IsBelowRoot ps moved path shown.Root = ⊥
+IsBelowRoot ps moved path shown.ParentIsFile = ⊥
+IsBelowRoot ps moved path shown.ParentIsMissing = ⊥
+
+-- what a path leads to; a parent refuses it, or not
+abbrev pub IsHiddenResult : KeptThread → Option SlotPosition → Path → VisiblePathLookup → Type 0
+IsHiddenResult t moved path shown.Root = path ≡ []
+IsHiddenResult t moved path shown.ParentIsFile = parents_refusal (tree_on_disk t.disk t.pairs) [] path ≡ Some NotDir
+IsHiddenResult t moved path shown.ParentIsMissing = parents_refusal (tree_on_disk t.disk t.pairs) [] path ≡ Some NoEnt
+IsHiddenResult t moved path there = (parents_refusal (tree_on_disk t.disk t.pairs) [] path ≡ None) × IsBelowRoot t.pairs moved path there

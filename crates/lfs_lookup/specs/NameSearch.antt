@@ -1,0 +1,84 @@
+-- What a search for a name returns.
+use Rattle.std.specs.Prelude.{ℕ, ◌≡◌, ◌+◌, ◌==◌, ◌&&◌, if◌then◌else◌, true, false, List, [], ◌∷◌, drop, map, slice_get, AllPairs, Option, None, Some, IsSome}
+use Rattle.std.specs.declared.cmp.Ordering.TheVariants.{Less}
+use Rattle.lfs_model.specs.declared.order.NameOrder.{NameOrder}
+use Rattle.lfs_model.specs.format.Names.{Name, name_cmp}
+use Rattle.lfs_model.specs.format.Slots.{Slot, PairContent, Gstate, is_superblock}
+use Rattle.lfs_model.specs.format.Thread.{Pair, is_hard_tail, moved_id}
+use Rattle.lfs_model.specs.session.InDirectory.{HasName, BelongsAtId, IsPlaceOf, BelongsAt, AreEntryPairs, entry_slots, all_slots}
+use Rattle.lfs_thread.specs.CachedLog.{IsContentLog, cached_log}
+use Rattle.lfs_thread.specs.Kept.{ThreadView}
+use Rattle.lfs_lookup.specs.declared.entry.FileOrDirectory.{FileOrDirectory}
+use Rattle.lfs_lookup.specs.declared.search.SlotPosition.{SlotPosition}
+use Rattle.lfs_lookup.specs.declared.search.NamePositionInDirectory.{NamePositionInDirectory}
+use Rattle.lfs_lookup.specs.declared.search.NamePositionInDirectory.TheVariants.{Found, Place}
+use Rattle.lfs_lookup.specs.declared.search.NamePositionInPair.{NamePositionInPair}
+use Rattle.lfs_lookup.specs.declared.search.NamePositionInPair.TheVariants as in_pair
+use Rattle.lfs_lookup.specs.Entry.{IsStructEntry}
+use Rattle.lfs_lookup.specs.Listed.{joined_pairs}
+
+-- a block's log comes to a content in which each slot has a name and a struct
+abbrev pub HasCompleteLog : List ℕ → Type 0
+HasCompleteLog block = (content : PairContent) × IsContentLog block content
+
+-- no entry has the name, but for the one at an id
+abbrev pub IsAbsentExcept : Option ℕ → List Slot → Name → Type 0
+IsAbsentExcept skip slots name = (id : ℕ) (s : Slot) → slice_get slots id ≡ Some s → is_superblock s ≡ false → (skip ≡ Some id → ⊥) → s.name ≡ name → ⊥
+
+-- the name is at the id, which isn't passed over, with that struct
+pub record HasNameUnskipped (skip : Option ℕ) (slots : List Slot) (name : Name) (id : ℕ) (entry : FileOrDirectory) : Type 0 where
+  pub stands : HasName slots name id
+  pub shows : IsStructEntry entry stands.slot.struct
+  pub kept : skip ≡ Some id → ⊥
+
+-- the name isn't there, and belongs there if no slot is passed over
+pub record AbsentBelongsAt (order : NameOrder) (skip : Option ℕ) (slots : List Slot) (name : Name) (id : ℕ) : Type 0 where
+  pub absent : IsAbsentExcept skip slots name
+  pub place : skip ≡ None → BelongsAtId order slots name id
+
+-- among the slots of a pair, of which one may be passed over
+abbrev pub FindsInPair : NameOrder → Option ℕ → List Slot → Name → NamePositionInPair → Type 0
+FindsInPair order skip slots name (in_pair.Found id entry) = HasNameUnskipped skip slots name id entry
+FindsInPair order skip slots name (in_pair.Place id) = AbsentBelongsAt order skip slots name id
+
+-- in the directory that begins with the pair of number `first`
+abbrev pub FindsInDirectory : NameOrder → List Pair → ℕ → Name → NamePositionInDirectory → Type 0
+FindsInDirectory order ps first name (Found spot entry) = (s : IsPlaceOf ps first name spot.pair spot.id) × IsStructEntry entry s.stands.slot.struct
+FindsInDirectory order ps first name (Place spot) = BelongsAt order ps first name spot.pair spot.id
+
+-- the block of the slot that was found is cached
+abbrev pub CachesFoundPair : ThreadView → NamePositionInDirectory → Type 0
+CachesFoundPair t (Found spot entry) = IsSome (cached_log t spot.pair)
+CachesFoundPair t (Place spot) = Unit {0}
+
+-- The names in the directory that begins with the pair of number `first` rise, and only this pair may have a superblock.
+pub record AreOrdered (order : NameOrder) (ps : List Pair) (first : ℕ) : Type 0 where
+  pub rise : AllPairs (λ a b. name_cmp order a b ≡ Less) (map (λ s. s.name) (entry_slots (all_slots (joined_pairs (drop first ps)))))
+  pub plain : AreEntryPairs (drop (first + 1) ps)
+
+-- ---- where a slot counts as deleted
+
+-- the id that is passed over in the pair of that number
+abbrev pub skipped_id : Option SlotPosition → ℕ → Option ℕ
+skipped_id None index = None
+skipped_id (Some spot) index = if spot.pair == index then Some spot.id else None
+
+-- these pairs, from number `index` on, as far as hard tails lead
+abbrev pub IsAbsent : Option SlotPosition → ℕ → List Pair → Name → Type 0
+IsAbsent moved index [] name = Unit {0}
+IsAbsent moved index (p ∷ ps) name = IsAbsentExcept (skipped_id moved index) p.content.slots name × (is_hard_tail p.content.tail ≡ true → IsAbsent moved (index + 1) ps name)
+
+-- the name is at this place, and not in the slot that counts as deleted
+pub record IsNameAt (ps : List Pair) (moved : Option SlotPosition) (first : ℕ) (name : Name) (spot : SlotPosition) (entry : FileOrDirectory) : Type 0 where
+  pub stands : IsPlaceOf ps first name spot.pair spot.id
+  pub shows : IsStructEntry entry stands.stands.slot.struct
+  pub kept : skipped_id moved spot.pair ≡ Some spot.id → ⊥
+
+abbrev pub FindsUnhidden : List Pair → Option SlotPosition → ℕ → Name → Option (SlotPosition × FileOrDirectory) → Type 0
+FindsUnhidden ps moved first name (Some found) = IsNameAt ps moved first name found.0 found.1
+FindsUnhidden ps moved first name None = IsAbsent moved first (drop first ps) name
+
+-- in these pairs, from number `index` on, that slot and no other counts as deleted
+abbrev pub HidesFrom : Gstate → Option SlotPosition → ℕ → List Pair → Type 0
+HidesFrom g moved index [] = Unit {0}
+HidesFrom g moved index (p ∷ ps) = (skipped_id moved index ≡ moved_id g p) × HidesFrom g moved (index + 1) ps

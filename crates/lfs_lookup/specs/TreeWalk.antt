@@ -1,0 +1,82 @@
+-- All entries beneath the root, as a walk finds them.
+use Rattle.std.specs.Prelude.{ℕ, ◌≡◌, List, [], ◌∷◌, ◌++◌, map, reverse, Some}
+use Rattle.lfs_model.specs.format.Disk.{Disk}
+use Rattle.lfs_model.specs.format.SkipLists.{IsSkipList}
+use Rattle.lfs_model.specs.format.Names.{Name, slash_byte}
+use Rattle.lfs_model.specs.format.Slots.{Struct, Inline, Ctz, Branch, Attributes}
+use Rattle.lfs_model.specs.format.Thread.{Pair}
+use Rattle.lfs_model.specs.tree.Tree.{Node, FileNode, DirectoryNode}
+use Rattle.lfs_model.specs.session.Operations.{path_bytes}
+use Rattle.lfs_model.specs.layers.Listing.{PathNode, IsWalk}
+use Rattle.lfs_model.specs.session.InDirectory.{IsPairAt}
+use Rattle.lfs_model.specs.tree.Shown.{struct_list_bytes, tree_on_disk}
+use Rattle.lfs_lookup.specs.declared.walks.TreeItem.{TreeItem}
+use Rattle.lfs_lookup.specs.ByName.{AreShorterFirst}
+use Rattle.lfs_lookup.specs.Items.{NamedStruct, owned_view}
+use Rattle.lfs_lookup.specs.Listed.{pair_entries_from}
+
+-- a path's bytes, and the entry there
+pub record PathStruct : Type 0 where
+  pub path : List ℕ
+  pub struct : Struct
+
+abbrev pub tree_item_view : TreeItem → PathStruct
+tree_item_view f = record { path = f.path.items; struct = owned_view f.structure }
+
+abbrev pub tree_items_view : List TreeItem → List PathStruct
+tree_items_view founds = map tree_item_view founds
+
+abbrev pub walked_entry : List ℕ → NamedStruct → PathStruct
+walked_entry path shape = record { path = path ++ slash_byte ∷ shape.name; struct = shape.struct }
+
+abbrev pub walked_entries : List ℕ → List NamedStruct → List PathStruct
+walked_entries path shapes = map (walked_entry path) shapes
+
+-- ---- pairs by their addresses
+
+abbrev pub pairs_addresses : List Pair → List (ℕ × ℕ)
+pairs_addresses ps = map (λ p. p.at) ps
+
+-- ---- what is to be visited, the next one last
+
+-- a directory's first pair is in the thread
+abbrev pub HasFirstIfDirectory : List Pair → Struct → Type 0
+HasFirstIfDirectory ps (Branch to) = (first : ℕ) × IsPairAt ps to first
+HasFirstIfDirectory ps (Inline bytes) = Unit {0}
+HasFirstIfDirectory ps (Ctz head size) = Unit {0}
+
+-- the entries of the directory that begins with the pair of that number are put on top, in name order
+abbrev pub ArePushed : List Pair → List ℕ → ℕ → List PathStruct → List PathStruct → Type 0
+ArePushed ps path first old new =
+    (shapes : List NamedStruct) × (AreShorterFirst (pair_entries_from ps (Some first)) shapes × (new ≡ old ++ reverse (walked_entries path shapes)))
+
+-- the entries of a directory are put on top
+abbrev pub PushesIfDirectory : List Pair → List ℕ → Struct → List PathStruct → List PathStruct → Type 0
+PushesIfDirectory ps path (Branch to) old new = (first : ℕ) × (IsPairAt ps to first × ArePushed ps path first old new)
+PushesIfDirectory ps path (Inline bytes) old new = new ≡ old
+PushesIfDirectory ps path (Ctz head size) old new = new ≡ old
+
+abbrev pub AreBelowPushed : List Pair → PathStruct → List PathStruct → List PathStruct → Type 0
+AreBelowPushed ps place old new = PushesIfDirectory ps place.path place.struct old new
+
+-- ---- the walk
+
+-- the struct gives the node
+abbrev pub IsStructNode : Disk → Struct → Node → Type 0
+IsStructNode disk (Inline bytes) node = (attributes : Attributes) × (node ≡ FileNode attributes bytes)
+IsStructNode disk (Ctz head size) node = (attributes : Attributes) × ((node ≡ FileNode attributes (struct_list_bytes disk head size)) × IsSkipList disk.blocks disk.block_size head size)
+IsStructNode disk (Branch to) node = (attributes : Attributes) × ((names : List Name) × (node ≡ DirectoryNode attributes names))
+
+pub record IsTreeItem (disk : Disk) (place : PathStruct) (entry : PathNode) : Type 0 where
+  pub path : place.path ≡ path_bytes entry.path
+  pub node : IsStructNode disk place.struct entry.node
+
+abbrev pub AreTreeItems : Disk → List PathStruct → List PathNode → Type 0
+AreTreeItems disk [] [] = Unit {0}
+AreTreeItems disk [] (e ∷ es) = ⊥
+AreTreeItems disk (p ∷ ps) [] = ⊥
+AreTreeItems disk (p ∷ ps) (e ∷ es) = IsTreeItem disk p e × AreTreeItems disk ps es
+
+-- these places are those of the walk of the tree, in order
+abbrev pub AreWalkItems : Disk → List Pair → List PathStruct → Type 0
+AreWalkItems disk ps places = (entries : List PathNode) × (IsWalk (tree_on_disk disk ps) entries × AreTreeItems disk places entries)

@@ -1,0 +1,12 @@
+-- What a loss of power leaves.
+pub mod Conformance
+pub mod Frame
+pub mod Failure
+pub mod ReadBounds
+pub mod Stops
+pub mod PowerLoss
+pub mod Premises
+pub mod FailedCalls
+pub mod Standing
+pub mod Performed
+pub mod RepeatedPowerLoss

@@ -1,0 +1,24 @@
+-- How an error ends an operation without a reply. The device failed, memory was wanting, or a remount found no accepted disk.
+use Rattle.std.specs.Prelude.{◌≡◌, true, false, List, [], ◌++◌}
+use Rattle.lfs_model.specs.format.Disk.{SameGeometry}
+use Rattle.lfs_model.specs.format.Thread.{Pair}
+use Rattle.lfs_model.specs.tree.View.{IsAccepted}
+use Rattle.lfs_model.specs.tree.Profile.{IsWritable}
+use Rattle.lfs_model.specs.session.History.{CallEvent}
+use Rattle.lfs_model.specs.session.Operations.{Operation}
+use Rattle.lfs_model.specs.session.Session.{Session}
+use Rattle.lfs_model.specs.session.State.{HasFailed, Healthy, is_remount}
+use Rattle.lfs_model.specs.session.Run.{SystemState, is_read_only, renames_itself, IsUntouched}
+
+-- The session fails in an operation. A query, a rename to itself and a remount write nothing. Nor does any operation on an image
+-- outside the writing profile. A session that had failed makes no call but for a remount.
+pub record FailsIn (from : SystemState) (op : Operation) (to : SystemState) : Type 0 where
+  pub failed : to.state ≡ HasFailed
+  pub geometry : SameGeometry from.disk to.disk
+  pub calls : List CallEvent
+  pub called : to.calls ≡ calls ++ from.calls
+  pub asks : (s : Session) → from.state ≡ Healthy s → is_read_only s op ≡ true → IsUntouched from.disk calls to.disk
+  pub itself : renames_itself op ≡ true → IsUntouched from.disk calls to.disk
+  pub unwritten : ((ps : List Pair) → IsAccepted from.disk ps → IsWritable from.disk ps → ⊥) → IsUntouched from.disk calls to.disk
+  pub remounted : is_remount op ≡ true → IsUntouched from.disk calls to.disk
+  pub silent : from.state ≡ HasFailed → is_remount op ≡ false → (to.disk ≡ from.disk) × (calls ≡ [])

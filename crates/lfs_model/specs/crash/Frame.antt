@@ -1,0 +1,128 @@
+-- Which blocks an operation leaves alone, how many reads a look-up may take, and which operations make no call.
+use Rattle.std.specs.Prelude.{ℕ, ◌≡◌, ◌≤◌, Bool, true, false, if◌then◌else◌, not, List, [], ◌∷◌, ◌++◌, length, map, Option, Some, None, All, Any, Contains, sum_by}
+use Rattle.lfs_model.specs.format.Disk.{Disk, disk_block}
+use Rattle.lfs_model.specs.format.Slots.{Slot, same_pair, is_superblock}
+use Rattle.lfs_model.specs.format.Thread.{Pair, is_hard_tail, root_address}
+use Rattle.lfs_model.specs.tree.Tree.{Path, address_at_path}
+use Rattle.lfs_model.specs.format.Names.{Name, same_name}
+use Rattle.lfs_model.specs.session.TreeEdits.{parent_path, last_name}
+use Rattle.lfs_model.specs.tree.Shown.{all_entries, all_slots_not_moved, struct_blocks, LeadsTo}
+use Rattle.lfs_model.specs.session.History.{CallEvent, read_count}
+use Rattle.lfs_model.specs.session.Operations as ops
+use Rattle.lfs_model.specs.session.Operations.{Operation, Refusal, BadFile, Invalid, ReadOnly, Failed}
+use Rattle.lfs_model.specs.session.Session.{Session, OpenFile, file_path, file_numbered}
+use Rattle.lfs_model.specs.session.Refusals.{path_or_root, is_root_path}
+use Rattle.lfs_model.specs.session.State.{is_remount}
+use Rattle.lfs_model.specs.session.Run.{writes_or_truncates, needs_no_call}
+
+-- ---- the pairs of a directory
+
+-- the first pair, and those that hard tails join to it
+abbrev pub tail_pairs : Pair → List Pair → List Pair
+tail_pairs p [] = p ∷ []
+tail_pairs p (q ∷ ps) = p ∷ (if is_hard_tail p.content.tail then tail_pairs q ps else [])
+
+-- the pairs of the directory that begins there
+abbrev pub directory_pairs : List Pair → ℕ × ℕ → List Pair
+directory_pairs [] at = []
+directory_pairs (p ∷ ps) at = if same_pair p.at at then tail_pairs p ps else directory_pairs ps at
+
+-- ---- blocks
+
+abbrev pub paths_of_file : Option OpenFile → List Path
+paths_of_file None = []
+paths_of_file (Some file) = file_path file ∷ []
+
+-- the paths that an operation is about
+abbrev pub changed_paths : Session → Operation → List Path
+changed_paths s (ops.Open path flags) = path_or_root path ∷ []
+changed_paths s (ops.Mkdir path) = path_or_root path ∷ []
+changed_paths s (ops.Remove path) = path_or_root path ∷ []
+changed_paths s (ops.Rename old new) = path_or_root old ∷ path_or_root new ∷ []
+changed_paths s (ops.SetAttr path kind bytes) = path_or_root path ∷ []
+changed_paths s (ops.RemoveAttr path kind) = path_or_root path ∷ []
+changed_paths s (ops.Sync fd) = paths_of_file (file_numbered s.files fd)
+changed_paths s (ops.Close fd) = paths_of_file (file_numbered s.files fd)
+changed_paths s _ = []
+
+-- the slot is an entry of that name; a superblock's slot isn't
+abbrev pub HasEntryName : Name → Slot → Type 0
+HasEntryName name s = (is_superblock s ≡ false) × (same_name name s.name ≡ true)
+
+-- the pair holds the slot of that path
+abbrev pub HasPathSlot : List Pair → Pair → Path → Type 0
+HasPathSlot ps p path = (at : ℕ × ℕ) × (LeadsTo ps (parent_path path) at × Contains (directory_pairs ps at) p
+    × Any (HasEntryName (last_name path)) p.content.slots)
+
+abbrev pub SamePairBlocks : Disk → Disk → Pair → Type 0
+SamePairBlocks disk new p = (disk_block new p.at.0 ≡ disk_block disk p.at.0) × (disk_block new p.at.1 ≡ disk_block disk p.at.1)
+
+-- Every block of a file's list keeps its bytes. So do both blocks of a pair that stays with what it holds. Excepted are pairs
+-- that hold a slot that the operation is about.
+pub record LeavesOthers (disk : Disk) (ps : List Pair) (s : Session) (op : Operation) (new : Disk) (qs : List Pair) : Type 0 where
+  pub files : All (λ t. All (λ b. disk_block new b ≡ disk_block disk b) (struct_blocks disk t.struct)) (all_slots_not_moved ps)
+  pub pairs : (p : Pair) → Contains ps p → Contains qs p → (Any (HasPathSlot ps p) (changed_paths s op) → ⊥) → SamePairBlocks disk new p
+
+-- ---- reads
+
+-- the paths above one, the root's first
+abbrev pub ancestor_paths : Path → List Path
+ancestor_paths [] = []
+ancestor_paths (name ∷ path) = [] ∷ map (λ p. name ∷ p) (ancestor_paths path)
+
+-- the directories that a look-up searches, by their paths
+abbrev pub searched_directories : Operation → List Path
+searched_directories (ops.Stat path) = ancestor_paths (path_or_root path)
+searched_directories (ops.GetAttr path kind) = ancestor_paths (path_or_root path)
+searched_directories (ops.ListAll path) = ancestor_paths (path_or_root path) ++ path_or_root path ∷ []
+searched_directories _ = []
+
+abbrev pub is_look_up : Operation → Bool
+is_look_up (ops.Stat path) = true
+is_look_up (ops.GetAttr path kind) = true
+is_look_up (ops.ListAll path) = true
+is_look_up _ = false
+
+-- how many pairs the directory at a path has, if it is one
+abbrev pub pair_count_at : List Pair → Path → ℕ
+pair_count_at ps path = count (address_at_path (all_entries ps) (root_address ps) path)
+  where
+    count : Option (ℕ × ℕ) → ℕ
+    count None = 0
+    count (Some at) = length (directory_pairs ps at)
+
+-- a look-up reads no more pairs than its directories have
+abbrev pub BoundsReads : List Pair → Operation → List CallEvent → Type 0
+BoundsReads ps op calls = is_look_up op ≡ true → read_count calls ≤ sum_by (pair_count_at ps) (searched_directories op)
+
+-- the session answers the operation from its own state, without the device
+abbrev pub answers_itself : Operation → Bool
+answers_itself ops.AskGstate = true
+answers_itself (ops.IsUsed block) = true
+answers_itself ops.UsedCount = true
+answers_itself _ = false
+
+-- The operation looks up in directories that the one before has just searched, at most eight of one pair each.
+pub record SearchesAgain (ps : List Pair) (before op : Operation) : Type 0 where
+  pub path : List ℕ
+  pub stat : before ≡ ops.Stat path
+  pub below : is_root_path (path_or_root path) ≡ false
+  pub again : is_look_up op ≡ true
+  pub within : All (λ p. Contains (searched_directories before) p) (searched_directories op)
+  pub few : length (searched_directories before) ≤ 8
+  pub small : All (λ p. pair_count_at ps p ≡ 1) (searched_directories before)
+
+-- ---- what comes at once
+
+-- The operation takes neither the device nor memory. The session answers it from its own state, or nothing else changes.
+abbrev pub needs_no_resource : Session → Operation → Bool
+needs_no_resource s (ops.Seek fd position) = true
+needs_no_resource s op = needs_no_call s op
+
+-- a refusal with this error needs no look-up, and none of a write or a truncate does
+abbrev pub is_early_refusal : Operation → Refusal → Bool
+is_early_refusal op Failed = not (is_remount op)
+is_early_refusal op ReadOnly = true
+is_early_refusal op BadFile = true
+is_early_refusal op Invalid = true
+is_early_refusal op _ = writes_or_truncates op

@@ -1,0 +1,146 @@
+-- Losses of power in runs, any number of them one after another.
+use Rattle.std.proofs.Common.{inl, inr}
+use Rattle.std.specs.Prelude.{◌≡◌, ◌⊎◌, false, List, [], ◌∷◌, ◌++◌, Option, Some, None, All, Any}
+use Rattle.lfs_model.specs.format.Blocks.{Blocks}
+use Rattle.lfs_model.specs.format.Disk.{Disk, ordered_disk}
+use Rattle.lfs_model.specs.declared.order.NameOrder.{NameOrder}
+use Rattle.lfs_model.specs.format.Thread.{Pair}
+use Rattle.lfs_model.specs.tree.Tree.{Tree}
+use Rattle.lfs_model.specs.tree.View.{IsAccepted}
+use Rattle.lfs_model.specs.tree.Profile.{IsWritable, IsWritableDisk}
+use Rattle.lfs_model.specs.tree.Shown.{tree_on_disk}
+use Rattle.lfs_model.specs.session.History.{CallEvent, AllCallsSince}
+use Rattle.lfs_model.specs.crash.Stops.{LeftByLoss, ErasesCleanly}
+use Rattle.lfs_model.specs.session.Operations as ops
+use Rattle.lfs_model.specs.session.Operations.{Operation, Reply}
+use Rattle.lfs_model.specs.session.Session.{Session, DiskSummary}
+use Rattle.lfs_model.specs.session.Effects.{operation_result}
+use Rattle.lfs_model.specs.session.State.{Healthy, is_remount, mounted_session}
+use Rattle.lfs_model.specs.session.Recovery.{IsRecovered}
+use Rattle.lfs_model.specs.session.Run.{SystemState, ShowsTree, IsStep}
+use Rattle.lfs_model.specs.session.Headline.{HasDiskTree}
+use Rattle.lfs_model.specs.crash.Performed.{AreSafeSteps, IsRun}
+use Rattle.lfs_model.specs.crash.ReadBounds.{unless_refusal}
+use Rattle.lfs_model.specs.crash.PowerLoss.{with_blocks, FailsLikeLoss, IsHealthySession}
+
+-- ---- a mount and a recovery
+
+-- a session just mounted from the disk
+pub record IsMounted (disk : Disk) (begin : SystemState) : Type 0 where
+  pub on : begin.disk ≡ disk
+  pub tree : Tree
+  pub shows : ShowsTree disk (Some tree)
+  pub healthy : begin.state ≡ Healthy (mounted_session tree)
+
+-- both disks have the same bytes; a mount may take the other order of names
+abbrev pub SameBytes : Disk → Disk → Type 0
+SameBytes disk other = other ≡ record disk { order = other.order }
+
+-- A recovery was done: the disk has that tree, and nothing is left to recover.
+pub record RecoversTree (tree : Tree) (reply : Reply) (disk : Disk) : Type 0 where
+  pub done : reply ≡ ops.Done
+  pub pairs : List Pair
+  pub accepted : IsAccepted disk pairs
+  pub writable : IsWritable disk pairs
+  pub recovered : IsRecovered pairs
+  pub kept : tree_on_disk disk pairs ≡ tree
+
+-- The disk is accepted and in the writing profile, and has that tree. A session that mounts it has the tree, and a recovery keeps it.
+pub record KeepsTree (tree : Tree) (disk : Disk) : Type 0 where
+  pub pairs : List Pair
+  pub accepted : IsAccepted disk pairs
+  pub writable : IsWritable disk pairs
+  pub shows : tree_on_disk disk pairs ≡ tree
+  pub mounts : (other : Disk) (begin : SystemState) → SameBytes disk other → IsMounted other begin → begin.state ≡ Healthy (mounted_session tree)
+  pub recovers : (other : Disk) (begin to : SystemState) (reply : Reply) → SameBytes disk other → IsMounted other begin → IsStep begin ops.Recover reply to
+      → RecoversTree tree reply to.disk
+
+-- ---- a stop
+
+-- a stop in one of the calls since the old history left these blocks
+pub record LeftInCall (old new : List CallEvent) (blocks : Blocks) : Type 0 where
+  pub events : List CallEvent
+  pub extends : new ≡ events ++ old
+  pub stopped : Any (λ e. LeftByLoss e blocks) events
+
+-- Power was lost before the first call between these states, or in one of the calls, or after the last one. After the last one,
+-- each call that failed left what a stop in it may leave.
+abbrev pub LeftBetween : SystemState → SystemState → Disk → Type 0
+LeftBetween from to left =
+    (left ≡ from.disk)
+    ⊎ (((blocks : Blocks) × ((left ≡ with_blocks blocks from.disk) × LeftInCall from.calls to.calls blocks))
+    ⊎ ((left ≡ to.disk) × AllCallsSince FailsLikeLoss from.calls to.calls))
+
+-- Power was lost in this operation of a run. The tree is the one from before the operation, or the one from after it.
+pub record LossInOperation (from : SystemState) (op : Operation) (next : SystemState) (left : Disk) (tree : Tree) : Type 0 where
+  pub stop : LeftBetween from next left
+  pub session : Session
+  pub pairs : List Pair
+  pub around : DiskSummary
+  pub work : IsHealthySession from session pairs around
+  pub either : (tree ≡ session.tree) ⊎ (tree ≡ (operation_result around session op).1.tree)
+
+-- Power was lost after all operations of a run. The tree is the session's.
+pub record LossAfterRun (at : SystemState) (left : Disk) (tree : Tree) : Type 0 where
+  pub stays : left ≡ at.disk
+  pub session : Session
+  pub healthy : at.state ≡ Healthy session
+  pub is : tree ≡ session.tree
+
+-- Power was lost in one of the operations that were performed, or after all of them.
+abbrev pub LossInOperations : (before : Option Operation) (from : SystemState) (operations : List Operation) (replies : List Reply) (to : SystemState) → AreSafeSteps before from operations replies to → Disk → Tree → Type 0 → Type 0
+LossInOperations before from [] replies to steps left tree AtEnd = AtEnd
+LossInOperations before from (op ∷ operations) [] to steps left tree AtEnd = ⊥
+LossInOperations before from (op ∷ operations) (reply ∷ replies) to (next, (one, others)) left tree AtEnd =
+    LossInOperation from op next left tree ⊎ LossInOperations (unless_refusal op reply) next operations replies to others left tree AtEnd
+
+-- Power was lost in one of the operations of this run, or after all of them. An error may have ended the last operation.
+abbrev pub LossInRun : (from : SystemState) (operations : List Operation) (to : SystemState) → IsRun from operations to → Disk → Tree → Type 0
+LossInRun from operations to (inl (replies, steps)) left tree = LossInOperations None from operations replies to steps left tree (LossAfterRun to left tree)
+LossInRun from operations to (inr short) left tree = LossInOperations None from short.done short.replies short.at short.performed left tree (LossInOperation short.at short.next to left tree)
+
+-- ---- a loss of power in a run
+
+-- The disk that was left has the tree from before the operation that was cut, or from after it. A mount and a recovery keep that
+-- tree. The names are in the order that the session had there, which only a remount finds anew.
+pub record SurvivesLoss (from : SystemState) (operations : List Operation) (to : SystemState) (run : IsRun from operations to) (left : Disk) : Type 0 where
+  pub order : NameOrder
+  pub stays : All (λ op. is_remount op ≡ false) operations → order ≡ left.order
+  pub tree : Tree
+  pub cut : LossInRun from operations to run (ordered_disk order left) tree
+  pub safe : KeepsTree tree (ordered_disk order left)
+
+-- A session mounts the disk and performs operations, a recovery for example. Power is lost during them, and another disk is left.
+pub record LeftAfterMount (disk left : Disk) : Type 0 where
+  pub other : Disk
+  pub same : SameBytes disk other
+  pub begin : SystemState
+  pub mounts : IsMounted other begin
+  pub operations : List Operation
+  pub to : SystemState
+  pub run : IsRun begin operations to
+  pub cleanly : AllCallsSince ErasesCleanly begin.calls to.calls
+  pub stop : LeftBetween begin to left
+
+-- power is lost on the disk, then on the one that was left, and so on
+abbrev pub LeftByLosses : Disk → List Disk → Type 0
+LeftByLosses disk [] = Unit {0}
+LeftByLosses disk (left ∷ others) = LeftAfterMount disk left × LeftByLosses left others
+
+-- and each time it is survived
+abbrev pub SurvivesEach : (disk : Disk) (lefts : List Disk) → LeftByLosses disk lefts → Type 0
+SurvivesEach disk [] losses = Unit {0}
+SurvivesEach disk (left ∷ others) losses = SurvivesLoss losses.0.begin losses.0.operations losses.0.to losses.0.run left × SurvivesEach left others losses.1
+
+-- a session with its disk's tree, on an image in the writing profile, where each erase leaves no log, or the one that was there
+pub record MeetsRunPremises (from to : SystemState) : Type 0 where
+  pub agrees : HasDiskTree from
+  pub profile : IsWritableDisk from.disk
+  pub cleanly : AllCallsSince ErasesCleanly from.calls to.calls
+
+-- The operations were a run between these states. Wherever power is lost in that run, it is survived, in the operation that was
+-- cut. So is any number of losses after it, also in the recovery.
+pub record CrashSafe (from : SystemState) (operations : List Operation) (to : SystemState) : Type 0 where
+  pub run : IsRun from operations to
+  pub once : (left : Disk) → LeftBetween from to left → SurvivesLoss from operations to run left
+  pub again : (left : Disk) (lefts : List Disk) → LeftBetween from to left → (losses : LeftByLosses left lefts) → SurvivesEach left lefts losses

@@ -1,0 +1,42 @@
+-- What the stop of a device in one of its calls leaves.
+use Rattle.std.specs.Prelude.{ℕ, ◌≡◌, ◌⊎◌, Bool, true, false, List, None}
+use Rattle.lfs_model.specs.format.Blocks.{Blocks, block_bytes, overwritten_at, SameExcept}
+use Rattle.lfs_model.specs.format.Log.{block_log}
+use Rattle.lfs_model.specs.session.History.{DeviceCall, Read, Program, Erase, Blank, CallEvent}
+
+abbrev pub SameLog : List ℕ → List ℕ → Type 0
+SameLog new old = block_log new ≡ block_log old
+
+abbrev pub HasNoLog : List ℕ → Type 0
+HasNoLog block = block_log block ≡ None
+
+-- The program of some bytes at an offset was stopped: the log is the one before it, or the one after the whole program. A program
+-- at offset 0 may leave no log.
+abbrev pub MayProgramLeave : (off : ℕ) (bytes old new : List ℕ) → Type 0
+MayProgramLeave off bytes old new = SameLog new old ⊎ (SameLog new (overwritten_at old off bytes) ⊎ ((off ≡ 0) × HasNoLog new))
+
+-- An erase was stopped, or done: the log is the one before it, or there is none.
+abbrev pub MayEraseLeave : (old new : List ℕ) → Type 0
+MayEraseLeave old new = SameLog new old ⊎ HasNoLog new
+
+-- a stop in the call leaves that disk
+abbrev pub may_stop_leave : DeviceCall → Blocks → Blocks → Type 0
+may_stop_leave (Read block off len) before disk = disk ≡ before
+may_stop_leave (Program block off bytes) before disk = SameExcept block before disk × MayProgramLeave off bytes (block_bytes before block) (block_bytes disk block)
+may_stop_leave (Erase block) before disk = SameExcept block before disk × MayEraseLeave (block_bytes before block) (block_bytes disk block)
+may_stop_leave (Blank block off len) before disk = disk ≡ before
+
+abbrev pub LeftByLoss : CallEvent → Blocks → Type 0
+LeftByLoss e disk = may_stop_leave e.call e.before disk
+
+-- An erase that succeeds leaves a block without a log, or with the one that it had. This isn't so of any device, since an erase
+-- may leave any bytes. So it is a premise of each promise about stops.
+abbrev pub erases_cleanly : DeviceCall → Bool → Blocks → Blocks → Type 0
+erases_cleanly (Read block off len) failed before after = Unit {0}
+erases_cleanly (Program block off bytes) failed before after = Unit {0}
+erases_cleanly (Erase block) true before after = Unit {0}
+erases_cleanly (Erase block) false before after = MayEraseLeave (block_bytes before block) (block_bytes after block)
+erases_cleanly (Blank block off len) failed before after = Unit {0}
+
+abbrev pub ErasesCleanly : CallEvent → Type 0
+ErasesCleanly e = erases_cleanly e.call e.failed e.before e.after

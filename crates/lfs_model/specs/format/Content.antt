@@ -1,0 +1,133 @@
+-- What a pair's log comes to: all its entries, applied in order.
+use Rattle.std.specs.Prelude.{ℕ, ◌+◌, ◌-◌, ◌%◌, ◌^◌, ◌==◌, ◌&&◌, not, nat_lt, nat_le, if◌then◌else◌, Bool, List, [], ◌∷◌, ◌++◌, length, drop, filter, find, replicate, slice_set, slice_index_or, Option, Some, None, is_some}
+use Rattle.std.specs.List.{insert, remove}
+use Rattle.std.specs.Option.{option_and_then, option_map}
+use Rattle.byteorder.specs.Endian.{little_number}
+use Rattle.lfs_model.specs.format.Tag.{tag_type, tag_id, abstract_type, tag_chunk}
+use Rattle.lfs_model.specs.format.Log.{LogEntry, chain_of, block_revision, block_entries}
+use Rattle.lfs_model.specs.format.Disk.{Disk, disk_block}
+use Rattle.lfs_model.specs.format.Slots.{SlotKind, File, Directory, Superblock, Struct, Inline, Ctz, Branch, Attributes, Slot, Tail, Gstate, PairContent, zero_gstate}
+use Rattle.lfs_model.specs.format.EntryTypes.{file_name_type, directory_name_type, directory_type, inline_type, create_tag_type, delete_tag_type, is_attribute_removal, is_known_tag, has_needed_id, read_address, entry_tail, read_gstate}
+
+-- A slot of any log. Its name and its struct are a type and bytes, and may be missing.
+pub record RawSlot : Type 0 where
+  pub name : Option (ℕ × List ℕ)
+  pub struct : Option (ℕ × List ℕ)
+  pub attributes : Attributes
+
+pub record RawContent : Type 0 where
+  pub slots : List RawSlot
+  pub tail : Option Tail
+  pub move : Gstate
+
+-- ---- what an entry does
+
+abbrev pub empty_slot : RawSlot
+empty_slot = record { name = None; struct = None; attributes = [] }
+
+abbrev pub slot_of_id : List RawSlot → ℕ → RawSlot
+slot_of_id slots id = slice_index_or slots id empty_slot
+
+abbrev pub changed_at : (RawSlot → RawSlot) → List RawSlot → ℕ → List RawSlot
+changed_at f slots id = slice_set slots id (f (slot_of_id slots id))
+
+-- the slots, with empty ones up to an id
+abbrev pub slots_padded_to : List RawSlot → ℕ → List RawSlot
+slots_padded_to slots id = slots ++ replicate (id + 1 - length slots) empty_slot
+
+-- attributes by ascending type
+abbrev pub attributes_without : ℕ → Attributes → Attributes
+attributes_without type attributes = filter (λ a. not (a.0 == type)) attributes
+
+abbrev pub attributes_with : ℕ → List ℕ → Attributes → Attributes
+attributes_with type bytes [] = (type, bytes) ∷ []
+attributes_with type bytes (a ∷ others) =
+    if nat_lt type a.0 then (type, bytes) ∷ a ∷ others
+    else (if type == a.0 then (type, bytes) ∷ others else a ∷ attributes_with type bytes others)
+
+abbrev pub attribute_bytes : ℕ → Attributes → Option (List ℕ)
+attribute_bytes type attributes = option_map (λ a. a.1) (find (λ a. a.0 == type) attributes)
+
+abbrev pub attributes_after : LogEntry → Attributes → Attributes
+attributes_after e attributes =
+    if is_attribute_removal e.tag then attributes_without (tag_chunk e.tag) attributes else attributes_with (tag_chunk e.tag) e.bytes attributes
+
+abbrev pub type_and_bytes : LogEntry → Option (ℕ × List ℕ)
+type_and_bytes e = Some (tag_type e.tag, e.bytes)
+
+-- the slots after an entry of a class below 5, or none where the entry isn't allowed there
+abbrev pub slots_after : List RawSlot → LogEntry → Option (List RawSlot)
+slots_after slots e =
+    if abstract_type e.tag == 0 then Some (changed_at (λ s. record s { name = type_and_bytes e }) (slots_padded_to slots (tag_id e.tag)) (tag_id e.tag))
+    else (if tag_type e.tag == create_tag_type then (if nat_le (tag_id e.tag) (length slots) then Some (insert slots (tag_id e.tag) empty_slot) else None)
+    else (if tag_type e.tag == delete_tag_type then (if nat_lt (tag_id e.tag) (length slots) then Some (remove slots (tag_id e.tag)) else None)
+    else (if not (is_some (slot_of_id slots (tag_id e.tag)).name) then None
+    else (if abstract_type e.tag == 2 then Some (changed_at (λ s. record s { struct = type_and_bytes e }) slots (tag_id e.tag))
+    else Some (changed_at (λ s. record s { attributes = attributes_after e s.attributes }) slots (tag_id e.tag))))))
+
+-- what an entry makes of the content, or none where the log is malformed
+abbrev pub content_after_one : RawContent → LogEntry → Option RawContent
+content_after_one c e =
+    if abstract_type e.tag == 5 then Some c
+    else (if not (is_known_tag e.tag && has_needed_id e.tag) then None
+    else (if abstract_type e.tag == 6 then Some (record c { tail = entry_tail e })
+    else (if abstract_type e.tag == 7 then Some (record c { move = read_gstate e.bytes })
+    else option_map (λ slots. record c { slots = slots }) (slots_after c.slots e))))
+
+abbrev pub content_after : RawContent → List LogEntry → Option RawContent
+content_after c [] = Some c
+content_after c (e ∷ es) = option_and_then (λ d. content_after d es) (content_after_one c e)
+
+abbrev pub empty_raw_content : RawContent
+empty_raw_content = record { slots = []; tail = None; move = zero_gstate }
+
+-- ---- pairs
+
+abbrev pub has_commit : List ℕ → Bool
+has_commit block = nat_lt 0 (length (chain_of block).commits)
+
+-- b is later than a, by the sign of the difference of 32 bits
+abbrev pub is_later : ℕ → ℕ → Bool
+is_later a b = nat_lt 0 ((b + 2 ^ 32 - a) % 2 ^ 32) && nat_lt ((b + 2 ^ 32 - a) % 2 ^ 32) (2 ^ 31)
+
+-- the block of two that holds: the only one with a commit, or the later one, or the one that is named first
+abbrev pub current_of_two : List ℕ → List ℕ → Option (List ℕ)
+current_of_two a b =
+    if not (has_commit a) then (if has_commit b then Some b else None)
+    else (if has_commit b && is_later (block_revision a) (block_revision b) then Some b else Some a)
+
+abbrev pub current_block : Disk → ℕ × ℕ → Option (List ℕ)
+current_block disk at = current_of_two (disk_block disk at.0) (disk_block disk at.1)
+
+abbrev pub raw_content : Disk → ℕ × ℕ → Option RawContent
+raw_content disk at = option_and_then (λ block. content_after empty_raw_content (block_entries block)) (current_block disk at)
+
+-- ---- complete slots
+
+abbrev pub kind_of_type : ℕ → SlotKind
+kind_of_type type = if type == file_name_type then File else (if type == directory_name_type then Directory else Superblock)
+
+abbrev pub read_struct : ℕ → List ℕ → Struct
+read_struct type bytes =
+    if type == inline_type then Inline bytes
+    else (if type == directory_type then Branch (read_address bytes) else Ctz (little_number 4 bytes) (little_number 4 (drop 4 bytes)))
+
+abbrev pub complete_slot : RawSlot → Option Slot
+complete_slot s = option_and_then (λ name. option_map (λ struct. record {
+  kind = kind_of_type name.0;
+  name = name.1;
+  struct = read_struct struct.0 struct.1;
+  attributes = s.attributes;
+}) s.struct) s.name
+
+abbrev pub complete_slots : List RawSlot → Option (List Slot)
+complete_slots [] = Some []
+complete_slots (s ∷ slots) = option_and_then (λ t. option_map (λ ts. t ∷ ts) (complete_slots slots)) (complete_slot s)
+
+-- the content, where each slot has a name and a struct
+abbrev pub complete_content : RawContent → Option PairContent
+complete_content raw = option_map (λ slots. record { slots = slots; tail = raw.tail; move = raw.move }) (complete_slots raw.slots)
+
+-- what the pair at an address holds, where its log is well formed and each slot has a name and a struct
+abbrev pub content_at : Disk → ℕ × ℕ → Option PairContent
+content_at disk at = option_and_then complete_content (raw_content disk at)

@@ -1,0 +1,112 @@
+-- The types of entries, and the fields of their bytes.
+use Rattle.std.specs.Prelude.{ℕ, ◌/◌, ◌%◌, ◌^◌, ◌==◌, ◌&&◌, ◌||◌, not, nat_le, if◌then◌else◌, Bool, true, List, drop, Option, Some, None}
+use Rattle.byteorder.specs.Endian.{little_number}
+use Rattle.lfs_model.specs.format.Tag.{tag_type, tag_id, tag_length, abstract_type, removal_length}
+use Rattle.lfs_model.specs.format.Log.{LogEntry}
+use Rattle.lfs_model.specs.format.Slots.{Tail, Gstate, null_address}
+
+-- ---- types
+
+abbrev pub file_name_type : ℕ
+file_name_type = 0x001
+
+abbrev pub directory_name_type : ℕ
+directory_name_type = 0x002
+
+abbrev pub superblock_name_type : ℕ
+superblock_name_type = 0x0ff
+
+abbrev pub directory_type : ℕ
+directory_type = 0x200
+
+abbrev pub inline_type : ℕ
+inline_type = 0x201
+
+abbrev pub ctz_type : ℕ
+ctz_type = 0x202
+
+abbrev pub create_tag_type : ℕ
+create_tag_type = 0x401
+
+abbrev pub delete_tag_type : ℕ
+delete_tag_type = 0x4ff
+
+abbrev pub soft_tail_type : ℕ
+soft_tail_type = 0x600
+
+abbrev pub hard_tail_type : ℕ
+hard_tail_type = 0x601
+
+abbrev pub move_type : ℕ
+move_type = 0x7ff
+
+-- the length that removes an attribute is allowed in no other entry
+abbrev pub is_attribute_removal : ℕ → Bool
+is_attribute_removal tag = tag_length tag == removal_length
+
+abbrev pub no_id : ℕ
+no_id = 0x3ff
+
+-- a user attribute, a name or an inline struct: of any length
+abbrev pub allows_any_length : ℕ → Bool
+allows_any_length tag =
+    abstract_type tag == 3 || (tag_type tag == file_name_type || (tag_type tag == directory_name_type || tag_type tag == inline_type))
+
+-- a superblock's name, a list's struct, or what names a pair: of 8 bytes
+abbrev pub requires_eight_bytes : ℕ → Bool
+requires_eight_bytes tag =
+    tag_type tag == superblock_name_type
+    || (tag_type tag == directory_type || (tag_type tag == ctz_type || (tag_type tag == soft_tail_type || tag_type tag == hard_tail_type)))
+
+abbrev pub requires_no_bytes : ℕ → Bool
+requires_no_bytes tag = tag_type tag == create_tag_type || tag_type tag == delete_tag_type
+
+-- the format has the type, with the length; a checksum's type is not among these
+abbrev pub is_known_tag : ℕ → Bool
+is_known_tag tag =
+    if is_attribute_removal tag then abstract_type tag == 3
+    else (if allows_any_length tag then true
+    else (if requires_eight_bytes tag then tag_length tag == 8
+    else (if requires_no_bytes tag then tag_length tag == 0
+    else tag_type tag == move_type && tag_length tag == 12)))
+
+-- an entry about a slot has an id; the ids of others are ignored
+abbrev pub has_needed_id : ℕ → Bool
+has_needed_id tag = nat_le 5 (abstract_type tag) || not (tag_id tag == no_id)
+
+-- ---- fields
+
+abbrev pub read_address : List ℕ → ℕ × ℕ
+read_address bytes = (little_number 4 bytes, little_number 4 (drop 4 bytes))
+
+abbrev pub tail_to_pair : Bool → ℕ × ℕ → Option Tail
+tail_to_pair hard to = if to.0 == null_address && to.1 == null_address then None else Some (record { hard = hard; to = to })
+
+abbrev pub entry_tail : LogEntry → Option Tail
+entry_tail e = tail_to_pair (tag_type e.tag == hard_tail_type) (read_address e.bytes)
+
+-- the sync bit, the move type and the move id of the first word
+abbrev pub gstate_from : ℕ → ℕ × ℕ → Gstate
+gstate_from word pair = record { sync = nat_le (2 ^ 31) word; kind = word / 2 ^ 20 % 2 ^ 11; id = word / 2 ^ 10 % 2 ^ 10; pair = pair }
+
+abbrev pub read_gstate : List ℕ → Gstate
+read_gstate bytes = gstate_from (little_number 4 bytes) (read_address (drop 4 bytes))
+
+-- the superblock's struct; the limits are those of a name, a file and an attribute, in bytes
+pub record SuperblockFields : Type 0 where
+  pub version : ℕ
+  pub block_size : ℕ
+  pub block_count : ℕ
+  pub name_max : ℕ
+  pub file_max : ℕ
+  pub attr_max : ℕ
+
+abbrev pub superblock_fields : List ℕ → SuperblockFields
+superblock_fields bytes = record {
+  version = little_number 4 bytes;
+  block_size = little_number 4 (drop 4 bytes);
+  block_count = little_number 4 (drop 8 bytes);
+  name_max = little_number 4 (drop 12 bytes);
+  file_max = little_number 4 (drop 16 bytes);
+  attr_max = little_number 4 (drop 20 bytes);
+}

@@ -1,0 +1,16 @@
+-- The limits of a geometry.
+use Rattle.std.specs.Prelude.{◌≡◌, ◌≤◌, ℕ, ◌*◌, ◌%◌, Bool, true, ◌==◌, ◌||◌}
+
+-- a power of two from 8 to 512
+abbrev pub is_page : ℕ → Bool
+is_page n = n == 8 || n == 16 || n == 32 || n == 64 || n == 128 || n == 256 || n == 512
+
+pub record IsValidGeometry (block_size page block_count : ℕ) : Type 0 where
+  pub power : is_page page ≡ true
+  pub pages : 8 * page ≤ block_size
+  pub no_smaller : 1024 ≤ block_size
+  pub no_larger : block_size ≤ 65536
+  pub whole_pages : block_size % page ≡ 0
+  pub no_fewer : 2 ≤ block_count
+  pub no_more : block_count ≤ 65536
+  pub bytes : block_size * block_count ≤ 268435456

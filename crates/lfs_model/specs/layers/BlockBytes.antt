@@ -1,0 +1,47 @@
+-- Metadata blocks in bytes, made of the entries in them. Checksums are given as numbers.
+use Rattle.std.specs.Prelude.{ℕ, ◌-◌, List, [], ◌∷◌, ◌++◌, length, replicate}
+use Rattle.byteorder.specs.Endian.{little_bytes}
+use Rattle.lfs_model.specs.format.Log.{LogEntry}
+use Rattle.lfs_model.specs.layers.Commit.{encoded_entries}
+use Rattle.lfs_model.specs.format.Names.{Name}
+use Rattle.lfs_model.specs.format.EntryTypes.{file_name_type, directory_name_type, directory_type, inline_type, ctz_type, move_type, no_id}
+use Rattle.lfs_model.specs.layers.WrittenContent.{log_entry_of, address_bytes}
+use Rattle.lfs_model.specs.tree.View.{superblock_entry}
+use Rattle.lfs_model.specs.declared.limits.Profile.{Profile}
+use Rattle.lfs_model.specs.tree.Fresh.{superblock_bytes}
+
+-- storage that nothing was written to
+abbrev pub unwritten_bytes : ℕ → List ℕ
+unwritten_bytes size = replicate size 0xff
+
+-- these bytes, and unwritten storage to the end of the block
+abbrev pub block_padded : ℕ → List ℕ → List ℕ
+block_padded size bytes = bytes ++ unwritten_bytes (size - length bytes)
+
+-- ---- entries
+
+-- a slot's name and struct
+abbrev pub inline_entries : ℕ → Name → List ℕ → List LogEntry
+inline_entries id name bytes = log_entry_of file_name_type id name ∷ log_entry_of inline_type id bytes ∷ []
+
+abbrev pub ctz_entries : ℕ → Name → ℕ → ℕ → List LogEntry
+ctz_entries id name head size = log_entry_of file_name_type id name ∷ log_entry_of ctz_type id (address_bytes (head, size)) ∷ []
+
+abbrev pub directory_entries : ℕ → Name → ℕ × ℕ → List LogEntry
+directory_entries id name to = log_entry_of directory_name_type id name ∷ log_entry_of directory_type id (address_bytes to) ∷ []
+
+abbrev pub superblock_entries : Profile → ℕ → ℕ → List LogEntry
+superblock_entries profile block_size block_count = superblock_entry ∷ log_entry_of inline_type 0 (superblock_bytes profile block_size block_count) ∷ []
+
+-- a move state by its first word
+abbrev pub move_state_entry : ℕ → ℕ × ℕ → LogEntry
+move_state_entry word pair = log_entry_of move_type no_id (little_bytes 4 word ++ address_bytes pair)
+
+-- the checksum, and so many bytes of padding
+abbrev pub checksum_entry : ℕ → ℕ → LogEntry
+checksum_entry number padding = log_entry_of 0x500 no_id (little_bytes 4 number ++ unwritten_bytes padding)
+
+-- ---- in bytes
+
+abbrev pub metadata_bytes : ℕ → ℕ → List LogEntry → List ℕ
+metadata_bytes block_size revision entries = block_padded block_size (little_bytes 4 revision ++ encoded_entries 0xffffffff entries)

@@ -1,0 +1,63 @@
+-- Changes to what a pair holds. Each change is some entries of the pair's log.
+use Rattle.std.specs.Prelude.{ℕ, ◌+◌, ◌^◌, ◌&&◌, nat_le, nat_lt, if◌then◌else◌, Bool, List, [], ◌∷◌, length, Option, None}
+use Rattle.std.specs.List.{flat_map, list_all}
+use Rattle.lfs_model.specs.format.Slots.{Gstate}
+use Rattle.lfs_model.specs.format.Tag.{make_tag, tag_data_limit, removal_length}
+use Rattle.lfs_model.specs.format.Log.{LogEntry}
+use Rattle.lfs_model.specs.format.Content.{RawContent, content_after}
+use Rattle.lfs_model.specs.format.EntryTypes.{create_tag_type, delete_tag_type, no_id}
+use Rattle.lfs_model.specs.layers.WrittenContent.{log_entry_of, lowest_type, tail_entry, move_entry, tail_or_null}
+
+-- kind is the type of a name or of a struct, attribute the type of an attribute from 0 on
+pub data PairChange : Type 0 where
+  -- a slot is inserted at the id, with that name
+  Create : (id kind : ℕ) (name : List ℕ) → PairChange
+  Delete : (id : ℕ) → PairChange
+  PutStruct : (id kind : ℕ) (bytes : List ℕ) → PairChange
+  PutAttribute : (id attribute : ℕ) (bytes : List ℕ) → PairChange
+  RemoveAttribute : (id attribute : ℕ) → PairChange
+  -- the tail is removed where there is no pair
+  PutTail : (hard : Bool) (pair : Option (ℕ × ℕ)) → PairChange
+  PutMove : (state : Gstate) → PairChange
+
+abbrev pub change_entries : PairChange → List LogEntry
+change_entries (Create id kind name) = log_entry_of create_tag_type id [] ∷ log_entry_of kind id name ∷ []
+change_entries (Delete id) = log_entry_of delete_tag_type id [] ∷ []
+change_entries (PutStruct id kind bytes) = log_entry_of kind id bytes ∷ []
+change_entries (PutAttribute id attribute bytes) = log_entry_of (lowest_type + attribute) id bytes ∷ []
+change_entries (RemoveAttribute id attribute) = record { tag = make_tag (lowest_type + attribute) id removal_length; bytes = [] } ∷ []
+change_entries (PutTail hard pair) = tail_entry hard pair ∷ []
+change_entries (PutMove state) = move_entry state ∷ []
+
+abbrev pub entries_of_changes : List PairChange → List LogEntry
+entries_of_changes changes = flat_map change_entries changes
+
+-- ---- what fits into a tag and its data
+
+abbrev pub has_word_addresses : ℕ × ℕ → Bool
+has_word_addresses pair = nat_lt pair.0 (2 ^ 32) && nat_lt pair.1 (2 ^ 32)
+
+abbrev pub fits_in_tag : List ℕ → Bool
+fits_in_tag bytes = nat_le (length bytes) tag_data_limit
+
+-- the type is a name's (class 0) or a struct's (class 2)
+abbrev pub is_name_type : ℕ → Bool
+is_name_type kind = nat_lt kind 0x100
+
+abbrev pub is_struct_type : ℕ → Bool
+is_struct_type kind = nat_le 0x200 kind && nat_lt kind 0x300
+
+abbrev pub is_storable : PairChange → Bool
+is_storable (Create id kind name) = nat_lt id no_id && (is_name_type kind && fits_in_tag name)
+is_storable (Delete id) = nat_lt id no_id
+is_storable (PutStruct id kind bytes) = nat_lt id no_id && (is_struct_type kind && fits_in_tag bytes)
+is_storable (PutAttribute id attribute bytes) = nat_lt id no_id && (nat_lt attribute 0x100 && fits_in_tag bytes)
+is_storable (RemoveAttribute id attribute) = nat_lt id no_id && nat_lt attribute 0x100
+is_storable (PutTail hard pair) = has_word_addresses (tail_or_null pair)
+is_storable (PutMove state) = nat_lt state.kind (2 ^ 11) && (nat_lt state.id (2 ^ 10) && has_word_addresses state.pair)
+
+-- ---- what changes make
+
+-- What the changes make of the content, in order; none where one can't be stored, or isn't allowed in the log.
+abbrev pub changed_content_of : RawContent → List PairChange → Option RawContent
+changed_content_of c changes = if list_all is_storable changes then content_after c (entries_of_changes changes) else None

@@ -1,0 +1,75 @@
+-- Which rule of the writing profile an image breaks, and where.
+use Rattle.std.specs.Prelude.{ℕ, ◌≡◌, ◌≢◌, ◌+◌, ◌≤◌, true, false, List, [], Option, Some, None, All, slice_get}
+use Rattle.lfs_model.specs.format.Disk.{Disk, attr_max_of, charge_limit, file_max_of, inline_limit, name_max_of}
+use Rattle.lfs_model.specs.format.EntryTypes.{SuperblockFields, superblock_fields}
+use Rattle.lfs_model.specs.tree.Profile.{InlineBytesFit, IsWritable}
+use Rattle.lfs_model.specs.format.Slots.{Inline, FitsInPair, PairContent, Slot, entry_charge, is_superblock, array_address}
+use Rattle.lfs_model.specs.format.Thread.{Pair, is_hard_tail, pair_count_before_root}
+use Rattle.lfs_model.specs.layers.Violations.{IsSlotAt}
+use Rattle.lfs_model.specs.declared.breaches.OtherLimit.{OtherLimit}
+use Rattle.lfs_model.specs.declared.breaches.OtherLimit.TheVariants as limit
+use Rattle.lfs_model.specs.declared.breaches.ProfileBreach.{ProfileBreach}
+use Rattle.lfs_model.specs.declared.breaches.ProfileBreach.TheVariants as breach
+use Rattle.lfs_model.specs.declared.limits.Profile.{Profile}
+
+-- ---- superblocks
+
+-- these fields have that limit, and the profile has another one
+abbrev pub IsOtherLimit : Profile → SuperblockFields → OtherLimit → Type 0
+IsOtherLimit profile fields (limit.Name n) = (fields.name_max ≡ n) × (n ≢ name_max_of profile)
+IsOtherLimit profile fields (limit.File n) = (fields.file_max ≡ n) × (n ≢ file_max_of profile)
+IsOtherLimit profile fields (limit.Attr n) = (fields.attr_max ≡ n) × (n ≢ attr_max_of profile)
+
+-- a superblock has that limit, and the profile has another one
+pub record HasOtherLimit (profile : Profile) (other : OtherLimit) (s : Slot) : Type 0 where
+  pub kind : is_superblock s ≡ true
+  pub bytes : List ℕ
+  pub inline : s.struct ≡ Inline bytes
+  pub differs : IsOtherLimit profile (superblock_fields bytes) other
+
+-- ---- entries
+
+-- an entry has more bytes inline than the limit
+abbrev pub HasLongInline : ℕ → Slot → Type 0
+HasLongInline limit s = (is_superblock s ≡ false) × ¬ InlineBytesFit limit s.struct
+
+-- ---- pairs
+
+-- a pair behind the root directory's first one has no slot, and the pair before it has a hard tail
+pub record IsEmptyPairAt (ps : List Pair) (at : ℕ × ℕ) : Type 0 where
+  pub index : ℕ
+  pub before : Pair
+  pub pair : Pair
+  pub first : slice_get ps index ≡ Some before
+  pub next : slice_get ps (index + 1) ≡ Some pair
+  pub root : pair_count_before_root ps ≤ index
+  pub hard : is_hard_tail before.content.tail ≡ true
+  pub at_is : pair.at ≡ at
+  pub empty : pair.content.slots ≡ []
+
+-- a pair may hold that, and each entry takes at most half of a pair
+pub record IsSmallEnough (profile : Profile) (block_size page : ℕ) (c : PairContent) : Type 0 where
+  pub pair : FitsInPair block_size page c
+  pub entries : All (λ s. is_superblock s ≡ false → entry_charge profile block_size s.name s.attributes ≤ charge_limit block_size page) c.slots
+
+-- the pair of the thread at an address has more than that
+pub record IsTooLarge (disk : Disk) (ps : List Pair) (at : ℕ × ℕ) : Type 0 where
+  pub index : ℕ
+  pub pair : Pair
+  pub there : slice_get ps index ≡ Some pair
+  pub at_is : pair.at ≡ at
+  pub large : ¬ IsSmallEnough disk.profile disk.block_size disk.page pair.content
+
+-- ---- all of them
+
+-- The image of these pairs breaks the rule, there.
+abbrev pub BreaksProfile : Disk → List Pair → ProfileBreach → Type 0
+BreaksProfile disk ps (breach.OtherLimits pair slot limit) = (s : Slot) × (IsSlotAt ps (array_address pair) slot s × HasOtherLimit disk.profile limit s)
+BreaksProfile disk ps (breach.LongInline pair slot) = (s : Slot) × (IsSlotAt ps (array_address pair) slot s × HasLongInline (inline_limit disk.profile disk.block_size) s)
+BreaksProfile disk ps (breach.EmptyPair pair) = IsEmptyPairAt ps (array_address pair)
+BreaksProfile disk ps (breach.TooLarge pair) = IsTooLarge disk ps (array_address pair)
+
+-- None exactly where the image may be written; else a rule that it breaks.
+abbrev pub IsBreachIfAny : Disk → List Pair → Option ProfileBreach → Type 0
+IsBreachIfAny disk ps None = IsWritable disk ps
+IsBreachIfAny disk ps (Some b) = BreaksProfile disk ps b

@@ -1,0 +1,115 @@
+-- What the commits of an operation do to an image, one by one and together.
+use Rattle.std.specs.Prelude.{ℕ, ◌≡◌, ◌⊎◌, ◌+◌, Bool, true, cond, not, nat_eq, List, [], ◌∷◌, ◌++◌, map, Option, Some, None}
+use Rattle.std.specs.List.{AllByRecursion, flat_map}
+use Rattle.lfs_model.specs.format.Disk.{Disk, disk_block}
+use Rattle.lfs_model.specs.format.Slots.{Slot, Struct, Attributes, Gstate, zero_gstate, no_move_kind}
+use Rattle.lfs_model.specs.format.Thread.{Pair, ThreadDirectory, is_hard_tail, root_address}
+use Rattle.lfs_model.specs.tree.Tree.{Path, Tree, FileNode, branch_address, address_at_path}
+use Rattle.lfs_model.specs.session.TreeEdits.{tree_with_subtree}
+use Rattle.lfs_model.specs.tree.Shown.{all_entries, struct_blocks, tree_on_disk}
+use Rattle.lfs_model.specs.tree.View.{IsAccepted}
+use Rattle.lfs_model.specs.tree.Profile.{IsWritable}
+use Rattle.lfs_model.specs.session.Operations.{Operation}
+use Rattle.lfs_model.specs.session.Session.{Session, DiskSummary}
+use Rattle.lfs_model.specs.session.Effects.{operation_effect}
+use Rattle.lfs_model.specs.session.Recovery.{IsRecovered}
+use Rattle.lfs_model.specs.session.SlotEdits.{slot_of}
+use Rattle.lfs_model.specs.session.Layout.{IsLayout}
+use Rattle.lfs_model.specs.layers.Keeping.{KeepsStructs}
+
+-- ---- lists
+
+-- how often a number is in a list
+abbrev pub number_count : ℕ → List ℕ → ℕ
+number_count b [] = 0
+number_count b (x ∷ xs) = cond (nat_eq b x) 1 0 + number_count b xs
+
+-- one of the elements has the property
+abbrev pub HoldsOfSome : {X : Type 0} → (X → Type 0) → List X → Type 0
+HoldsOfSome P [] = ⊥
+HoldsOfSome P (x ∷ xs) = P x ⊎ HoldsOfSome P xs
+
+-- ---- pairs and files
+
+-- whether a hard tail leads from the last of these pairs
+abbrev pub ends_joined : Bool → List Pair → Bool
+ends_joined b [] = b
+ends_joined b (p ∷ ps) = ends_joined (is_hard_tail p.content.tail) ps
+
+-- pairs of the same addresses and slots
+abbrev pub SameSlots : List Pair → List Pair → Type 0
+SameSlots [] [] = Unit {0}
+SameSlots [] (q ∷ qs) = ⊥
+SameSlots (p ∷ ps) [] = ⊥
+SameSlots (p ∷ ps) (q ∷ qs) = (q.at ≡ p.at) × (q.content.slots ≡ p.content.slots) × SameSlots ps qs
+
+-- where directories begin
+abbrev pub first_pair_addresses : List ThreadDirectory → List (ℕ × ℕ)
+first_pair_addresses ds = map (λ d. d.at) ds
+
+-- the blocks of the files that slots name
+abbrev pub file_blocks : Disk → List Slot → List ℕ
+file_blocks disk slots = flat_map (λ s. struct_blocks disk s.struct) slots
+
+-- the blocks of the file that a struct names are the same on both disks
+abbrev pub SameFileBlocks : Disk → Disk → Struct → Type 0
+SameFileBlocks disk new s = AllByRecursion (λ b. disk_block new b ≡ disk_block disk b) (struct_blocks disk s)
+
+-- ---- the global state
+
+pub record HasNoMove (g : Gstate) : Type 0 where
+  pub kind : g.kind ≡ no_move_kind
+  pub id : g.id ≡ 0
+  pub pair : g.pair ≡ (0, 0)
+
+-- the delta that inverts the sync bit
+abbrev pub sync_bit_delta : Gstate
+sync_bit_delta = record zero_gstate { sync = true }
+
+abbrev pub with_sync_inverted : Gstate → Gstate
+with_sync_inverted g = record g { sync = not g.sync }
+
+-- ---- changes of a tree
+
+-- from a path to the address of the directory there
+abbrev pub PathAddresses : Type 0
+PathAddresses = Path → Option (ℕ × ℕ)
+
+-- where paths lead once the entry at the first path is at the second
+abbrev pub renamed_addresses : Path → Path → PathAddresses → PathAddresses
+renamed_addresses old new d = tree_with_subtree new (λ t. d (old ++ t)) (tree_with_subtree old (λ t. None) d)
+
+-- whatever tree it changes, a file at that path has the same bytes after it
+abbrev pub KeepsFileBytes : (Tree → Tree) → Path → Type 0
+KeepsFileBytes change q = (t : Tree) (attributes : Attributes) (bytes : List ℕ) → t q ≡ Some (FileNode attributes bytes) →
+    (others : Attributes) × (change t q ≡ Some (FileNode others bytes))
+
+-- a file's slot is still there, with its struct
+abbrev pub KeepsStruct : Option Slot → Option Slot → Type 0
+KeepsStruct was now = (u : Slot) → was ≡ Some u → branch_address u.struct ≡ None → (v : Slot) × ((now ≡ Some v) × (v.struct ≡ u.struct))
+
+-- The new image is accepted, and shows the old one's tree after that change.
+pub record IsChangedImage (disk : Disk) (ps : List Pair) (new : Disk) (qs : List Pair) (change : Tree → Tree) (walk : PathAddresses → PathAddresses) : Type 0 where
+  pub accepted : IsAccepted new qs
+  pub root : root_address qs ≡ root_address ps
+  pub shows : tree_on_disk new qs ≡ change (tree_on_disk disk ps)
+  pub leads : address_at_path (all_entries qs) (root_address qs) ≡ walk (address_at_path (all_entries ps) (root_address ps))
+  -- a file whose bytes are left has the same struct
+  pub stays : (q : Path) → KeepsFileBytes change q → KeepsStruct (slot_of ps q) (slot_of qs q)
+
+-- ---- what steps come to
+
+-- The step leads from the pairs ps on the disk to qs on the new one, makes that of the tree, and stays in the profile.
+pub record IsWritableChange (disk : Disk) (ps : List Pair) (new : Disk) (qs : List Pair) (change : Tree → Tree) (walk : PathAddresses → PathAddresses) : Type 0 where
+  pub follows : IsChangedImage disk ps new qs change walk
+  pub writable : IsWritable new qs
+
+-- The new image is accepted, may be written, and has nothing to recover. It shows the tree that the operation leaves, and its
+-- slots are where they should be. Files that the operation isn't about keep their structs.
+pub record IsCompletion (disk : Disk) (ps : List Pair) (s : Session) (op : Operation) (new : Disk) (qs : List Pair) : Type 0 where
+  pub accepted : IsAccepted new qs
+  pub writable : IsWritable new qs
+  pub recovered : IsRecovered qs
+  pub tree : (around : DiskSummary) → tree_on_disk new qs ≡ (operation_effect around s op).1.tree
+  pub laid_out : IsLayout disk ps s op new qs
+  pub structs : KeepsStructs disk ps s op qs

@@ -1,0 +1,184 @@
+-- Which rule an image breaks, and where.
+use Rattle.std.specs.Prelude.{ℕ, ◌≡◌, ◌≢◌, ◌⊎◌, ◌<◌, ◌≤◌, ◌++◌, true, false, List, [], ◌∷◌, Option, Some, None, All, AllPairs, Contains, codes, slice_get}
+use Rattle.std.specs.declared.cmp.Ordering.TheVariants.{Less}
+use Rattle.lfs_model.specs.format.Content.{content_at, current_block}
+use Rattle.lfs_model.specs.format.Disk.{Disk, block_count}
+use Rattle.lfs_model.specs.format.Names.{Name, name_cmp}
+use Rattle.lfs_model.specs.tree.Shown.{IsReachedBySome, LeadsTo, all_directories, all_entries, struct_blocks, used_blocks}
+use Rattle.lfs_model.specs.format.Slots.{Inline, Slot, is_superblock, array_address, same_pair}
+use Rattle.lfs_model.specs.format.Thread.{BeginsAt, IsThread, Pair, ThreadDirectory, anchor_address, blocks_of_pairs, first_address, pairs_gstate, moved_id, tail_address_of, pair_count_before_root, from_first_slots, pairs_from_root, starts_superblock}
+use Rattle.lfs_model.specs.tree.Tree.{Path, names_at}
+use Rattle.lfs_model.specs.tree.View.{BeginsWith, HasStruct, HasValidMove, IsTreeEntry, IsWellFormedCtz, IsSuperblock, first_slots, superblock_entry}
+use Rattle.lfs_model.specs.declared.violations.Violation.{Violation}
+use Rattle.lfs_model.specs.declared.violations.Violation.TheVariants as violation
+
+-- ---- the thread, as far as it can be followed
+
+-- the pairs from an address on, each tail naming the next; the last one names `next`
+abbrev pub LeadsByTails : Option (ℕ × ℕ) → List Pair → Option (ℕ × ℕ) → Type 0
+LeadsByTails at [] next = at ≡ next
+LeadsByTails at (p ∷ ps) next = (at ≡ Some p.at) × LeadsByTails (tail_address_of p.content.tail) ps next
+
+-- these pairs are the thread's first ones, each with what it holds, and the thread goes on at an address
+pub record BeginsThread (disk : Disk) (ps : List Pair) (next : ℕ × ℕ) : Type 0 where
+  pub links : LeadsByTails (Some anchor_address) ps (Some next)
+  pub contents : All (λ p. content_at disk p.at ≡ Some p.content) ps
+
+-- the thread names a pair at the address
+abbrev pub IsNamed : Disk → ℕ × ℕ → Type 0
+IsNamed disk at = (ps : List Pair) × BeginsThread disk ps at
+
+abbrev pub IsInRange : Disk → ℕ × ℕ → Type 0
+IsInRange disk at = (at.0 < block_count disk) × (at.1 < block_count disk)
+
+abbrev pub HasBlock : ℕ × ℕ → ℕ → Type 0
+HasBlock at block = (at.0 ≡ block) ⊎ (at.1 ≡ block)
+
+-- the block is of the pair, and of one before it
+pub record IsInTwoPairs (disk : Disk) (at : ℕ × ℕ) (block : ℕ) : Type 0 where
+  pub before : List Pair
+  pub begins : BeginsThread disk before at
+  pub own : HasBlock at block
+  pub earlier : Contains (blocks_of_pairs before) block
+
+-- ---- the superblock
+
+-- the slot is a superblock of the disk's version and sizes
+pub record IsDiskSuperblock (disk : Disk) (s : Slot) : Type 0 where
+  pub kind : is_superblock s ≡ true
+  pub name : s.name ≡ codes "littlefs"
+  pub bytes : List ℕ
+  pub inline : s.struct ≡ Inline bytes
+  pub struct : IsSuperblock disk bytes
+
+-- the address of the first pair that has a slot
+abbrev pub first_filled_address : List Pair → ℕ × ℕ
+first_filled_address ps = first_address (from_first_slots ps)
+
+-- slot 0 of the first pair that has a slot
+abbrev pub HasFirstSlot : List Pair → Slot → Type 0
+HasFirstSlot ps s = slice_get (first_slots (from_first_slots ps)) 0 ≡ Some s
+
+-- a pair of the superblock's chain begins with another superblock than the first one
+pub record IsOtherSuperblock (disk : Disk) (ps : List Pair) (at : ℕ × ℕ) : Type 0 where
+  pub index : ℕ
+  pub pair : Pair
+  pub there : slice_get ps index ≡ Some pair
+  pub at_is : pair.at ≡ at
+  pub in_chain : index ≤ pair_count_before_root ps
+  pub slot : Slot
+  pub slot_is : slice_get pair.content.slots 0 ≡ Some slot
+  pub first : Slot
+  pub first_is : HasFirstSlot ps first
+  pub bytes : List ℕ
+  pub inline : first.struct ≡ Inline bytes
+  pub differs : ¬ HasStruct disk.profile.versions bytes slot
+
+-- ---- slots
+
+-- the slot of that number in the pair of the thread at an address
+pub record IsSlotAt (ps : List Pair) (at : ℕ × ℕ) (id : ℕ) (s : Slot) : Type 0 where
+  pub index : ℕ
+  pub pair : Pair
+  pub there : slice_get ps index ≡ Some pair
+  pub at_is : pair.at ≡ at
+  pub slot : slice_get pair.content.slots id ≡ Some s
+
+-- a slot that isn't slot 0 of the superblock's chain, and no entry
+pub record IsNoEntryAt (ps : List Pair) (at : ℕ × ℕ) (id : ℕ) : Type 0 where
+  pub slot : Slot
+  pub is : IsSlotAt ps at id slot
+  pub behind : (pair_count_before_root ps < is.index) ⊎ (0 < id)
+  pub refused : ¬ IsTreeEntry slot
+
+-- a slot that no set move names
+pub record IsUnmovedAt (ps : List Pair) (at : ℕ × ℕ) (id : ℕ) (s : Slot) : Type 0 where
+  pub is : IsSlotAt ps at id s
+  pub stays : moved_id (pairs_gstate ps) is.pair ≢ Some id
+
+-- ---- directories
+
+-- a path leads to the directory that begins with the pair at an address
+pub record IsReachedAt (ps : List Pair) (at : ℕ × ℕ) (path : Path) (to : ℕ × ℕ) : Type 0 where
+  pub leads : LeadsTo ps path to
+  pub same : same_pair to at ≡ true
+
+-- the names of a directory don't rise
+pub record NamesFall (disk : Disk) (ps : List Pair) (at : ℕ × ℕ) : Type 0 where
+  pub path : Path
+  pub to : ℕ × ℕ
+  pub reached : IsReachedAt ps at path to
+  pub falls : ¬ AllPairs (λ a b. name_cmp disk.order a b ≡ Less) (names_at (all_entries ps) to)
+
+-- an entry of a directory leads to no directory
+pub record BranchIsLoose (ps : List Pair) (at : ℕ × ℕ) : Type 0 where
+  pub path : Path
+  pub to : ℕ × ℕ
+  pub reached : IsReachedAt ps at path to
+  pub name : Name
+  pub target : ℕ × ℕ
+  pub leads : LeadsTo ps (path ++ name ∷ []) target
+  pub loose : ¬ BeginsAt (all_directories ps) target
+
+-- two paths lead to a directory
+pub record IsReachedTwice (ps : List Pair) (at : ℕ × ℕ) : Type 0 where
+  pub path : Path
+  pub to : ℕ × ℕ
+  pub reached : IsReachedAt ps at path to
+  pub other : Path
+  pub other_to : ℕ × ℕ
+  pub other_reached : IsReachedAt ps at other other_to
+  pub differ : path ≢ other
+
+-- no path leads to a directory, and the sync bit is clear
+pub record NeverReached (ps : List Pair) (at : ℕ × ℕ) : Type 0 where
+  pub sync : (pairs_gstate ps).sync ≡ false
+  pub index : ℕ
+  pub directory : ThreadDirectory
+  pub there : slice_get (all_directories ps) index ≡ Some directory
+  pub at_is : directory.at ≡ at
+  pub unreached : ¬ IsReachedBySome ps at
+
+-- ---- the lists of files
+
+-- a block is in the slot's list, and it is used twice
+pub record IsUsedTwice (disk : Disk) (ps : List Pair) (at : ℕ × ℕ) (id block : ℕ) : Type 0 where
+  pub slot : Slot
+  pub is : IsUnmovedAt ps at id slot
+  pub has : Contains (struct_blocks disk slot.struct) block
+  pub i : ℕ
+  pub j : ℕ
+  pub apart : i < j
+  pub one : slice_get (used_blocks disk ps) i ≡ Some block
+  pub other : slice_get (used_blocks disk ps) j ≡ Some block
+
+-- ---- all of them
+
+-- the thread can't be followed
+abbrev pub BreaksThread : Disk → Violation → Type 0
+BreaksThread disk (violation.OutOfRange pair) = IsNamed disk (array_address pair) × ¬ IsInRange disk (array_address pair)
+BreaksThread disk (violation.OneBlock pair) = IsNamed disk (array_address pair) × ((array_address pair).0 ≡ (array_address pair).1)
+BreaksThread disk (violation.TwoPairs pair block) = IsInTwoPairs disk (array_address pair) block
+BreaksThread disk (violation.NoContent pair) =
+    IsNamed disk (array_address pair) × IsInRange disk (array_address pair) × (content_at disk (array_address pair) ≡ None)
+BreaksThread disk _ = ⊥
+
+-- the pairs of the thread break a rule
+abbrev pub BreaksPairs : Disk → List Pair → Violation → Type 0
+BreaksPairs disk ps violation.NoSuperblock = starts_superblock (first_slots (pairs_from_root ps)) ≡ false
+BreaksPairs disk ps (violation.FirstEntry pair) = (first_filled_address ps ≡ array_address pair) × ¬ BeginsWith (current_block disk (array_address pair)) superblock_entry
+BreaksPairs disk ps (violation.Superblock pair) = (first_filled_address ps ≡ array_address pair) × (s : Slot) × (HasFirstSlot ps s × ¬ IsDiskSuperblock disk s)
+BreaksPairs disk ps (violation.OtherSuperblock pair) = IsOtherSuperblock disk ps (array_address pair)
+BreaksPairs disk ps (violation.Entry pair slot) = IsNoEntryAt ps (array_address pair) slot
+BreaksPairs disk ps (violation.Names pair) = NamesFall disk ps (array_address pair)
+BreaksPairs disk ps (violation.Branch pair) = BranchIsLoose ps (array_address pair)
+BreaksPairs disk ps (violation.TwoPaths pair) = IsReachedTwice ps (array_address pair)
+BreaksPairs disk ps (violation.NoPath pair) = NeverReached ps (array_address pair)
+BreaksPairs disk ps violation.Move = ¬ HasValidMove ps (pairs_gstate ps)
+BreaksPairs disk ps (violation.List pair slot) = (s : Slot) × (IsUnmovedAt ps (array_address pair) slot s × ¬ IsWellFormedCtz disk s.struct)
+BreaksPairs disk ps (violation.TwoOwners pair slot block) = IsUsedTwice disk ps (array_address pair) slot block
+BreaksPairs disk ps _ = ⊥
+
+-- The disk breaks the rule, there. Either its thread can't be followed, or these are the thread's pairs, and they break it.
+abbrev pub Breaks : Disk → Violation → Type 0
+Breaks disk v = BreaksThread disk v ⊎ ((ps : List Pair) × (IsThread (content_at disk) (block_count disk) ps × BreaksPairs disk ps v))

@@ -1,0 +1,92 @@
+-- Where slots are after an operation: in the pairs where they were. A pair is cut only where it must be, and dropped exactly
+-- where it must be.
+use Rattle.std.specs.Prelude.{ℕ, zero, suc, ◌≡◌, ◌≢◌, ◌⊎◌, Bool, true, false, if◌then◌else◌, List, [], ◌∷◌, ◌++◌, Option, Some, None, is_none, unwrap_or, Any}
+use Rattle.std.specs.List.{flat_map}
+use Rattle.lfs_model.specs.format.Disk.{Disk}
+use Rattle.lfs_model.specs.format.Slots.{Slot, same_pair, FitsInPair}
+use Rattle.lfs_model.specs.format.Thread.{Pair, is_hard_tail, pair_count_before_root}
+use Rattle.lfs_model.specs.tree.Tree.{branch_address}
+use Rattle.lfs_model.specs.tree.Shown.{IsReachedBySome}
+use Rattle.lfs_model.specs.tree.View.{IsAccepted}
+use Rattle.lfs_model.specs.session.Recovery.{IsRecovered}
+use Rattle.lfs_model.specs.session.TreeEdits.{same_path}
+use Rattle.lfs_model.specs.session.Operations as ops
+use Rattle.lfs_model.specs.session.Operations.{Operation}
+use Rattle.lfs_model.specs.session.Session.{Session}
+use Rattle.lfs_model.specs.session.Refusals.{path_or_root}
+use Rattle.lfs_model.specs.session.SlotEdits.{slot_of, pairs_without_moved, EditsSlots}
+use Rattle.lfs_model.specs.session.InDirectory.{all_slots}
+
+-- ---- which directories go
+
+abbrev pub slot_addresses : Option Slot → List (ℕ × ℕ)
+slot_addresses None = []
+slot_addresses (Some s) = addresses (branch_address s.struct)
+  where
+    addresses : Option (ℕ × ℕ) → List (ℕ × ℕ)
+    addresses None = []
+    addresses (Some at) = at ∷ []
+
+-- the address of a directory that is removed, or that a rename replaces
+abbrev pub removed_addresses : List Pair → Operation → List (ℕ × ℕ)
+removed_addresses ps (ops.Remove path) = slot_addresses (slot_of ps (path_or_root path))
+removed_addresses ps (ops.Rename from to) = if same_path (path_or_root from) (path_or_root to) then [] else slot_addresses (slot_of ps (path_or_root to))
+removed_addresses ps _ = []
+
+-- no path leads to the directory that begins there, or the operation removes it
+abbrev pub IsDirectoryGone : List Pair → Operation → ℕ × ℕ → Type 0
+IsDirectoryGone ps op begin = (IsReachedBySome ps begin → ⊥) ⊎ Any (λ at. same_pair begin at ≡ true) (removed_addresses ps op)
+
+-- ---- what stands for each pair
+
+abbrev pub FitsPair : Disk → Pair → Type 0
+FitsPair disk p = FitsInPair disk.block_size disk.page p.content
+
+-- What a pair with the slots of d becomes. It stays alone where the slots fit; it is cut into itself and a new pair where they
+-- don't. It is dropped where it has no slots and isn't the first of its directory, or where its directory is removed.
+abbrev pub IsPairAfter : Disk → (first : Bool) → Type 0 → Pair → List Pair → Type 0
+IsPairAfter disk first goes d [] = goes ⊎ ((first ≡ false) × (d.content.slots ≡ []))
+IsPairAfter disk first goes d (q ∷ []) = (q.at ≡ d.at) × (q.content.slots ≡ d.content.slots) × FitsPair disk d × (goes → ⊥) × (first ≡ false → d.content.slots ≢ [])
+IsPairAfter disk first goes d (q ∷ f ∷ []) =
+    (q.at ≡ d.at) × (all_slots (q ∷ f ∷ []) ≡ d.content.slots) × (FitsPair disk d → ⊥) × FitsPair disk q × FitsPair disk f × (goes → ⊥)
+IsPairAfter disk first goes d (q ∷ f ∷ g ∷ ps) = ⊥
+
+-- Where the directory of a pair begins. It begins where the directory of the pair before does, if that pair has a hard tail.
+abbrev pub directory_address : Option (ℕ × ℕ) → Pair → ℕ × ℕ
+directory_address from p = unwrap_or from p.at
+
+abbrev pub continued_address : Option (ℕ × ℕ) → Pair → Option (ℕ × ℕ)
+continued_address from p = if is_hard_tail p.content.tail then Some (directory_address from p) else None
+
+-- These lists of pairs are what the pairs ds become, a list for each. The first n pairs are before the root directory, and are
+-- never dropped.
+abbrev pub ArePairsAfter : Disk → (ℕ × ℕ → Type 0) → ℕ → Option (ℕ × ℕ) → List Pair → List (List Pair) → Type 0
+ArePairsAfter disk goes n from [] [] = Unit {0}
+ArePairsAfter disk goes n from [] (now ∷ rest) = ⊥
+ArePairsAfter disk goes n from (d ∷ ds) [] = ⊥
+ArePairsAfter disk goes zero from (d ∷ ds) (now ∷ rest) = IsPairAfter disk (is_none from) (goes (directory_address from d)) d now × ArePairsAfter disk goes zero (continued_address from d) ds rest
+ArePairsAfter disk goes (suc n) from (d ∷ ds) (now ∷ rest) = IsPairAfter disk true ⊥ d now × ArePairsAfter disk goes n None ds rest
+
+-- The pairs ps become qs by the operation, on the new disk.
+pub record IsLayout (disk : Disk) (ps : List Pair) (s : Session) (op : Operation) (new : Disk) (qs : List Pair) : Type 0 where
+  -- the pairs with the slots that they are to hold
+  pub drafts : List Pair
+  pub parts : List (List Pair)
+  -- the pair that is added, and where
+  pub front : List Pair
+  pub fresh : List Pair
+  pub back : List Pair
+  pub edits : EditsSlots new ps s op fresh (pairs_without_moved ps) drafts
+  pub stand : ArePairsAfter disk (IsDirectoryGone ps op) (pair_count_before_root ps) None drafts parts
+  pub joined : flat_map (λ part. part) parts ≡ front ++ back
+  pub is : qs ≡ front ++ (fresh ++ back)
+
+-- A recovery comes first, and leaves an accepted disk with nothing to recover. The pairs ps become that disk's pairs, and these
+-- become qs by the operation.
+pub record IsLayoutRecovered (disk : Disk) (ps : List Pair) (s : Session) (op : Operation) (new : Disk) (qs : List Pair) : Type 0 where
+  pub middle : Disk
+  pub between : List Pair
+  pub accepted : IsAccepted middle between
+  pub recovered : IsRecovered between
+  pub recovery : IsLayout disk ps s ops.Recover middle between
+  pub operation : IsLayout disk between s op new qs

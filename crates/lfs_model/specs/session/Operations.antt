@@ -1,0 +1,69 @@
+-- Operations of a session, their replies, and the paths they take.
+use Rattle.std.specs.Prelude.{ℕ, Bool, not, ◌==◌, nat_lt, if◌then◌else◌, List, [], ◌∷◌, length, Option, Some, None}
+use Rattle.std.specs.List.{flat_map, slice_split, list_all}
+use Rattle.lfs_model.specs.format.Names.{Name, is_component, slash_byte}
+use Rattle.lfs_model.specs.tree.Tree.{Path}
+
+pub data Refusal : Type 0 where
+  NoEnt BadFile Busy Exist NotDir IsDir Invalid TooBig NoSpace ReadOnly NameTooLong NotEmpty NoAttr Failed EntryFull : Refusal
+
+pub record FlagsOfOpen : Type 0 where
+  pub read : Bool
+  pub write : Bool
+  pub create : Bool
+  pub exclusive : Bool
+  pub truncate : Bool
+  pub append : Bool
+  -- bits that name no flag
+  pub unknown : Bool
+
+pub data Operation : Type 0 where
+  Open : (path : List ℕ) (flags : FlagsOfOpen) → Operation
+  Read : (fd count : ℕ) → Operation
+  Write : (fd : ℕ) (bytes : List ℕ) → Operation
+  Seek : (fd position : ℕ) → Operation
+  Truncate : (fd size : ℕ) → Operation
+  Sync : (fd : ℕ) → Operation
+  Close : (fd : ℕ) → Operation
+  Mkdir : (path : List ℕ) → Operation
+  Remove : (path : List ℕ) → Operation
+  Rename : (old new : List ℕ) → Operation
+  ListAll : (path : List ℕ) → Operation
+  Stat : (path : List ℕ) → Operation
+  GetAttr : (path : List ℕ) (kind : ℕ) → Operation
+  SetAttr : (path : List ℕ) (kind : ℕ) (bytes : List ℕ) → Operation
+  RemoveAttr : (path : List ℕ) (kind : ℕ) → Operation
+  AskGstate : Operation
+  IsUsed : (block : ℕ) → Operation
+  UsedCount : Operation
+  Recover : Operation
+  Remount : Operation
+
+-- a file's size, or None for a directory
+pub record ListedEntry : Type 0 where
+  pub name : Name
+  pub size : Option ℕ
+
+pub data Reply : Type 0 where
+  Done : Reply
+  Opened : (fd : ℕ) → Reply
+  Bytes : (bytes : List ℕ) → Reply
+  Count : (count : ℕ) → Reply
+  Items : (items : List ListedEntry) → Reply
+  StatIs : (size : Option ℕ) → Reply
+  GstateIs : (sync : Bool) (moving : Option ((ℕ × ℕ) × ℕ)) → Reply
+  Yes : (yes : Bool) → Reply
+  Refused : (error : Refusal) → Reply
+
+-- the components of a path's bytes
+abbrev pub parse_path : List ℕ → Option Path
+parse_path [] = None
+parse_path (b ∷ bytes) =
+    if not (b == slash_byte) then None
+    else (if nat_lt 0 (length bytes)
+    then (if list_all is_component (slice_split (λ c. c == slash_byte) bytes) then Some (slice_split (λ c. c == slash_byte) bytes) else None)
+    else Some [])
+
+-- the bytes of a path that isn't the root's: a slash before each component
+abbrev pub path_bytes : Path → List ℕ
+path_bytes path = flat_map (λ name. slash_byte ∷ name) path

@@ -1,0 +1,148 @@
+-- A session: a tree, the open files, and how each operation changes them.
+use Rattle.std.specs.Prelude.{ℕ, ◌+◌, ◌*◌, Bool, true, false, not, ◌&&◌, ◌||◌, nat_le, nat_lt, if◌then◌else◌, List, [], ◌∷◌, ◌++◌, length, Option, Some, None, is_some, is_none, sum_by, slice_get, slice_set}
+use Rattle.std.specs.List.{list_any, position_or_len}
+use Rattle.std.specs.Option.{option_and_then, option_or, option_flatten}
+use Rattle.lfs_model.specs.declared.limits.Profile.{Profile}
+use Rattle.lfs_model.specs.format.Names.{Name}
+use Rattle.lfs_model.specs.format.Slots.{Attributes, Gstate}
+use Rattle.lfs_model.specs.format.Disk.{inline_limit, name_max_of, charge_limit}
+use Rattle.lfs_model.specs.format.Slots.{entry_charge}
+use Rattle.lfs_model.specs.format.SkipLists.{block_count_for}
+use Rattle.lfs_model.specs.tree.Tree.{Path, Node, FileNode, DirectoryNode, Tree}
+use Rattle.lfs_model.specs.session.Operations.{Refusal, NoEnt, NotDir, FlagsOfOpen}
+use Rattle.lfs_model.specs.session.TreeEdits.{last_name}
+
+pub record FileReader : Type 0 where
+  pub path : Path
+  pub position : ℕ
+
+pub record FileWriter : Type 0 where
+  pub path : Path
+  pub contents : List ℕ
+  pub position : ℕ
+  pub append : Bool
+  pub dirty : Bool
+  pub turned : Bool
+  pub last_end : Option ℕ
+
+pub data OpenFile : Type 0 where
+  Reading : (reader : FileReader) → OpenFile
+  Writing : (writer : FileWriter) → OpenFile
+
+-- the open files by number
+abbrev pub OpenFilesByNumber : Type 0
+OpenFilesByNumber = List (Option OpenFile)
+
+pub record Session : Type 0 where
+  pub tree : Tree
+  pub files : OpenFilesByNumber
+
+-- what an operation takes from the disk before it
+pub record DiskSummary : Type 0 where
+  pub writable : Bool
+  pub profile : Profile
+  pub block_size : ℕ
+  pub page : ℕ
+  pub block_count : ℕ
+  pub used : List ℕ
+  pub gstate : Gstate
+
+-- space
+
+abbrev pub list_blocks_of : Profile → ℕ → ℕ → ℕ
+list_blocks_of profile block_size n = if nat_le n (inline_limit profile block_size) then 0 else block_count_for block_size n
+
+-- open files
+
+abbrev pub reserved_for_writer : Profile → ℕ → FileWriter → ℕ
+reserved_for_writer profile block_size w =
+    if not w.dirty then 0
+    else 2 + (if w.turned then 2 else 1) * list_blocks_of profile block_size (length w.contents)
+
+abbrev pub file_numbered : OpenFilesByNumber → ℕ → Option OpenFile
+file_numbered files fd = option_flatten (slice_get files fd)
+
+abbrev pub file_reader : Option OpenFile → Option FileReader
+file_reader None = None
+file_reader (Some (Reading r)) = Some r
+file_reader (Some (Writing w)) = None
+
+abbrev pub file_writer : Option OpenFile → Option FileWriter
+file_writer None = None
+file_writer (Some (Reading r)) = None
+file_writer (Some (Writing w)) = Some w
+
+abbrev pub file_path : OpenFile → Path
+file_path (Reading r) = r.path
+file_path (Writing w) = w.path
+
+abbrev pub has_file : (Path → Bool) → OpenFilesByNumber → Bool
+has_file p files = list_any (λ f. is_some (option_and_then (λ o. if p (file_path o) then Some o else None) f)) files
+
+abbrev pub all_readers : OpenFilesByNumber → List FileReader
+all_readers [] = []
+all_readers (f ∷ files) = onto (file_reader f) (all_readers files)
+  where
+    onto : Option FileReader → List FileReader → List FileReader
+    onto None rest = rest
+    onto (Some r) rest = r ∷ rest
+
+abbrev pub all_writers : OpenFilesByNumber → List FileWriter
+all_writers [] = []
+all_writers (f ∷ files) = onto_writer (file_writer f) (all_writers files)
+  where
+    onto_writer : Option FileWriter → List FileWriter → List FileWriter
+    onto_writer None rest = rest
+    onto_writer (Some w) rest = w ∷ rest
+
+abbrev pub reserved_for_writers : Profile → ℕ → OpenFilesByNumber → ℕ
+reserved_for_writers profile block_size files = sum_by (reserved_for_writer profile block_size) (all_writers files)
+
+-- the least number that isn't a file's
+abbrev pub free_number_of : OpenFilesByNumber → ℕ
+free_number_of files = position_or_len is_none files
+
+abbrev pub files_with_file : OpenFilesByNumber → ℕ → Option OpenFile → OpenFilesByNumber
+files_with_file files fd file = if nat_lt fd (length files) then slice_set files fd file else files ++ file ∷ []
+
+-- refusals, in the order in which they are checked
+
+abbrev pub refuse_if : Bool → Refusal → Option Refusal
+refuse_if true error = Some error
+refuse_if false error = None
+
+abbrev pub first_refusal : List (Option Refusal) → Option Refusal
+first_refusal [] = None
+first_refusal (r ∷ rs) = option_or r (first_refusal rs)
+
+abbrev pub directory_refusal : Option Node → Option Refusal
+directory_refusal None = Some NoEnt
+directory_refusal (Some (FileNode attributes bytes)) = Some NotDir
+directory_refusal (Some (DirectoryNode attributes names)) = None
+
+-- the first parent from the root that isn't a directory
+abbrev pub parents_refusal : Tree → Path → Path → Option Refusal
+parents_refusal t above [] = None
+parents_refusal t above (name ∷ []) = None
+parents_refusal t above (name ∷ next ∷ rest) =
+    option_or (directory_refusal (t (above ++ name ∷ []))) (parents_refusal t (above ++ name ∷ []) (next ∷ rest))
+
+abbrev pub are_allowed : FlagsOfOpen → Bool
+are_allowed f =
+    not f.unknown && (if f.write then not f.read && (f.create || not f.exclusive)
+    else f.read && not (f.create || f.exclusive || f.truncate || f.append))
+
+abbrev pub has_long_name : DiskSummary → Path → Bool
+has_long_name around p = nat_lt (name_max_of around.profile) (length (last_name p))
+
+-- fewer than n blocks are neither used nor held
+abbrev pub lacks_free : DiskSummary → OpenFilesByNumber → ℕ → Bool
+lacks_free around files n = nat_lt around.block_count (length around.used + reserved_for_writers around.profile around.block_size files + n)
+
+-- the writer would hold more blocks than there are
+abbrev pub overfills_disk : DiskSummary → FileWriter → Bool
+overfills_disk around w = nat_lt around.block_count (length around.used + reserved_for_writer around.profile around.block_size w)
+
+abbrev pub is_over_charge : DiskSummary → Name → Attributes → Bool
+is_over_charge around name attributes =
+    nat_lt (charge_limit around.block_size around.page) (entry_charge around.profile around.block_size name attributes)

@@ -1,0 +1,54 @@
+-- What a writer is after a call that no check refuses.
+use Rattle.std.specs.Prelude.{ℕ, ◌+◌, ◌-◌, Bool, true, false, not, ◌&&◌, ◌||◌, ◌==◌, nat_lt, min, if◌then◌else◌, List, [], ◌∷◌, ◌++◌, length, take, drop, Option, Some, None, replicate, is_some}
+use Rattle.lfs_model.specs.tree.Tree.{Path}
+use Rattle.lfs_model.specs.session.Operations.{FlagsOfOpen}
+use Rattle.lfs_model.specs.session.Session.{FileWriter}
+
+-- what a writer is after a call, when no check refuses it
+
+abbrev pub padded_with_zeros : ℕ → List ℕ → List ℕ
+padded_with_zeros n bytes = bytes ++ replicate (n - length bytes) 0
+
+abbrev pub written_contents : List ℕ → ℕ → List ℕ → List ℕ
+written_contents old at bytes = take at (padded_with_zeros at old) ++ bytes ++ drop (at + length bytes) old
+
+abbrev pub write_position : FileWriter → ℕ
+write_position w = if w.append then length w.contents else w.position
+
+abbrev pub turns_writer : Option ℕ → ℕ → Bool
+turns_writer None begin = false
+turns_writer (Some end) begin = not (begin == end)
+
+abbrev pub written_writer : FileWriter → List ℕ → FileWriter
+written_writer w [] = w
+written_writer w (b ∷ bytes) = record w {
+  contents = written_contents w.contents (write_position w) (b ∷ bytes);
+  position = write_position w + length (b ∷ bytes);
+  dirty = true;
+  turned = w.turned || turns_writer w.last_end (min (write_position w) (length w.contents));
+  last_end = Some (write_position w + length (b ∷ bytes));
+}
+
+abbrev pub truncated_writer : FileWriter → ℕ → FileWriter
+truncated_writer w size =
+    if size == length w.contents then w
+    else record w {
+      contents = take size (padded_with_zeros size w.contents);
+      dirty = true;
+      turned = w.turned || is_some w.last_end;
+      last_end = if nat_lt (length w.contents) size then Some size else w.last_end;
+    }
+
+abbrev pub synced_writer : FileWriter → FileWriter
+synced_writer w = if w.dirty then record w { dirty = false; turned = false; last_end = None } else w
+
+abbrev pub opened_writer : Path → FlagsOfOpen → List ℕ → FileWriter
+opened_writer path flags bytes = record {
+  path = path;
+  contents = if flags.truncate then [] else bytes;
+  position = 0;
+  append = flags.append;
+  dirty = flags.truncate && nat_lt 0 (length bytes);
+  turned = false;
+  last_end = None;
+}

@@ -1,0 +1,37 @@
+-- A file system after a format: its superblock, and an empty root directory.
+use Rattle.std.specs.Prelude.{ℕ, ◌≡◌, List, [], ◌∷◌, Some, None, codes}
+use Rattle.std.specs.List.{flat_map}
+use Rattle.byteorder.specs.Endian.{little_bytes}
+use Rattle.lfs_model.specs.format.Geometry.{IsValidGeometry}
+use Rattle.lfs_model.specs.declared.limits.Profile.{Profile}
+use Rattle.lfs_model.specs.format.Disk.{Disk, block_count, name_max_of, file_max_of, attr_max_of}
+use Rattle.lfs_model.specs.format.Slots.{Slot, Superblock, Inline, PairContent, zero_gstate}
+use Rattle.lfs_model.specs.format.Content.{content_at, current_block}
+use Rattle.lfs_model.specs.format.Thread.{Pair, anchor_address}
+use Rattle.lfs_model.specs.tree.Tree.{Tree, DirectoryNode}
+use Rattle.lfs_model.specs.tree.View.{BeginsWith, superblock_entry}
+
+-- version 2.0, block size, block count, and the profile's limits of names, files and attributes
+abbrev pub superblock_bytes : Profile → ℕ → ℕ → List ℕ
+superblock_bytes profile block_size blocks = flat_map (little_bytes 4) (0x00020000 ∷ block_size ∷ blocks ∷ name_max_of profile ∷ file_max_of profile ∷ attr_max_of profile ∷ [])
+
+abbrev pub superblock_slot : Profile → ℕ → ℕ → Slot
+superblock_slot profile block_size blocks = record { kind = Superblock; name = codes "littlefs"; struct = Inline (superblock_bytes profile block_size blocks); attributes = [] }
+
+abbrev pub fresh_content : Profile → ℕ → ℕ → PairContent
+fresh_content profile block_size blocks = record { slots = superblock_slot profile block_size blocks ∷ []; tail = None; move = zero_gstate }
+
+-- the only pair of the thread
+abbrev pub fresh_pair : Disk → Pair
+fresh_pair disk = record { at = anchor_address; content = fresh_content disk.profile disk.block_size (block_count disk) }
+
+-- The pair {0, 1} holds the superblock and nothing else. The other blocks may have any bytes.
+pub record IsFreshDisk (disk : Disk) : Type 0 where
+  pub geometry : IsValidGeometry disk.block_size disk.page (block_count disk)
+  pub content : content_at disk anchor_address ≡ Some (fresh_content disk.profile disk.block_size (block_count disk))
+  pub first : BeginsWith (current_block disk anchor_address) superblock_entry
+
+-- a root without entries
+abbrev pub empty_tree : Tree
+empty_tree [] = Some (DirectoryNode [] [])
+empty_tree (name ∷ path) = None

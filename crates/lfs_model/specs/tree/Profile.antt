@@ -1,0 +1,64 @@
+-- The writing profile: which images are written, and may be changed.
+use Rattle.std.specs.Prelude.{ℕ, ◌≡◌, ◌≢◌, ◌≤◌, ◌&&◌, nat_le, if◌then◌else◌, Bool, true, false, List, [], ◌∷◌, length, slice_get, Option, Some, None, All}
+use Rattle.std.specs.Option.{option_and_then}
+use Rattle.lfs_model.specs.declared.limits.Profile.{Profile}
+use Rattle.lfs_model.specs.format.Disk.{Disk, inline_limit, charge_limit, size_limit, attribute_limit, name_max_of, file_max_of, attr_max_of}
+use Rattle.lfs_model.specs.format.Names.{name_limit}
+use Rattle.lfs_model.specs.format.Slots.{Slot, Struct, Inline, Ctz, Branch, is_superblock, entry_charge, FitsInPair}
+use Rattle.lfs_model.specs.format.EntryTypes.{SuperblockFields, superblock_fields}
+use Rattle.lfs_model.specs.format.Thread.{Pair, is_hard_tail, pairs_from_root}
+use Rattle.lfs_model.specs.tree.View.{IsAccepted, first_slots}
+
+-- ---- the writing profile
+
+abbrev pub InlineBytesFit : ℕ → Struct → Type 0
+InlineBytesFit limit (Inline bytes) = length bytes ≤ limit
+InlineBytesFit limit (Ctz head size) = Unit {0}
+InlineBytesFit limit (Branch to) = Unit {0}
+
+-- a superblock has the profile's limits
+abbrev pub HasLimits : Profile → Slot → Type 0
+HasLimits profile s = (bytes : List ℕ) × ((s.struct ≡ Inline bytes)
+    × ((superblock_fields bytes).name_max ≡ name_max_of profile) × ((superblock_fields bytes).file_max ≡ file_max_of profile) × ((superblock_fields bytes).attr_max ≡ attr_max_of profile))
+
+pub record IsWritableEntry (profile : Profile) (block_size page : ℕ) (s : Slot) : Type 0 where
+  pub charge : entry_charge profile block_size s.name s.attributes ≤ charge_limit block_size page
+  pub inline : InlineBytesFit (inline_limit profile block_size) s.struct
+
+abbrev pub IsWritableSlot : Profile → ℕ → ℕ → Slot → Type 0
+IsWritableSlot profile block_size page s = (is_superblock s ≡ true → HasLimits profile s) × (is_superblock s ≡ false → IsWritableEntry profile block_size page s)
+
+-- a pair that a hard tail names has slots; `after` tells whether the pair before has a hard tail
+abbrev pub HasNoEmpties : Bool → List Pair → Type 0
+HasNoEmpties after [] = Unit {0}
+HasNoEmpties after (p ∷ ps) = (after ≡ true → p.content.slots ≢ []) × HasNoEmpties (is_hard_tail p.content.tail) ps
+
+pub record IsWritable (disk : Disk) (ps : List Pair) : Type 0 where
+  pub pairs : All (λ p. FitsInPair disk.block_size disk.page p.content) ps
+  pub slots : All (λ p. All (IsWritableSlot disk.profile disk.block_size disk.page) p.content.slots) ps
+  pub no_empty_pair : HasNoEmpties false (pairs_from_root ps)
+
+-- the disk is accepted, and in the writing profile
+abbrev pub IsWritableDisk : Disk → Type 0
+IsWritableDisk disk = (ps : List Pair) × (IsAccepted disk ps × IsWritable disk ps)
+
+-- ---- the limits that an image has
+
+abbrev pub struct_fields : Struct → Option SuperblockFields
+struct_fields (Inline bytes) = Some (superblock_fields bytes)
+struct_fields (Ctz head size) = None
+struct_fields (Branch to) = None
+
+-- the superblock with which the root directory begins
+abbrev pub image_fields : List Pair → Option SuperblockFields
+image_fields ps = option_and_then (λ s. struct_fields s.struct) (slice_get (first_slots (pairs_from_root ps)) 0)
+
+-- no limit is 0, or above what an image may have
+abbrev pub are_usable : SuperblockFields → Bool
+are_usable f =
+    nat_le 1 f.name_max && nat_le f.name_max name_limit && nat_le 1 f.file_max && nat_le f.file_max size_limit
+    && nat_le 1 f.attr_max && nat_le f.attr_max attribute_limit
+
+-- the profile with the superblock's limits, where they can be used
+abbrev pub with_limits : SuperblockFields → Profile → Profile
+with_limits f profile = if are_usable f then record profile { name_max = f.name_max; file_max = f.file_max; attr_max = f.attr_max } else profile

@@ -1,0 +1,43 @@
+-- What the pairs of a thread show: directories, paths, the tree, the blocks that are used.
+use Rattle.std.specs.Prelude.{ℕ, ◌≡◌, true, List, [], ◌++◌, Some}
+use Rattle.std.specs.List.{flat_map}
+use Rattle.lfs_model.specs.format.Disk.{Disk}
+use Rattle.lfs_model.specs.format.Slots.{Slot, Struct, Inline, Ctz, Branch, same_pair}
+use Rattle.lfs_model.specs.format.SkipLists.{block_count_for, blocks_to_head, list_bytes}
+use Rattle.lfs_model.specs.format.Thread.{Pair, pairs_gstate, blocks_of_pairs, pairs_from_root, root_address, slots_not_moved, ThreadDirectory, pair_directories, directory_slots}
+use Rattle.lfs_model.specs.tree.Tree.{Path, Tree, EntryMap, address_at_path, beneath_root}
+
+-- ---- what the pairs show
+
+abbrev pub all_directories : List Pair → List ThreadDirectory
+all_directories ps = pair_directories (pairs_gstate ps) (pairs_from_root ps)
+
+abbrev pub all_entries : List Pair → EntryMap
+all_entries ps = directory_slots (all_directories ps)
+
+-- a directory is at that path
+abbrev pub LeadsTo : List Pair → Path → ℕ × ℕ → Type 0
+LeadsTo ps path at = address_at_path (all_entries ps) (root_address ps) path ≡ Some at
+
+-- a path leads to the directory that begins there
+abbrev pub IsReachedBySome : List Pair → ℕ × ℕ → Type 0
+IsReachedBySome ps first = (path : Path) × (at : ℕ × ℕ) × (LeadsTo ps path at × (same_pair first at ≡ true))
+
+-- the bytes that a list of that head and size has on the disk
+abbrev pub struct_list_bytes : Disk → ℕ → ℕ → List ℕ
+struct_list_bytes disk head size = list_bytes disk.blocks disk.block_size head size
+
+abbrev pub tree_on_disk : Disk → List Pair → Tree
+tree_on_disk disk ps = beneath_root (struct_list_bytes disk) (all_entries ps) (root_address ps)
+
+abbrev pub struct_blocks : Disk → Struct → List ℕ
+struct_blocks disk (Ctz head size) = blocks_to_head disk.blocks (block_count_for disk.block_size size) head
+struct_blocks disk (Inline bytes) = []
+struct_blocks disk (Branch to) = []
+
+-- the slots of all pairs, without the one that a set move names
+abbrev pub all_slots_not_moved : List Pair → List Slot
+all_slots_not_moved ps = flat_map (slots_not_moved (pairs_gstate ps)) ps
+
+abbrev pub used_blocks : Disk → List Pair → List ℕ
+used_blocks disk ps = blocks_of_pairs ps ++ flat_map (λ s. struct_blocks disk s.struct) (all_slots_not_moved ps)

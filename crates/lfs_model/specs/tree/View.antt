@@ -1,0 +1,150 @@
+-- Which images are accepted, and what they show.
+use Rattle.std.specs.Prelude.{ℕ, ◌≡◌, ◌==◌, ◌+◌, ◌||◌, ◌⊎◌, Bool, true, false, List, [], ◌∷◌, length, take, drop, slice_get, Option, Some, None, All, AllPairs, Any, nat_eq, codes}
+use Rattle.std.specs.List.{IsDistinct}
+use Rattle.std.specs.Option.{option_map}
+use Rattle.std.specs.declared.cmp.Ordering.TheVariants.{Less}
+use Rattle.lfs_model.specs.declared.limits.AcceptedVersions.{AcceptedVersions}
+use Rattle.lfs_model.specs.declared.limits.AcceptedVersions.TheVariants.{OnlyTwoZero, AlsoTwoOne}
+use Rattle.lfs_model.specs.format.Disk.{Disk, block_count}
+use Rattle.lfs_model.specs.format.Log.{LogEntry, block_entries}
+use Rattle.lfs_model.specs.format.Tag.{make_tag}
+use Rattle.lfs_model.specs.format.Names.{Name, name_cmp, is_valid_name}
+use Rattle.lfs_model.specs.format.Slots.{Slot, SlotKind, File, Directory, Superblock, Gstate, Struct, Inline, Ctz, Branch, same_pair, is_superblock, no_move_kind, set_move_kind}
+use Rattle.lfs_model.specs.format.Content.{current_block, content_at}
+use Rattle.lfs_model.specs.format.EntryTypes.{superblock_name_type, superblock_fields}
+use Rattle.lfs_model.specs.format.SkipLists.{IsSkipList}
+use Rattle.lfs_model.specs.format.Thread.{Pair, IsThread, pairs_from_root, first_address, from_first_slots, pairs_gstate, starts_superblock, pair_count_before_root, BeginsAt}
+use Rattle.lfs_model.specs.tree.Tree.{Path, Tree, names_at}
+use Rattle.lfs_model.specs.tree.Shown.{all_directories, all_entries, LeadsTo, IsReachedBySome, tree_on_disk, all_slots_not_moved, used_blocks}
+
+-- ---- the superblock
+
+-- version 2.0, and 2.1 where it is accepted too
+abbrev pub accepts_version : AcceptedVersions → ℕ → Bool
+accepts_version OnlyTwoZero version = version == 0x00020000
+accepts_version AlsoTwoOne version = version == 0x00020000 || version == 0x00020001
+
+-- the bytes of a superblock's struct, with any limits
+pub record IsSuperblock (disk : Disk) (bytes : List ℕ) : Type 0 where
+  pub len : length bytes ≡ 24
+  pub version : accepts_version disk.profile.versions (superblock_fields bytes).version ≡ true
+  pub block_size : (superblock_fields bytes).block_size ≡ disk.block_size
+  pub block_count : (superblock_fields bytes).block_count ≡ block_count disk
+
+-- the first entry of the block that holds
+abbrev pub BeginsWith : Option (List ℕ) → LogEntry → Type 0
+BeginsWith None e = ⊥
+BeginsWith (Some block) e = slice_get (block_entries block) 0 ≡ Some e
+
+abbrev pub superblock_entry : LogEntry
+superblock_entry = record { tag = make_tag superblock_name_type 0 8; bytes = codes "littlefs" }
+
+-- ---- the rules
+
+-- the kind of a slot matches its struct
+abbrev pub HasKind : SlotKind → Struct → Type 0
+HasKind File (Inline bytes) = Unit {0}
+HasKind File (Ctz head size) = Unit {0}
+HasKind Directory (Branch to) = Unit {0}
+HasKind File (Branch to) = ⊥
+HasKind Directory (Inline bytes) = ⊥
+HasKind Directory (Ctz head size) = ⊥
+HasKind Superblock s = ⊥
+
+pub record IsTreeEntry (s : Slot) : Type 0 where
+  pub name : is_valid_name s.name ≡ true
+  pub struct : HasKind s.kind s.struct
+
+-- slot 0 is a superblock that has P, and the others are entries
+abbrev pub IsSuperblockFirst : (Slot → Type 0) → List Slot → Type 0
+IsSuperblockFirst P [] = ⊥
+IsSuperblockFirst P (s ∷ slots) = (is_superblock s ≡ true) × P s × All IsTreeEntry slots
+
+-- the same where there is a slot
+abbrev pub SuperblockFirstIfAny : (Slot → Type 0) → List Slot → Type 0
+SuperblockFirstIfAny P [] = Unit {0}
+SuperblockFirstIfAny P (s ∷ slots) = IsSuperblockFirst P (s ∷ slots)
+
+-- a superblock's struct with an accepted version, and with the same numbers behind it
+pub record SameStructExceptVersion (versions : AcceptedVersions) (bytes own : List ℕ) : Type 0 where
+  pub len : length own ≡ length bytes
+  pub version : accepts_version versions (superblock_fields own).version ≡ true
+  pub rest : drop 4 own ≡ drop 4 bytes
+
+abbrev pub HasStruct : AcceptedVersions → List ℕ → Slot → Type 0
+HasStruct versions bytes s = (own : List ℕ) × ((s.struct ≡ Inline own) × SameStructExceptVersion versions bytes own)
+
+abbrev pub BeginsWithSuperblock : AcceptedVersions → List ℕ → List Slot → Type 0
+BeginsWithSuperblock versions bytes slots = SuperblockFirstIfAny (HasStruct versions bytes) slots
+
+-- the name in slot 0 of the first of these pairs
+abbrev pub first_slot_name : List Pair → Option Name
+first_slot_name [] = None
+first_slot_name (p ∷ ps) = option_map (λ s. s.name) (slice_get p.content.slots 0)
+
+-- the slots of the first of these pairs
+abbrev pub first_slots : List Pair → List Slot
+first_slots [] = []
+first_slots (p ∷ ps) = p.content.slots
+
+abbrev pub chain_pairs : List Pair → List Pair
+chain_pairs ps = take (pair_count_before_root ps + 1) ps
+
+abbrev pub after_chain : List Pair → List Pair
+after_chain ps = drop (pair_count_before_root ps + 1) ps
+
+abbrev pub IsWellFormedCtz : Disk → Struct → Type 0
+IsWellFormedCtz disk (Ctz head size) = IsSkipList disk.blocks disk.block_size head size
+IsWellFormedCtz disk (Inline bytes) = Unit {0}
+IsWellFormedCtz disk (Branch to) = Unit {0}
+
+-- there is a slot, and it isn't a superblock's
+abbrev pub IsEntry : Option Slot → Type 0
+IsEntry None = ⊥
+IsEntry (Some s) = is_superblock s ≡ false
+
+-- a pair of the thread, and one of its slots that isn't a superblock's
+abbrev pub IsThreadEntry : List Pair → ℕ × ℕ → ℕ → Type 0
+IsThreadEntry ps pair id = Any (λ p. (same_pair pair p.at ≡ true) × IsEntry (slice_get p.content.slots id)) ps
+
+-- no move is set, or one that names a slot
+abbrev pub HasValidMove : List Pair → Gstate → Type 0
+HasValidMove ps g = ((g.kind ≡ no_move_kind) × (g.id ≡ 0) × (g.pair ≡ (0, 0))) ⊎ ((g.kind ≡ set_move_kind) × IsThreadEntry ps g.pair g.id)
+
+-- These pairs are the thread of an accepted image.
+pub record IsAccepted (disk : Disk) (ps : List Pair) : Type 0 where
+  -- every pair of the thread has a well formed log; it ends, its addresses are in range, no block comes twice
+  pub thread : IsThread (content_at disk) (block_count disk) ps
+  -- in the first pair that has a slot the superblock is the first entry, and keeps its name
+  pub first : BeginsWith (current_block disk (first_address (from_first_slots ps))) superblock_entry
+  pub named : first_slot_name (from_first_slots ps) ≡ Some (codes "littlefs")
+  -- the root directory begins with a superblock, and all those of its chain have the same struct but for an accepted version
+  pub root : starts_superblock (first_slots (pairs_from_root ps)) ≡ true
+  pub superblock : (bytes : List ℕ) × (IsSuperblock disk bytes × All (λ p. BeginsWithSuperblock disk.profile.versions bytes p.content.slots) (chain_pairs ps))
+  -- every other slot is a file or a directory, with a name and a struct that match
+  pub slots : All (λ p. All IsTreeEntry p.content.slots) (after_chain ps)
+  -- in each reached directory the names strictly increase, in the disk's order
+  pub order : (path : Path) (at : ℕ × ℕ) → LeadsTo ps path at → AllPairs (λ a b. name_cmp disk.order a b ≡ Less) (names_at (all_entries ps) at)
+  -- each entry of a reached directory that is a directory names the first pair of one, and none is reached twice
+  pub branches : (path : Path) (at : ℕ × ℕ) → LeadsTo ps path at → BeginsAt (all_directories ps) at
+  pub once : (path other : Path) (at to : ℕ × ℕ) → LeadsTo ps path at → LeadsTo ps other to → same_pair at to ≡ true → path ≡ other
+  -- where a directory's pairs aren't reached, the sync bit is set
+  pub reached : (pairs_gstate ps).sync ≡ false → All (λ d. IsReachedBySome ps d.at) (all_directories ps)
+  pub move : HasValidMove ps (pairs_gstate ps)
+  -- every file's list is well formed, and no block is owned twice
+  pub lists : All (λ s. IsWellFormedCtz disk s.struct) (all_slots_not_moved ps)
+  pub owned_once : IsDistinct nat_eq (used_blocks disk ps)
+
+-- ---- what an accepted disk shows
+
+pub record DiskView : Type 0 where
+  pub tree : Tree
+  pub gstate : Gstate
+  pub used : List ℕ
+
+abbrev pub disk_view : Disk → List Pair → DiskView
+disk_view disk ps = record { tree = tree_on_disk disk ps; gstate = pairs_gstate ps; used = used_blocks disk ps }
+
+-- the disk is accepted, and shows that
+abbrev pub HasDiskView : Disk → DiskView → Type 0
+HasDiskView disk view = (ps : List Pair) × (IsAccepted disk ps × (view ≡ disk_view disk ps))

@@ -1,7 +1,0 @@
-use Rattle.std.proofs.Common.{◌≡◌, ◌++◌, nat_eq, length, drop, true}
-use Rattle.lfs_tag.specs.FieldsView.{move_view}
-use Rattle.lfs_mount.specs.Members.{pair_descriptions_of_headers}
-use Rattle.lfs_mount.proofs.members.make_directory_pairs_from_headers.Given as goal
-
-abbrev pub invariant-loop-pair : goal.invariant-loop-pair
-invariant-loop-pair l = l.members.items ++ pair_descriptions_of_headers (move_view l.state) (nat_eq (length l.members.items) 0) (drop l.pair-index l.pairs) ≡ pair_descriptions_of_headers (move_view l.state) true l.pairs

@@ -1,7 +1,0 @@
--- The errors of a mount, as the tables have them.
-use Rattle.std.specs.Prelude.{◌≡◌, ◌⊎◌}
-use Rattle.lfs_device.specs.declared.error.Error.{Error}
-use Rattle.lfs_device.specs.declared.error.Error.TheVariants.{Corrupt, Io, NoMemory}
-
-abbrev pub IsIoCorruptOrNoMemory : Error → Type 0
-IsIoCorruptOrNoMemory e = (e ≡ Io) ⊎ (e ≡ Corrupt) ⊎ (e ≡ NoMemory)

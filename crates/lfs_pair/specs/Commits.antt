@@ -1,0 +1,196 @@
+-- What a commit does to a pair.
+use Rattle.std.specs.Prelude.{ℕ, ◌≡◌, ◌≢◌, ◌⊎◌, ◌+◌, ◌%◌, ◌^◌, ◌++◌, ◌<◌, ◌≤◌, false, List, [], ◌∷◌, take, slice_get, Option, Some, None}
+use Rattle.std.specs.Option.{option_and_then}
+use Rattle.lfs_device.specs.declared.device.BlockDevice.{Ghosts}
+use Rattle.lfs_device.specs.declared.error.Error.{Error}
+use Rattle.lfs_device.specs.declared.geometry.Geometry.{Geometry}
+use Rattle.lfs_device.specs.declared.error.Error.TheVariants.{Io, NoMemory}
+use Rattle.lfs_device.specs.DeviceCalls.{ReadsOnly}
+use Rattle.lfs_device.specs.DeviceDisk.{disk_of_blocks}
+use Rattle.lfs_model.specs.format.Blocks.{Blocks, SameExcept, SameExceptThese, block_bytes}
+use Rattle.lfs_model.specs.format.Disk.{Disk, disk_block, block_count}
+use Rattle.lfs_model.specs.session.History.{CallEvent, AreUnprogrammed, StayUnprogrammed, blank_count, erase_count, program_count}
+use Rattle.lfs_model.specs.format.Log.{LogEntry, chain_of, block_entries, block_revision}
+use Rattle.lfs_model.specs.layers.LoggedContent.{AreNamed, IsWellFormed}
+use Rattle.lfs_model.specs.format.Slots.{PairContent, FitsInPair}
+use Rattle.lfs_model.specs.format.Content.{RawContent, complete_content, current_block, raw_content, content_after, empty_raw_content}
+use Rattle.lfs_model.specs.tree.View.{BeginsWith}
+use Rattle.lfs_model.specs.layers.Changes.{PairChange, changed_content_of, entries_of_changes}
+use Rattle.lfs_model.specs.layers.Commit.{encoded_size, commit_end_aligned}
+use Rattle.lfs_model.specs.layers.WrittenContent.{RawContentFits, content_entries}
+use Rattle.lfs_model.specs.format.Tag.{abstract_type}
+use Rattle.lfs_pair.specs.Writing.{IsWrittenAnew}
+use Rattle.lfs_pair.specs.declared.pair.Pair.{Pair}
+use Rattle.lfs_pair.specs.Pair.{IsAsHeader, active_block_at, header_address}
+use Rattle.lfs_model.specs.format.Thread.{address_blocks}
+
+-- the content is there, and its entries begin with that one when it is written anew
+abbrev pub BeginsWithEntry : Option RawContent → LogEntry → Type 0
+BeginsWithEntry None e = ⊥
+BeginsWithEntry (Some c) e = slice_get (content_entries c) 0 ≡ Some e
+
+-- if the log at the address began with an entry, and so does the new content written anew, then the log on the new disk begins
+-- with it
+abbrev pub KeepsFirstEntry : Disk → ℕ × ℕ → Option RawContent → Disk → Type 0
+KeepsFirstEntry old at new disk = (e : LogEntry) → BeginsWith (current_block old at) e → BeginsWithEntry new e → BeginsWith (current_block disk at) e
+
+-- the pair has the content that it had, and its log still begins with the same entry
+pub record HasOldContent (old : Disk) (at : ℕ × ℕ) (disk : Disk) : Type 0 where
+  pub content : raw_content disk at ≡ raw_content old at
+  pub first : (e : LogEntry) → BeginsWith (current_block old at) e → BeginsWith (current_block disk at) e
+
+-- the pair has the new content
+pub record HasNewContent (old : Disk) (at : ℕ × ℕ) (new : RawContent) (disk : Disk) : Type 0 where
+  pub content : raw_content disk at ≡ Some new
+  pub first : KeepsFirstEntry old at (Some new) disk
+
+-- the address of a pair: two different blocks of the disk
+pub record AddressIsOnDisk (disk : Disk) (at : ℕ × ℕ) : Type 0 where
+  pub apart : at.0 ≢ at.1
+  pub first : at.0 < block_count disk
+  pub second : at.1 < block_count disk
+
+-- What changes make of a content, if there is one; of what a block's log comes to; and of the pair at an address.
+abbrev pub content_made : Option RawContent → List PairChange → Option RawContent
+content_made held changes = option_and_then (λ c. changed_content_of c changes) held
+
+abbrev pub changed_log : List ℕ → List PairChange → Option RawContent
+changed_log block changes = content_made (content_after empty_raw_content (block_entries block)) changes
+
+abbrev pub changed_pair : Disk → ℕ × ℕ → List PairChange → Option RawContent
+changed_pair disk at changes = content_made (raw_content disk at) changes
+
+-- A commit's premises: the disk has the pair as its header says, the log allows each change, and each slot has a name afterwards.
+pub record CanCommit (disk : Disk) (history : List CallEvent) (pair : Pair) (changes : List PairChange) : Type 0 where
+  pub address : AddressIsOnDisk disk (header_address pair)
+  pub held : RawContent
+  pub is_pair : IsAsHeader disk history pair held
+  pub new : RawContent
+  pub changed : changed_content_of held changes ≡ Some new
+  pub names : AreNamed new.slots
+
+-- the header says which block is active, and its revision
+pub record HeaderSaysActive (disk : Disk) (pair : Pair) : Type 0 where
+  pub active : pair.active ≡ active_block_at disk (header_address pair)
+  pub holds : current_block disk (header_address pair) ≡ Some (disk_block disk pair.active)
+  pub revision_is : pair.revision ≡ block_revision (disk_block disk pair.active)
+
+-- the pair at the address has that content, and its active block was written since the last fetch
+pub record PairHas (disk : Disk) (history : List CallEvent) (at : ℕ × ℕ) (pair : Pair) (held : RawContent) : Type 0 where
+  pub is_pair : IsAsHeader disk history pair held
+  pub same : header_address pair ≡ at
+  pub content : raw_content disk at ≡ Some held
+  pub written : pair.is_fetched ≡ false
+
+-- nothing is programmed after the pair's log: it was written to since its fetch, or the device has said so meanwhile
+abbrev pub IsEndKnown : List CallEvent → List CallEvent → Pair → Type 0
+IsEndKnown before after pair = (pair.is_fetched ≡ false) ⊎ (blank_count before < blank_count after)
+
+-- The log ends at a page's boundary, and nothing is programmed after it.
+pub record IsEndBlank (geometry : Geometry) (before after : List CallEvent) (pair : Pair) : Type 0 where
+  pub known : IsEndKnown before after pair
+  pub whole_pages : pair.end % geometry.page ≡ 0
+  pub unprogrammed : AreUnprogrammed after pair.active pair.end geometry.block_size
+
+-- the changes can be appended: nothing is programmed after the log, and the padded commit ends within the block
+pub record CanAppendChanges (disk : Disk) (before after : List CallEvent) (pair : Pair) (changes : List PairChange) : Type 0 where
+  pub known : IsEndKnown before after pair
+  pub room : pair.end + commit_end_aligned disk.page (encoded_size (entries_of_changes changes)) ≤ disk.block_size
+
+-- The log of a block has one commit more, of these entries. The commit ends on the next page boundary.
+pub record LogHasMore (page : ℕ) (es : List LogEntry) (old new : List ℕ) : Type 0 where
+  pub checksum : LogEntry
+  pub class : abstract_type checksum.tag ≡ 5
+  pub commits : (chain_of new).commits ≡ (chain_of old).commits ++ (es ++ checksum ∷ []) ∷ []
+  pub end : (chain_of new).end ≡ (chain_of old).end + commit_end_aligned page (encoded_size es)
+
+-- An append erases nothing, changes the active block alone, and keeps all bytes before the old end.
+pub record IsCommitAppended (page : ℕ) (was : Pair) (changes : List PairChange) (old new : Blocks) (before after : List CallEvent) (pair : Pair) : Type 0 where
+  pub active : pair.active ≡ was.active
+  pub log : LogHasMore page (entries_of_changes changes) (block_bytes old was.active) (block_bytes new was.active)
+  pub others : SameExcept was.active old new
+  pub erases : erase_count after ≡ erase_count before
+  pub programs : program_count after ≡ program_count before + 1
+  pub kept : take was.end (block_bytes new was.active) ≡ take was.end (block_bytes old was.active)
+
+-- A compaction erases once, and keeps the block that was active. It writes the content anew into the other block, with the next
+-- revision and up to the next page boundary.
+pub record IsPairRewritten (page : ℕ) (was : Pair) (c : RawContent) (old new : Blocks) (before after : List CallEvent) (pair : Pair) : Type 0 where
+  pub active : pair.active ≢ was.active
+  pub anew : IsWrittenAnew ((was.revision + 1) % 2 ^ 32) c (block_bytes new pair.active) before after
+  pub end : pair.end ≡ commit_end_aligned page (4 + encoded_size (content_entries c))
+  pub kept : block_bytes new was.active ≡ block_bytes old was.active
+
+-- The changes could be appended, and they were: the pair has the new content, and its log begins as before.
+pub record AppendsChanges (old : Disk) (before : List CallEvent) (was : Pair) (changes : List PairChange) (c : RawContent) (disk : Disk) (history : List CallEvent) (pair : Pair) : Type 0 where
+  pub holds : PairHas disk history (header_address was) pair c
+  pub first : KeepsFirstEntry old (header_address was) (Some c) disk
+  pub appends : CanAppendChanges old before history was changes
+  pub appended : IsCommitAppended old.page was changes old.blocks disk.blocks before history pair
+
+-- the changes can't be appended; the disk, its calls and the header are as before
+pub record CannotAppend {D : Type 0} (g : Ghosts D) (changes : List PairChange) (old new : D) (was now : Pair) : Type 0 where
+  pub no_room : CanAppendChanges (disk_of_blocks (g.geometry old) (g.blocks old)) (g.history old) (g.history new) was changes → ⊥
+  pub blocks : g.blocks new ≡ g.blocks old
+  pub geometry : g.geometry new ≡ g.geometry old
+  pub history : g.history new ≡ g.history old
+  pub pair : now ≡ was
+
+-- The content was written anew: the pair has it, and its log begins as before.
+pub record CompactsToContent (old : Disk) (before : List CallEvent) (was : Pair) (c : RawContent) (disk : Disk) (history : List CallEvent) (pair : Pair) : Type 0 where
+  pub holds : PairHas disk history (header_address was) pair c
+  pub first : KeepsFirstEntry old (header_address was) (Some c) disk
+  pub compacted : IsPairRewritten old.page was c old.blocks disk.blocks before history pair
+
+-- A commit that is done: what the changes make fits the pair, and the pair has it. It is appended where that is possible, and
+-- else written anew.
+pub record CommitsChanges (old : Disk) (before : List CallEvent) (changes : List PairChange) (was : Pair) (disk : Disk) (history : List CallEvent) (pair : Pair) : Type 0 where
+  pub new : RawContent
+  pub made : changed_pair old (header_address was) changes ≡ Some new
+  pub fits : RawContentFits old.block_size old.page new
+  pub logged : IsWellFormed new
+  pub holds : PairHas disk history (header_address was) pair new
+  pub first : KeepsFirstEntry old (header_address was) (Some new) disk
+  pub appended : CanAppendChanges old before history was changes → IsCommitAppended old.page was changes old.blocks disk.blocks before history pair
+  pub compacted : (CanAppendChanges old before history was changes → ⊥) → IsPairRewritten old.page was new old.blocks disk.blocks before history pair
+
+-- A commit that is refused: what the changes make doesn't fit the pair, neither as a log's content nor, where each slot is
+-- complete, as slots. The header is as before, and nothing was written.
+pub record RefusesCommit {D : Type 0} (g : Ghosts D) (changes : List PairChange) (old new : D) (was now : Pair) : Type 0 where
+  pub full : (c : RawContent) → changed_pair (disk_of_blocks (g.geometry old) (g.blocks old)) (header_address was) changes ≡ Some c → RawContentFits (g.geometry old).block_size (g.geometry old).page c → ⊥
+  pub completed : (c : RawContent) (d : PairContent) → changed_pair (disk_of_blocks (g.geometry old) (g.blocks old)) (header_address was) changes ≡ Some c → complete_content c ≡ Some d
+      → FitsInPair (g.geometry old).block_size (g.geometry old).page d → ⊥
+  pub pair : now ≡ was
+  pub device : ReadsOnly g old new
+
+-- A commit that ends in an error: the header is as before, and at `NoMemory` nothing was written.
+pub record CommitFailsKeepingHeader {D : Type 0} (g : Ghosts D) (old new : D) (was now : Pair) (e : Error) : Type 0 where
+  pub errors : (e ≡ Io) ⊎ (e ≡ NoMemory)
+  pub pair : now ≡ was
+  pub no_memory : e ≡ NoMemory → ReadsOnly g old new
+
+-- no block changes but the pair's
+abbrev pub KeepsOutsidePair : ℕ × ℕ → Blocks → Blocks → Type 0
+KeepsOutsidePair at old new = SameExceptThese (address_blocks at) old new
+
+-- bytes of other blocks that were unprogrammed still are
+abbrev pub OutsideStaysUnprogrammed : ℕ × ℕ → List CallEvent → List CallEvent → Type 0
+OutsideStaysUnprogrammed at old new = StayUnprogrammed (address_blocks at) old new
+
+-- What a stop leaves: other blocks as they were, and the pair with its old content or with that new one.
+pub record LossLeavesNew (old : Disk) (at : ℕ × ℕ) (new : RawContent) (left : Blocks) : Type 0 where
+  pub others : KeepsOutsidePair at old.blocks left
+  pub content : HasOldContent old at (record old { blocks = left }) ⊎ HasNewContent old at new (record old { blocks = left })
+
+-- the pair has what the changes make, and that fits
+pub record HasContentMade (old : Disk) (at : ℕ × ℕ) (changes : List PairChange) (disk : Disk) : Type 0 where
+  pub new : RawContent
+  pub made : changed_pair old at changes ≡ Some new
+  pub fits : RawContentFits old.block_size old.page new
+  pub logged : IsWellFormed new
+  pub now : HasNewContent old at new disk
+
+-- What a stop leaves of a commit: other blocks as they were, and the pair with its old content or with what the changes make.
+pub record LossLeavesChanged (old : Disk) (at : ℕ × ℕ) (changes : List PairChange) (left : Blocks) : Type 0 where
+  pub others : KeepsOutsidePair at old.blocks left
+  pub content : HasOldContent old at (record old { blocks = left }) ⊎ HasContentMade old at changes (record old { blocks = left })

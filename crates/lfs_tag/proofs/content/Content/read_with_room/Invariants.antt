@@ -1,0 +1,8 @@
+use Rattle.std.proofs.Common.{◌≡◌}
+use Rattle.lfs_model.specs.format.Log.{block_entries}
+use Rattle.lfs_model.specs.format.Content.{content_after, empty_raw_content}
+use Rattle.lfs_tag.specs.ContentView.{content_view}
+use Rattle.lfs_tag.proofs.content.Content.read_with_room.Given as goal
+
+abbrev pub invariant-loop-entry : goal.invariant-loop-entry
+invariant-loop-entry l = content_after (content_view l.content) l.entry-iterator ≡ content_after empty_raw_content (block_entries l.log)

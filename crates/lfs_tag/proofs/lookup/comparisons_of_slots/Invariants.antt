@@ -1,0 +1,7 @@
+use Rattle.std.proofs.Common.{◌≡◌, []}
+use Rattle.lfs_model.specs.format.Log.{block_entries}
+use Rattle.lfs_tag.specs.Find.{comparisons_after}
+use Rattle.lfs_tag.proofs.lookup.comparisons_of_slots.Given as goal
+
+abbrev pub invariant-loop-entry : goal.invariant-loop-entry
+invariant-loop-entry l = comparisons_after l.order l.name l.ranks.items l.entry-iterator ≡ comparisons_after l.order l.name [] (block_entries l.log)

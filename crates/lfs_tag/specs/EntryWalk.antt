@@ -1,0 +1,10 @@
+-- The entries that are left of a walk over a log.
+use Rattle.std.specs.Prelude.{List}
+use Rattle.lfs_tag.specs.declared.entries.Entries.TheInside.{Inside}
+use Rattle.lfs_model.specs.format.Log.{LogEntry, AreEntriesBetween, entries_between}
+
+abbrev pub entries_left : Inside → List LogEntry
+entries_left s = entries_between s.block.now s.at s.before s.end
+
+pub record AreIteratorEntries (s : Inside) : Type 0 where
+  pub run : AreEntriesBetween s.block.now s.at s.before (entries_left s) s.end s.last

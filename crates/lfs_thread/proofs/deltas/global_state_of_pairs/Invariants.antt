@@ -1,8 +1,0 @@
-use Rattle.std.proofs.Common.{◌≡◌, map, take}
-use Rattle.std.specs.List.{fold}
-use Rattle.lfs_model.specs.Slots.{gstate_xor, zero_gstate}
-use Rattle.lfs_tag.specs.FieldsView.{move_view}
-use Rattle.lfs_thread.proofs.deltas.global_state_of_pairs.Given as goal
-
-abbrev pub invariant-loop-pair : goal.invariant-loop-pair
-invariant-loop-pair l = move_view l.state ≡ fold gstate_xor zero_gstate (map (λ p. move_view p.move_state) (take l.pair-index l.pairs))

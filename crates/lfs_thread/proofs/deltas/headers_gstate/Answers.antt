@@ -1,0 +1,11 @@
+use Rattle.std.proofs.Common.{◌∙◌, sym, ap}
+use Rattle.lfs_model.specs.format.Slots.{Gstate, gstate_xor}
+use Rattle.lfs_tag.specs.FieldsView.{move_view}
+use Rattle.lfs_thread.proofs.GlobalState.{joined_more}
+use Rattle.lfs_thread.proofs.deltas.headers_gstate.Goals as goal
+
+pub loop-pair-preserved : goal.loop-pair-preserved
+loop-pair-preserved c =
+    let all = c.args.pairs.now in
+    c.gstate_xor_delta-state.ensures ∙ ap (λ (g : Gstate). gstate_xor g (move_view c.pair-item.result.move_state)) c.loop-pair.invariant
+    ∙ sym (joined_more all c.loop-pair.pair-index c.pair-item.result c.loop-pair-test.true c.pair-item.is)

@@ -1,0 +1,8 @@
+use Rattle.std.proofs.Common.{◌≡◌, map, take}
+use Rattle.std.specs.List.{fold}
+use Rattle.lfs_model.specs.format.Slots.{gstate_xor, zero_gstate}
+use Rattle.lfs_tag.specs.FieldsView.{move_view}
+use Rattle.lfs_thread.proofs.deltas.headers_gstate.Given as goal
+
+abbrev pub invariant-loop-pair : goal.invariant-loop-pair
+invariant-loop-pair l = move_view l.state ≡ fold gstate_xor zero_gstate (map (λ p. move_view p.move_state) (take l.pair-index l.pairs))

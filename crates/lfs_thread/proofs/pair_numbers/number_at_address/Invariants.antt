@@ -1,0 +1,11 @@
+use Rattle.std.proofs.Common.{◌≡◌, ◌≤◌, false, length, take}
+use Rattle.std.specs.List.{AllByRecursion}
+use Rattle.lfs_model.specs.format.Slots.{array_address, same_pair}
+use Rattle.lfs_thread.proofs.pair_numbers.number_at_address.Given as goal
+
+abbrev pub invariant-loop-index : goal.invariant-loop-index
+invariant-loop-index g l = record {
+  end : l.index-end ≡ length l.fn.thread.kept.pairs;
+  within : l.index ≤ l.index-end;
+  none : AllByRecursion (λ p. same_pair p.at (array_address l.fn.at) ≡ false) (take l.index l.fn.thread.kept.pairs);
+}

@@ -1,0 +1,7 @@
+use Rattle.std.proofs.Common.{take}
+use Rattle.lfs_fs.specs.SessionView.{system_state}
+use Rattle.lfs_tool.specs.AppliedOperations.{AreApplied, entries_copying}
+use Rattle.lfs_tool.proofs.source_entries.copy_entries.Given as goal
+
+abbrev pub invariant-loop-entry : goal.invariant-loop-entry
+invariant-loop-entry g l = AreApplied (system_state l.initial.session) (entries_copying (take l.entry-index l.entries)) (system_state l.session)

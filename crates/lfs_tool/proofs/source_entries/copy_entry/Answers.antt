@@ -1,0 +1,14 @@
+use Rattle.std.proofs.Common.{ap₂, List, ℕ, Option, subst, sym, refl}
+use Rattle.lfs_model.specs.layers.Listing.{node_copies}
+use Rattle.lfs_model.specs.session.Operations as ops
+use Rattle.lfs_fs.specs.SessionView.{system_state}
+use Rattle.lfs_tool_folders.specs.MemorySources.{optional_view}
+use Rattle.lfs_tool.specs.AppliedOperations.{AppliesUntilError, node_of_bytes}
+use Rattle.lfs_tool.proofs.Runs.{carries_one}
+use Rattle.lfs_tool.proofs.source_entries.copy_entry.Goals as goal
+
+pub returns-in-None : goal.returns-in-None
+returns-in-None c =
+    subst (λ operations. AppliesUntilError (system_state c.args.session.now) operations c.mkdir.result (system_state c.mkdir.new.self))
+    (ap₂ (λ (path : List ℕ) (bytes : Option _). node_copies path (node_of_bytes (optional_view bytes))) c.deref-in-None.ensures.value (sym c.in-None.is))
+    (carries_one c.args.session.now c.mkdir.new.self (ops.Mkdir c.deref-in-None.result.now) ops.Done c.mkdir.result refl c.mkdir.ensures.answers)

@@ -1,0 +1,35 @@
+use Rattle.std.proofs.Common.{rules, ap, subst, ◌∙◌}
+use Rattle.lfs_model.specs.layers.BlockSets.{BlockStates}
+use Rattle.lfs_thread.specs.Beside.{LeavesUsedBlocksOfPairsUnchangedAndUsed}
+use Rattle.lfs_model.specs.format.Disk.{ordered_disk}
+use Rattle.lfs_thread.specs.Kept.{disk_of_device}
+use Rattle.lfs_tree.proofs.Settled.{settle_here, settle_leaves, settled_after}
+use Rattle.lfs_tree.proofs.files.settle_in_map.Goals as goal
+
+pub run_on_device-requires-clause-can : goal.run_on_device-requires-clause-can
+run_on_device-requires-clause-can g c device map shows = record {
+  can = λ p q here here_map _ _ _ _ _ _ _ _ _ _ _ _ _.
+      settle_here g.D.BlockDevice c.args.thread.now.kept p.now q.now
+      (record { disk = ap (λ d. ordered_disk c.args.thread.now.kept.disk.order (disk_of_device g.D.BlockDevice d)) here ∙ shows.disk; history = ap g.D.BlockDevice.history here ∙ shows.history; map = here_map ∙ shows.map })
+      (g.met.D.BlockDevice.shape p.now) c.args.before c.args.stored c.requires.can;
+}
+
+pub returns-clause-settled : goal.returns-clause-settled
+returns-clause-settled g c =
+    let ran = c.run_on_device.ensures.ran in
+    let run = ran.run in
+    settled_after g.D.BlockDevice c.args.thread.now.kept run.shown.now run.shown_map.now
+    (record { disk = ap (λ d. ordered_disk c.args.thread.now.kept.disk.order (disk_of_device g.D.BlockDevice d)) run.shows ∙ ran.before.disk; history = ap g.D.BlockDevice.history run.shows ∙ ran.before.history; map = run.shows_map ∙ ran.before.map })
+    (g.met.D.BlockDevice.shape run.shown.now) c.args.before c.args.stored c.requires.can c.run_on_device.new.self.kept run.left_map.now (run.leaves_map ∙ ran.after.map) c.run_on_device.result (search rules)
+
+pub run_on_device-requires-clause-leaves : goal.run_on_device-requires-clause-leaves
+run_on_device-requires-clause-leaves g c device map x later later_map shows runs =
+    let gh = g.D.BlockDevice in
+    let t = c.args.thread.now.kept in
+    subst (λ d. LeavesUsedBlocksOfPairsUnchangedAndUsed gh t d map later later_map) runs.shows
+    (subst (λ (m : BlockStates). LeavesUsedBlocksOfPairsUnchangedAndUsed gh t runs.shown.now m later later_map) runs.shows_map
+    (subst (λ e. LeavesUsedBlocksOfPairsUnchangedAndUsed gh t runs.shown.now runs.shown_map.now e later_map) runs.leaves
+    (subst (λ (m : BlockStates). LeavesUsedBlocksOfPairsUnchangedAndUsed gh t runs.shown.now runs.shown_map.now runs.left.now m) runs.leaves_map
+    (settle_leaves gh t runs.shown.now runs.shown_map.now
+    (record { disk = ap (λ d. ordered_disk c.args.thread.now.kept.disk.order (disk_of_device gh d)) runs.shows ∙ shows.disk; history = ap gh.history runs.shows ∙ shows.history; map = runs.shows_map ∙ shows.map })
+    (g.met.D.BlockDevice.shape runs.shown.now) c.args.before c.args.stored c.requires.can runs.left.now runs.left_map.now (search rules) (search rules)))))

@@ -1,0 +1,123 @@
+-- An entry that gets another name, or comes into another directory.
+use Rattle.std.specs.Prelude.{ℕ, ◌≡◌, ◌⊎◌, ◌<◌, true, false, List, [], ◌∷◌, ◌++◌, length, None, Result, IfErr, IsErrOf, OnOk}
+use Rattle.lfs_device.specs.declared.error.Error.{Error}
+use Rattle.lfs_device.specs.declared.error.Error.TheVariants.{Io, NoMemory}
+use Rattle.lfs_model.specs.crash.Frame.{LeavesOthers}
+use Rattle.lfs_model.specs.session.TreeEdits.{tree_renaming, without_prefix}
+use Rattle.lfs_model.specs.session.History.{fault_count}
+use Rattle.lfs_model.specs.session.InDirectory.{BelongsAt, IsPlaceOf}
+use Rattle.lfs_model.specs.format.Names.{Name, is_valid_name}
+use Rattle.lfs_model.specs.session.Operations as ops
+use Rattle.lfs_model.specs.session.Session.{Session}
+use Rattle.lfs_model.specs.format.Slots.{Branch, same_pair}
+use Rattle.lfs_model.specs.session.Refusals.{path_or_root}
+use Rattle.lfs_model.specs.format.Thread.{Pair, is_hard_tail}
+use Rattle.lfs_model.specs.tree.Tree.{Path}
+use Rattle.lfs_model.specs.tree.Profile.{IsWritableEntry}
+use Rattle.lfs_model.specs.tree.Shown.{tree_on_disk}
+use Rattle.lfs_model.specs.layers.Steps.{IsCompletion}
+use Rattle.lfs_operations.specs.Dropping.{SameInFlight}
+use Rattle.lfs_operations.specs.Editing.{CanEditIn, editable_slot}
+use Rattle.lfs_operations.specs.Making.{HasFreeBlocks}
+use Rattle.lfs_operations.specs.Ready.{IsRawFormed, IsReadyImage, KeepsRootBeginning}
+use Rattle.lfs_thread.specs.Kept.{KeptThread, ThreadView}
+use Rattle.lfs_thread.specs.ThreadSteps.{thread_pair_at}
+use Rattle.lfs_tree.specs.SlotChanges.{IsPathSpot}
+use Rattle.lfs_lookup.specs.Entry.{IsStorage}
+use Rattle.lfs_tree.specs.Removals.{CanFreeList}
+use Rattle.lfs_lookup.specs.LookupPaths.{LeadsToPair}
+use Rattle.lfs_tree.specs.declared.renames_at.RenameSource.{RenameSource}
+use Rattle.lfs_lookup.specs.declared.entry.FileStorage.{FileStorage}
+use Rattle.lfs_lookup.specs.declared.paths.PathLookup.{PathLookup}
+use Rattle.lfs_lookup.specs.declared.paths.PathLookup.TheVariants as found
+use Rattle.lfs_lookup.specs.declared.search.SlotPosition.{SlotPosition}
+
+-- ---- what may be renamed
+
+abbrev pub IsFoundSource : PathLookup → RenameSource → Type 0
+IsFoundSource (found.Directory parent slot first) source = source ≡ record { slot = slot; first = parent }
+IsFoundSource (found.File parent slot contents) source = source ≡ record { slot = slot; first = parent }
+IsFoundSource _ source = ⊥
+
+-- the path's slot is there, in the directory that begins with the pair of that number
+pub record IsSourceAt (ps : List Pair) (path : Path) (source : RenameSource) : Type 0 where
+  pub slot : IsPathSpot ps path source.slot
+  pub first_is : slot.first ≡ source.first
+
+-- The image may be changed, and two blocks are free. The entry at the one path is in the slot, and may be written under the name.
+-- That name is its last one at the other path, which isn't beneath it.
+pub record CanMoveEntry (t : KeptThread) (from to : Path) (source : RenameSource) (name : Name) : Type 0 where
+  pub old : CanEditIn t source.slot.pair source.slot.id
+  pub old_is : from ≡ old.path ++ old.name ∷ []
+  pub old_first : old.first ≡ source.first
+  pub above : Path
+  pub is : to ≡ above ++ name ∷ []
+  pub first : ℕ
+  pub on : LeadsToPair t.pairs above first
+  pub not_beneath : without_prefix from to ≡ None
+  pub is_name : is_valid_name name ≡ true
+  pub fits : IsWritableEntry t.disk.profile t.disk.block_size t.disk.page (record (editable_slot old) { name = name })
+  pub logged : (at : ℕ × ℕ) → IsRawFormed t.disk at
+  pub room : HasFreeBlocks 2 t.map
+
+-- nothing is at the other path, and the name belongs there
+pub record CanMoveToVacant (t : KeptThread) (from to : Path) (source : RenameSource) (place : SlotPosition) (name : Name) : Type 0 where
+  pub can : CanMoveEntry t from to source name
+  pub belongs : BelongsAt t.disk.order t.pairs can.first name place.pair place.id
+
+-- a file with these contents is at the other path
+pub record CanMoveOntoFile (t : KeptThread) (from to : Path) (source : RenameSource) (slot : SlotPosition) (contents : FileStorage) (name : Name) : Type 0 where
+  pub can : CanMoveEntry t from to source name
+  pub target : IsPlaceOf t.pairs can.first name slot.pair slot.id
+  pub shows : IsStorage contents target.stands.slot.struct
+
+-- a directory without entries is at the other path; its only pair is the one of number `gone`
+pub record CanMoveOntoDirectory (t : KeptThread) (from to : Path) (source : RenameSource) (slot : SlotPosition) (gone : ℕ) (name : Name) : Type 0 where
+  pub can : CanMoveEntry t from to source name
+  pub target : IsPlaceOf t.pairs can.first name slot.pair slot.id
+  pub at : ℕ × ℕ
+  pub branch : target.stands.slot.struct ≡ Branch at
+  pub below : gone < length t.pairs
+  pub there : same_pair (thread_pair_at t gone).at at ≡ true
+  pub empty : (thread_pair_at t gone).content.slots ≡ []
+  pub alone : is_hard_tail (thread_pair_at t gone).content.tail ≡ false
+
+-- nothing is found at the other path, a file, or a directory without entries
+abbrev pub CanMoveOntoFound : KeptThread → Path → Path → RenameSource → PathLookup → Name → Type 0
+CanMoveOntoFound t from to source (found.Nothing parent place) name = CanMoveToVacant t from to source place name
+CanMoveOntoFound t from to source (found.File parent slot contents) name = CanMoveOntoFile t from to source slot contents name
+CanMoveOntoFound t from to source (found.Directory parent slot first) name = CanMoveOntoDirectory t from to source slot first name
+CanMoveOntoFound t from to source _ name = ⊥
+
+-- ---- what comes of it
+
+-- the rename left alone the blocks of files and of pairs that it doesn't concern
+abbrev pub SparesInRename : KeptThread → Path → Path → KeptThread → Type 0
+SparesInRename old from to new = (s : Session) (given to_given : List ℕ) → path_or_root given ≡ from → path_or_root to_given ≡ to → LeavesOthers old.disk old.pairs s (ops.Rename given to_given) new.disk new.pairs
+
+-- The tree has the entry at the other path, the other slots are where they should be, and the blocks are the image's again. So a
+-- rename of the one path to the other is completed. The root directory begins where it did.
+pub record HasMovedEntry (old : KeptThread) (from to : Path) (new : KeptThread) : Type 0 where
+  pub ready : IsReadyImage new
+  pub flying : SameInFlight old.map new.map
+  pub root : KeepsRootBeginning old new
+  pub completed : (s : Session) (given to_given : List ℕ) → s.tree ≡ tree_on_disk old.disk old.pairs → path_or_root given ≡ from → path_or_root to_given ≡ to
+      → IsCompletion old.disk old.pairs s (ops.Rename given to_given) new.disk new.pairs
+  pub alone : SparesInRename old from to new
+
+-- The same, but the blocks of the replaced file's list are still used.
+pub record HasMovedOnto (old : KeptThread) (from to : Path) (contents : FileStorage) (new : KeptThread) : Type 0 where
+  pub free : CanFreeList new contents
+  pub shows : tree_on_disk new.disk new.pairs ≡ tree_renaming from to (tree_on_disk old.disk old.pairs)
+  pub flying : SameInFlight old.map new.map
+  pub root : KeepsRootBeginning old new
+  pub completed : (s : Session) (given to_given : List ℕ) → s.tree ≡ tree_on_disk old.disk old.pairs → path_or_root given ≡ from → path_or_root to_given ≡ to
+      → IsCompletion old.disk old.pairs s (ops.Rename given to_given) new.disk new.pairs
+  pub alone : SparesInRename old from to new
+
+-- `Io` comes with a fault of the device, and any other result with none; where there is no error the thread works
+pub record ThreadWorksOrReportsError {X : Type 0} (old new : ThreadView) (result : Result X Error) : Type 0 where
+  pub works : OnOk result (new.failed ≡ false)
+  pub errors : IfErr result (λ e. (e ≡ Io) ⊎ (e ≡ NoMemory))
+  pub fault : IsErrOf result Io → fault_count old.kept.history < fault_count new.kept.history
+  pub no_fault : ¬ IsErrOf result Io → fault_count new.kept.history ≡ fault_count old.kept.history

@@ -1,0 +1,43 @@
+-- What is found at the two paths of a rename.
+use Rattle.std.specs.Prelude.{◌≡◌, List, [], ◌∷◌, ◌++◌}
+use Rattle.lfs_model.specs.crash.Frame.{ancestor_paths}
+use Rattle.lfs_model.specs.format.Slots.{zero_gstate}
+use Rattle.lfs_model.specs.format.Thread.{pairs_gstate}
+use Rattle.lfs_model.specs.tree.Tree.{Path, Tree}
+use Rattle.lfs_model.specs.session.TreeEdits.{node_attributes_of}
+use Rattle.lfs_lookup.specs.AttributeAt.{IsAttributesSize}
+use Rattle.lfs_lookup.specs.Finds.{IsFoundNode, has_entry_beneath}
+use Rattle.lfs_lookup.specs.LookupPaths.{LeadsToResult}
+use Rattle.lfs_lookup.specs.declared.paths.PathLookup.{PathLookup}
+use Rattle.lfs_lookup.specs.declared.paths.PathLookup.TheVariants as found
+use Rattle.lfs_lookup.specs.declared.paths.VisiblePathLookup.{VisiblePathLookup}
+use Rattle.lfs_lookup.specs.declared.paths.VisiblePathLookup.TheVariants as shown
+use Rattle.lfs_thread.specs.Kept.{KeptThread}
+use Rattle.lfs_tree.specs.declared.rename_paths.RenameFindings.{RenameFindings}
+use Rattle.lfs_tree.specs.declared.rename_paths.RenameTargets.{RenameTargets}
+
+-- what was found, but for where a name belongs and in which directory it is
+abbrev pub visible_lookup : PathLookup → VisiblePathLookup
+visible_lookup found.Root = shown.Root
+visible_lookup (found.Directory parent slot first) = shown.Directory slot first
+visible_lookup (found.File parent slot contents) = shown.File slot contents
+visible_lookup (found.Nothing parent place) = shown.Nothing
+visible_lookup found.ParentIsFile = shown.ParentIsFile
+visible_lookup found.ParentIsMissing = shown.ParentIsMissing
+
+-- the directories that are searched for the two: those above the old path, twice, those above the new one, and the one at it
+abbrev pub rename_directories : Path → Path → List Path
+rename_directories from to = ancestor_paths from ++ (ancestor_paths from ++ (ancestor_paths to ++ to ∷ []))
+
+-- the image has nothing to recover, and the two paths lead there
+pub record AreRenameResults (t : KeptThread) (from to : Path) (targets : RenameTargets) : Type 0 where
+  pub settled : pairs_gstate t.pairs ≡ zero_gstate
+  pub entry : LeadsToResult t from targets.entry
+  pub target : LeadsToResult t to targets.target
+
+-- what is at the old path and at the new one, and how many bytes the attributes at the old one take
+pub record AreRenameFindings (t : Tree) (from to : Path) (r : RenameFindings) : Type 0 where
+  pub entry : IsFoundNode t from r.entry
+  pub target : IsFoundNode t to r.target.finding
+  pub has : r.target.has_entries ≡ has_entry_beneath t to
+  pub size : IsAttributesSize (node_attributes_of (t from)) r.attributes_size

@@ -1,0 +1,23 @@
+-- How often the calls of a tree read.
+use Rattle.std.specs.Prelude.{sum_by, ◌≡◌, ◌≤◌, ◌+◌, List}
+use Rattle.lfs_model.specs.layers.Cache.{cache_limit}
+use Rattle.lfs_model.specs.crash.Frame.{pair_count_at}
+use Rattle.lfs_model.specs.session.History.{CallEvent, read_count}
+use Rattle.lfs_model.specs.format.Slots.{zero_gstate}
+use Rattle.lfs_model.specs.format.Thread.{pairs_gstate}
+use Rattle.lfs_model.specs.tree.Tree.{Path}
+use Rattle.lfs_lookup.specs.CachedPairs.{AreAllLastUsed}
+use Rattle.lfs_tree.specs.TreeState.{TreeState}
+
+-- all pairs of the directories at these paths are cached
+abbrev pub HasCachedDirectories : TreeState → List Path → Type 0
+HasCachedDirectories t paths = AreAllLastUsed cache_limit t.disk t.cache t.pairs paths
+
+-- No more reads came than the directories at these paths have pairs, and none where all of them were cached.
+pub record ReadsPairsOnce (paths : List Path) (old : TreeState) (history : List CallEvent) : Type 0 where
+  pub few : read_count history ≤ read_count old.history + sum_by (pair_count_at old.pairs) paths
+  pub none : HasCachedDirectories old paths → read_count history ≡ read_count old.history
+
+-- Where nothing is to recover, at most six reads came.
+abbrev pub ReadsSixAtMost : TreeState → List CallEvent → Type 0
+ReadsSixAtMost old history = pairs_gstate old.pairs ≡ zero_gstate → read_count history ≤ read_count old.history + 6

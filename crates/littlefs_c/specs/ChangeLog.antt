@@ -1,0 +1,26 @@
+-- The programs and erases of a device, and which of them are kept.
+use Rattle.std.specs.Prelude.{ℕ, ◌≡◌, ◌+◌, ◌<◌, ◌^◌, ◌++◌, List, [], ◌∷◌, drop, length, map}
+use Rattle.lfs_model.specs.session.History.{DeviceCall, CallEvent}
+use Rattle.lfs_model.specs.session.History.DeviceCall.{Read, Program, Erase, Blank}
+use Rattle.littlefs_c.specs.declared.notes.Change.{Change}
+use Rattle.littlefs_c.specs.declared.notes.Change.TheVariants as change
+
+abbrev pub change_call : Change → DeviceCall
+change_call (change.Program block off bytes) = Program block off bytes.items
+change_call (change.Erase block) = Erase block
+
+-- a call that is a program or an erase
+abbrev pub call_writes : DeviceCall → List DeviceCall
+call_writes (Read block off len) = []
+call_writes (Program block off bytes) = Program block off bytes ∷ []
+call_writes (Erase block) = Erase block ∷ []
+call_writes (Blank block off len) = []
+
+-- the programs and erases of a history, the oldest first
+abbrev pub history_writes : List CallEvent → List DeviceCall
+history_writes [] = []
+history_writes (e ∷ older) = history_writes older ++ call_writes e.call
+
+-- The changes that are kept are the calls from a number on, all of them and in order.
+abbrev pub AreNoted : ℕ → List Change → List DeviceCall → Type 0
+AreNoted first kept calls = first < 2 ^ 62 → (first + length kept ≡ length calls) × (map change_call kept ≡ drop first calls)

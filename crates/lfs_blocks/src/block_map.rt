@@ -47,11 +47,7 @@ impl BlockMap {
         ensures free { IfOk result (λ map. map ≡ replicate block_count Free) }
         ensures error { IfErr result (λ e. e ≡ Error.NoMemory) }
     {
-        let marks = Vec::from_elem(
-            alloc,
-            Marks::all_free(),
-            block_count.div_ceil(64) as usize,
-        )?;
+        let marks = Vec::from_elem(alloc, Marks::all_free(), block_count.div_ceil(64) as usize)?;
         Ok(BlockMap {
             marks,
             block_count,

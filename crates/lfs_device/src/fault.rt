@@ -8,9 +8,7 @@ ghost use Rattle.lfs_device.specs.Fault.{call_count, extent_if_due, failing_exte
 ghost use Rattle.lfs_device.specs.DevicePremises.{DevicesMeetPremises};
 ghost use Rattle.lfs_device.specs.CallsBelow.{AddsNoFault, PassesCallOrFails, stored_bytes};
 
-use crate::partial::{
-    erase_as_planned, program_as_planned, read_as_planned,
-};
+use crate::partial::{erase_as_planned, program_as_planned, read_as_planned};
 use crate::{BlockDevice, Error, Geometry, Trace};
 
 /// Which calls are counted towards a fault.

@@ -16,9 +16,7 @@ ghost use Rattle.lfs_model.specs.session.Writers.{written_contents as with_bytes
 ghost use Rattle.lfs_model.specs.format.SkipLists.{blocks_to_head, block_count_for, pointer_count};
 
 use crate::block::{FullBlocks, write_block};
-use crate::read::{
-    find_block_at, pointer_count_at, read_into_range,
-};
+use crate::read::{find_block_at, pointer_count_at, read_into_range};
 use crate::{RestLocation, blocks_for, place};
 use lfs_device::{BlockDevice, Error, Geometry};
 use std::alloc::Global;

@@ -8,10 +8,7 @@ ghost use Rattle.lfs_file.specs.FileCalls.{OnlyReadsOrCorrupt};
 ghost use Rattle.lfs_file.specs.Known.{OnlyBelowKnown, AreKnownBlocks, FindsFew, IsKnownIndex, ReadsKnownList, no_known_blocks, index_row as row_seen};
 
 use crate::part::BlockPart;
-use crate::read::{
-    pointer_count_at, read_block_before, read_into_range,
-    read_block_pointer,
-};
+use crate::read::{pointer_count_at, read_block_before, read_block_pointer, read_into_range};
 use crate::{blocks_for, place};
 use lfs_device::{BlockDevice, Error};
 
@@ -239,14 +236,7 @@ impl KnownBlocks {
             let (index, off) = place(block_size, pos + left - 1);
             let part = left.min(off + 1 - 4 * pointer_count_at(index));
             left -= part;
-            read_into_range(
-                dev,
-                block,
-                off + 1 - part,
-                buf,
-                left as usize,
-                part,
-            )?;
+            read_into_range(dev, block, off + 1 - part, buf, left as usize, part)?;
             if left == 0 {
                 return Ok(len);
             }

@@ -40,10 +40,7 @@ pub use contents::{WriterContents, contents_in_memory, write_contents};
 pub use extender::Extender;
 pub use front::head_of_front;
 pub use known::KnownBlocks;
-pub use laws::{
-    lemma_forms_fit, lemma_reserve_suffices,
-    lemma_settled_map,
-};
+pub use laws::{lemma_forms_fit, lemma_reserve_suffices, lemma_settled_map};
 pub use memory::load_first_bytes;
 pub use named_lists::settle_list;
 pub use new_sizes::truncate_contents;

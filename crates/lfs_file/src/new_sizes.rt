@@ -20,7 +20,7 @@ use crate::contents::WriterContents;
 use crate::list_cuts::shorten_stored_list;
 use crate::list_ends::end_unfinished_list;
 use crate::list_starts::begin_over_finished;
-use crate::memory::{load_first_bytes, list_without_base};
+use crate::memory::{list_without_base, load_first_bytes};
 use crate::other_places::restart_list_at;
 use crate::stored_list::StoredList;
 use crate::writes::PendingList;

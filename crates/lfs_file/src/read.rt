@@ -70,11 +70,7 @@ pub(crate) fn read_block_before<D: BlockDevice>(dev: &mut D, block: u32) -> Resu
 ///
 /// Errors: `Corrupt` where the block's pointer 0 leads out of the device. `Io` where the device
 /// failed.
-pub fn head_before_block<D: BlockDevice>(
-    dev: &mut D,
-    block: u32,
-    count: u32,
-) -> Result<u32, Error>
+pub fn head_before_block<D: BlockDevice>(dev: &mut D, block: u32, count: u32) -> Result<u32, Error>
     requires { block < (D.geometry dev.old).block_count }
     ensures word { IfOk result (λ word. 0 < count → word ≡ word_at (block_bytes (D.blocks dev.old) block) 0) }
     ensures in_range { IfOk result (λ b. b < (D.geometry dev.old).block_count) }

@@ -8,10 +8,7 @@ ghost use Rattle.lfs_file.specs.Way.{HasNotedPointers, ReadsUnlessNoted};
 ghost use Rattle.lfs_model.specs.session.History.{read_count};
 
 use crate::blocks_for;
-use crate::way::{
-    WalkedBlocks, copy_pointers, find_first_block,
-    word_of_slice,
-};
+use crate::way::{WalkedBlocks, copy_pointers, find_first_block, word_of_slice};
 use lfs_device::{BlockDevice, Error};
 
 // Returns whether a block is the one that the pointers to its place name.
@@ -55,9 +52,7 @@ fn check_and_step<D: BlockDevice>(
     ensures reading { OnlyReadsOrCorrupt D.BlockDevice dev.old dev.new result }
     ensures reads { ReadsUnlessNoted way.now last index block (D.history dev.old) (D.history dev.new) }
 {
-    if block >= dev.geometry().block_count
-        || !named_by_later(words, block, index, last)
-    {
+    if block >= dev.geometry().block_count || !named_by_later(words, block, index, last) {
         return Err(Error::Corrupt);
     }
     copy_pointers(dev, block, index, last, way, words)?;

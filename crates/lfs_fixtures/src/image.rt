@@ -54,10 +54,7 @@ fn push_commit(
 }
 
 // Makes a block with the superblock in its first commit. Returns also the last tag of that commit.
-fn superblock_block(
-    alloc: Global,
-    revision: u32,
-) -> Result<(Vec<u8>, u32), AllocError> {
+fn superblock_block(alloc: Global, revision: u32) -> Result<(Vec<u8>, u32), AllocError> {
     let mut bytes = Vec::from_slice(alloc, &revision.to_le_bytes())?;
     let superblock = [
         (0x0ff0_0008, b"littlefs".as_slice()),
@@ -147,11 +144,7 @@ pub fn image_with_commit(
 }
 
 /// Makes an image of which these are the first two blocks.
-pub fn image_with_pair(
-    alloc: Global,
-    first: &[u8],
-    second: &[u8],
-) -> Result<Vec<u8>, AllocError> {
+pub fn image_with_pair(alloc: Global, first: &[u8], second: &[u8]) -> Result<Vec<u8>, AllocError> {
     let mut image = Vec::from_slice(alloc, first)?;
     image.resize(4096, 0xff)?;
     image.extend_from_slice(second)?;

@@ -9,6 +9,6 @@ mod image;
 pub use bytes::lemma_device_bytes;
 pub use copy::copy_block;
 pub use image::{
-    BlockFilling, FixtureEntries, commits_beginning,
-    block_with_entries, image_with_pair, image_with_commit,
+    BlockFilling, FixtureEntries, block_with_entries, commits_beginning, image_with_commit,
+    image_with_pair,
 };

@@ -20,10 +20,7 @@ pub(crate) fn find_first_refusal(checks: &[Option<Refusal>]) -> Option<Refusal>
 }
 
 // Returns the value, unless a check fails.
-pub(crate) fn value_or_refusal<T: Drop>(
-    checks: &[Option<Refusal>],
-    value: T,
-) -> Result<T, Error>
+pub(crate) fn value_or_refusal<T: Drop>(checks: &[Option<Refusal>], value: T) -> Result<T, Error>
     ensures { result ≡ value_unless (first_refusal checks.now) value }
 {
     match find_first_refusal(checks) {

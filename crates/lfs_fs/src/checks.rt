@@ -73,11 +73,7 @@ fn attribute_is_long<D: BlockDevice>(tree: &Tree<D>, len: usize) -> bool
 }
 
 // Returns whether fewer blocks than that are free.
-pub(crate) fn lacks_blocks<D: BlockDevice>(
-    tree: &Tree<D>,
-    files: &Files,
-    need: u32,
-) -> bool
+pub(crate) fn lacks_blocks<D: BlockDevice>(tree: &Tree<D>, files: &Files, need: u32) -> bool
     requires works { tree.now.failed ≡ false }
     requires small { need < 16 }
     ensures { result ≡ nat_lt (block_count tree.now.disk) (length (tree_summary tree.now).used + reserved_by_writers tree.now.disk.profile tree.now.disk.block_size files.now + need) }
@@ -137,10 +133,7 @@ pub fn check_mkdir<'a, D: BlockDevice>(
         found.fault,
         refuse_if(name_is_long(tree, path.name_len()), Error::NameTooLong),
         refuse_if(!found.node.is_nothing(), Error::Exist),
-        refuse_if(
-            new_entry_overflows(tree, path.name_len()),
-            Error::EntryFull,
-        ),
+        refuse_if(new_entry_overflows(tree, path.name_len()), Error::EntryFull),
         refuse_if(lacks_blocks(tree, files, 4), Error::NoSpace),
     ];
     value_or_refusal(&checks, path)
@@ -487,11 +480,7 @@ pub fn check_write<D: BlockDevice>(
         return Err(Error::TooBig);
     }
     let size = writer.size.max(place + bytes.len() as u32);
-    if lacks_writer_room(
-        tree,
-        writer.turns_by_change(place.min(writer.size)),
-        size,
-    ) {
+    if lacks_writer_room(tree, writer.turns_by_change(place.min(writer.size)), size) {
         return Err(Error::NoSpace);
     }
     Ok(())
@@ -516,20 +505,14 @@ pub fn check_truncate<D: BlockDevice>(
     if file_is_long(tree, size as u64) {
         return Err(Error::TooBig);
     }
-    if size != writer.size
-        && lacks_writer_room(tree, writer.turns_by_resize(), size)
-    {
+    if size != writer.size && lacks_writer_room(tree, writer.turns_by_resize(), size) {
         return Err(Error::NoSpace);
     }
     Ok(())
 }
 
 /// Checks whether a file is open under the number.
-pub fn check_open<D: BlockDevice>(
-    tree: &Tree<D>,
-    files: &Files,
-    fd: u32,
-) -> Result<(), Error>
+pub fn check_open<D: BlockDevice>(tree: &Tree<D>, files: &Files, fd: u32) -> Result<(), Error>
     ensures { IsUnreadResult (view_of_session tree.now files.now) (ops.Close fd) (λ _. is_some (open_file_at files.now fd) ≡ true) result }
 {
     if tree.has_failed() {
@@ -542,11 +525,7 @@ pub fn check_open<D: BlockDevice>(
 }
 
 /// Checks whether a file is open under the number, for a sync.
-pub fn check_sync_file<D: BlockDevice>(
-    tree: &Tree<D>,
-    files: &Files,
-    fd: u32,
-) -> Result<(), Error>
+pub fn check_sync_file<D: BlockDevice>(tree: &Tree<D>, files: &Files, fd: u32) -> Result<(), Error>
     ensures { IsUnreadResult (view_of_session tree.now files.now) (ops.Sync fd) (λ _. is_some (open_file_at files.now fd) ≡ true) result }
 {
     if tree.has_failed() {

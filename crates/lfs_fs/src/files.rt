@@ -86,8 +86,7 @@ impl Writer {
         ensures { result ≡ (is_unsaved_nonsequential self.now.unsaved || turns_writer (change_end self.now.unsaved) begin) }
     {
         match &self.unsaved {
-            Some(unsaved) => unsaved.has_turned
-                || leaves_last_end(unsaved.last_end, begin),
+            Some(unsaved) => unsaved.has_turned || leaves_last_end(unsaved.last_end, begin),
             None => false,
         }
     }
@@ -634,10 +633,8 @@ fn file_prevents_rename(entry: &Option<OpenFile>, from: &[u8], to: &[u8]) -> boo
     ensures { result ≡ is_open_where (open_prevents_rename (path_or_root from.now) (path_or_root to.now)) entry.now }
 {
     match entry {
-        Some(OpenFile::Reading(reader)) => reader.path.is_within(from)
-            || reader.path.has_bytes(to),
-        Some(OpenFile::Writing(writer)) => writer.path.is_within(from)
-            || writer.path.has_bytes(to),
+        Some(OpenFile::Reading(reader)) => reader.path.is_within(from) || reader.path.has_bytes(to),
+        Some(OpenFile::Writing(writer)) => writer.path.is_within(from) || writer.path.has_bytes(to),
         None => false,
     }
 }

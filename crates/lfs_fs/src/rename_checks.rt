@@ -13,10 +13,7 @@ ghost use Rattle.lfs_fs.specs.SessionView.{IsChecksResult, IsReady, refusal_by_c
 ghost use Rattle.lfs_fs.specs.RenamePaths.{IsRefusedAnyway, IsPermitted, PassesRename, is_path_prefix};
 
 use crate::check_order::{are_both_true, find_first_refusal, value_or_refusal};
-use crate::checks::{
-    lacks_blocks, entry_overflows, name_is_long,
-    parse_entry_path,
-};
+use crate::checks::{entry_overflows, lacks_blocks, name_is_long, parse_entry_path};
 use crate::files::Files;
 use crate::owned_path::same_path_bytes;
 use lfs_device::{BlockDevice, Error};

@@ -34,9 +34,9 @@ ghost use Rattle.lfs_fs.specs.ReaderReads.{ReadsFew};
 ghost use Rattle.lfs_fs.specs.FileAnswers.{FileAnswersOf, file_position, file_size};
 
 use crate::checks::{
-    check_open_reader, check_get_attr, check_and_list, check_and_stat,
-    check_open, check_sync_file, check_mkdir, check_open_writer, check_remove,
-    check_remove_attr, check_seek, check_set_attr, check_truncate, check_write,
+    check_and_list, check_and_stat, check_get_attr, check_mkdir, check_open, check_open_reader,
+    check_open_writer, check_remove, check_remove_attr, check_seek, check_set_attr,
+    check_sync_file, check_truncate, check_write,
 };
 use crate::device_laws::lemma_calls_conform;
 use crate::files::{Fd, Files, OpenFile};
@@ -47,13 +47,11 @@ use crate::owned_path::OwnedPath;
 use crate::reads::bytes_for_reader;
 use crate::rename_checks::check_rename;
 use crate::run::{
-    Op, Reply, reply_of_bool, reply_of_bytes, reply_of_count,
-    reply_of_fd, reply_of_gstate, reply_of_items, reply_of_stat,
-    reply_of_unit,
+    Op, Reply, reply_of_bool, reply_of_bytes, reply_of_count, reply_of_fd, reply_of_gstate,
+    reply_of_items, reply_of_stat, reply_of_unit,
 };
 use crate::writers::{
-    create_and_open, writer_after_saving, writer_after_truncating,
-    existing_file_writer,
+    create_and_open, existing_file_writer, writer_after_saving, writer_after_truncating,
 };
 use bitflags::Flags;
 use lfs_device::{BlockDevice, Error};
@@ -308,13 +306,7 @@ impl<D: BlockDevice> Session<D> {
         requires { (flags_view flags).write ≡ false }
         ensures { IsCall self.old (ops.Open path.now (flags_view flags)) (reply_from ops.Opened result) self.new }
     {
-        let contents = check_open_reader(
-            alloc,
-            &mut self.tree,
-            &self.files,
-            path,
-            flags,
-        )?;
+        let contents = check_open_reader(alloc, &mut self.tree, &self.files, path, flags)?;
         let answer = self.files.add_reader(alloc, path, contents);
         if answer.is_err() {
             self.tree.fail();
@@ -343,13 +335,7 @@ impl<D: BlockDevice> Session<D> {
                 answer?
             }
             None => {
-                let answer = create_and_open(
-                    alloc,
-                    &mut self.tree,
-                    owned,
-                    flags,
-                    found.target,
-                );
+                let answer = create_and_open(alloc, &mut self.tree, owned, flags, found.target);
                 lemma_calls_conform(&self.tree);
                 answer?
             }

@@ -24,9 +24,7 @@ use crate::flags::OpenFlags;
 use crate::owned_path::OwnedPath;
 use bitflags::Flags;
 use lfs_device::{BlockDevice, Error};
-use lfs_file::{
-    WriterContents, lemma_forms_fit, lemma_reserve_suffices,
-};
+use lfs_file::{WriterContents, lemma_forms_fit, lemma_reserve_suffices};
 use lfs_lookup::PathLookup;
 use lfs_tree::{Tree, lemma_contents_stay, lemma_few_blocks};
 use std::alloc::Global;

@@ -38,10 +38,7 @@ fn attribute_in_log<'a>(log: &Log<'a>, kind: u8, id: u16) -> Option<&'a [u8]>
 }
 
 // Copies bytes, if there are any.
-fn copy_optional_bytes(
-    alloc: Global,
-    bytes: Option<&[u8]>,
-) -> Result<Option<Vec<u8>>, AllocError>
+fn copy_optional_bytes(alloc: Global, bytes: Option<&[u8]>) -> Result<Option<Vec<u8>>, AllocError>
     ensures { IfOk result (λ found. option_map (λ v. v.items) found ≡ option_copied bytes.entry) }
 {
     match bytes {

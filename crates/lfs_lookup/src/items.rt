@@ -36,10 +36,7 @@ pub struct NameAndOwnedStruct {
 }
 
 /// Returns the struct of a slot's part, with a copy of a file's bytes.
-pub fn owned_struct(
-    alloc: Global,
-    part: &NameOrStruct<'_>,
-) -> Result<OwnedStruct, AllocError>
+pub fn owned_struct(alloc: Global, part: &NameOrStruct<'_>) -> Result<OwnedStruct, AllocError>
     requires { IsAllowed 2 (data_view part.now) }
     ensures { IfOk result (λ s. owned_view s ≡ read_struct part.now.kind part.now.bytes.now) }
 {

@@ -12,9 +12,7 @@ ghost use Rattle.lfs_lookup.specs.ListAt.{AreInLimits, StructFitsTag, IsInLimits
 ghost use Rattle.lfs_lookup.specs.LookupReading.{OnlyReadsThreadAndReportsErrors};
 ghost use Rattle.lfs_lookup.specs.Searchable.{CanSearchFromRoot};
 
-use crate::by_path::{
-    first_pair_found, found_node, look_up_path,
-};
+use crate::by_path::{first_pair_found, found_node, look_up_path};
 use crate::directory::items_if_directory;
 use crate::found_entries::Listing;
 use crate::items::{NameAndOwnedStruct, OwnedStruct, sort_shorter_first};
@@ -87,11 +85,7 @@ pub fn list_directory<D: BlockDevice>(
     ensures reading { OnlyReadsThreadAndReportsErrors thread.old thread.new result }
 {
     let shown = look_up_path(alloc, thread, root, path)?;
-    let mut items = items_if_directory(
-        alloc,
-        thread,
-        first_pair_found(root, shown),
-    )?;
+    let mut items = items_if_directory(alloc, thread, first_pair_found(root, shown))?;
     sort_shorter_first(&mut items);
     // The blocks hold bytes, so inline contents are short. By the sizes of its blocks a list has as
     // many bytes as its entry says.

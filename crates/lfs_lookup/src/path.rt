@@ -26,8 +26,7 @@ fn is_path(bytes: &[u8]) -> bool
 {
     match bytes {
         [] => false,
-        [first, rest @ ..] => *first == b'/'
-            && (rest.is_empty() || has_valid_names(rest)),
+        [first, rest @ ..] => *first == b'/' && (rest.is_empty() || has_valid_names(rest)),
     }
 }
 

@@ -116,11 +116,7 @@ fn inline_fits(geometry: &Geometry, structure: &NameOrStruct<'_>) -> bool
 
 // Returns whether an entry takes at most half of what a pair may hold, with any contents that it
 // may get.
-fn charge_fits(
-    geometry: &Geometry,
-    name: &NameOrStruct<'_>,
-    attributes: &[Attribute<'_>],
-) -> bool
+fn charge_fits(geometry: &Geometry, name: &NameOrStruct<'_>, attributes: &[Attribute<'_>]) -> bool
     ensures { (s : ModelSlot) → s.name ≡ name.now.bytes.now → s.attributes ≡ map attribute_view attributes.now → IsTrue result ↔ ChargeFits geometry.now.profile geometry.now.block_size geometry.now.page s }
 {
     let charge = attributes_size(attributes)
@@ -248,11 +244,7 @@ fn breach_at<D: BlockDevice>(
 
 /// Returns whether a pair continues the directory of the pair before it. The pairs up to the root's
 /// first one, whose number is `root`, don't.
-pub fn follows_hard_tail<D: BlockDevice>(
-    thread: &Thread<D>,
-    root: usize,
-    index: usize,
-) -> bool
+pub fn follows_hard_tail<D: BlockDevice>(thread: &Thread<D>, root: usize, index: usize) -> bool
     requires works { thread.now.failed ≡ false }
     requires below { index < length thread.now.kept.pairs }
     ensures { result ≡ follows_tail_at root thread.now.kept.pairs index }

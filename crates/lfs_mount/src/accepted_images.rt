@@ -24,7 +24,7 @@ ghost use Rattle.lfs_mount.specs.MountReads.{check_reads, pair_reads};
 ghost use Rattle.lfs_mount.specs.Start.{allocation_seed, image_number, mixed_number};
 
 use crate::check::check_and_mark;
-use crate::members::{first_addresses, directory_pairs_of};
+use crate::members::{directory_pairs_of, first_addresses};
 use crate::moves::check_move;
 use crate::orders::OrderViolations;
 use crate::superblock_chain::superblock_chain_length;

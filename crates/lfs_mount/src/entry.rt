@@ -17,10 +17,7 @@ pub(crate) struct NamedStruct<'a> {
 }
 
 // Returns what a struct says, where it suits the type of the name.
-fn suited_struct<'a>(
-    name: &NameOrStruct<'_>,
-    structure: &NameOrStruct<'a>,
-) -> Option<Struct<'a>>
+fn suited_struct<'a>(name: &NameOrStruct<'_>, structure: &NameOrStruct<'a>) -> Option<Struct<'a>>
     ensures { option_map (λ s. struct_reference (struct_view s)) result ≡ raw_reference name.now.kind (data_view structure.now) }
 {
     let Some(target) = Struct::of(structure) else {

@@ -27,11 +27,7 @@ fn moved_slot_at(state: &MoveState, at: [u32; 2]) -> Option<u32>
     }
 }
 
-fn directory_pair_of(
-    state: &MoveState,
-    is_first: bool,
-    pair: &Pair,
-) -> PairBeforeSlotsAreRead
+fn directory_pair_of(state: &MoveState, is_first: bool, pair: &Pair) -> PairBeforeSlotsAreRead
     ensures { result ≡ header_description (move_view state.now) is_first pair.now }
 {
     PairBeforeSlotsAreRead {
@@ -61,10 +57,7 @@ pub(crate) fn directory_pairs_of(
 }
 
 // Returns the addresses of the directories of these pairs, from the root's first pair on.
-pub(crate) fn first_addresses(
-    alloc: Global,
-    pairs: &[Pair],
-) -> Result<PairAddressList, Error>
+pub(crate) fn first_addresses(alloc: Global, pairs: &[Pair]) -> Result<PairAddressList, Error>
     requires { IsDistinct nat_eq (blocks_of_addresses (header_addresses true pairs.now)) }
     ensures places { IfOk result (λ places. places ≡ header_addresses true pairs.now) }
     ensures error { IfErr result (λ e. e ≡ Error.NoMemory) }

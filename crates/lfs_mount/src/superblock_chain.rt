@@ -122,11 +122,7 @@ fn repeats_in_slots(
 }
 
 // Returns the superblock's struct in slot 0 of a log. Corrupt exactly where there is none.
-fn struct_from_log(
-    alloc: Global,
-    geometry: &Geometry,
-    log: &Log<'_>,
-) -> Result<Vec<u8>, Error>
+fn struct_from_log(alloc: Global, geometry: &Geometry, log: &Log<'_>) -> Result<Vec<u8>, Error>
     ensures ok { IfOk result (λ bytes. struct_in_log geometry.now.profile.versions geometry.now.block_size geometry.now.block_count log.now ≡ Some bytes.items) }
     ensures corrupt { IsErrOf result Error.Corrupt → struct_in_log geometry.now.profile.versions geometry.now.block_size geometry.now.block_count log.now ≡ None }
     ensures errors { IfErr result (λ e. (e ≡ Error.Corrupt) ⊎ (e ≡ Error.NoMemory)) }

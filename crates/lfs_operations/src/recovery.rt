@@ -72,10 +72,7 @@ fn set_gstate_in<D: BlockDevice>(
 }
 
 // Returns the global state that is wanted after a pair is dropped: zero after the last one.
-fn lemma_gstate_zero<D: BlockDevice>(
-    thread: &Thread<D>,
-    is_last: bool,
-) -> MoveState
+fn lemma_gstate_zero<D: BlockDevice>(thread: &Thread<D>, is_last: bool) -> MoveState
     requires { thread.now.failed ≡ false }
     ensures { move_view result ≡ gstate_after_drops thread.now.kept is_last }
 {
@@ -131,10 +128,7 @@ pub fn drop_unreached_pairs<D: BlockDevice>(
 {
     for dropped in 0..unreached.len() {
         let behind = unreached[dropped] - dropped;
-        let wanted = lemma_gstate_zero(
-            thread,
-            dropped + 1 == unreached.len(),
-        );
+        let wanted = lemma_gstate_zero(thread, dropped + 1 == unreached.len());
         drop_pair_at(alloc, thread, behind, &wanted)?;
     }
     clear_sync_bit(alloc, thread)?;

@@ -18,11 +18,7 @@ use std::alloc::Global;
 
 // Returns whether a pair is dropped with its slot: it has no other slot, and isn't the first of its
 // directory.
-pub(crate) fn drops_with_slot<D: BlockDevice>(
-    thread: &Thread<D>,
-    pair: usize,
-    first: usize,
-) -> bool
+pub(crate) fn drops_with_slot<D: BlockDevice>(thread: &Thread<D>, pair: usize, first: usize) -> bool
     requires works { thread.now.failed ≡ false }
     requires below { pair < length thread.now.kept.pairs }
     ensures { result ≡ drops_with_its_slot thread.now.kept pair first }

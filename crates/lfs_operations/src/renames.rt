@@ -36,12 +36,7 @@ fn renaming_changes<'a>(
 {
     let mut changes = Vec::new(alloc);
     changes.push(Change::Delete { id })?;
-    push_slot_changes(
-        &mut changes,
-        id_after_removed(id, place),
-        name,
-        copy,
-    )?;
+    push_slot_changes(&mut changes, id_after_removed(id, place), name, copy)?;
     Ok(changes)
 }
 

@@ -39,10 +39,7 @@ pub(crate) struct SlotCopy {
     attributes: Vec<AttributeCopy>,
 }
 
-fn copy_struct(
-    alloc: Global,
-    part: &NameOrStruct<'_>,
-) -> Result<StructCopy, AllocError>
+fn copy_struct(alloc: Global, part: &NameOrStruct<'_>) -> Result<StructCopy, AllocError>
     ensures { IfOk result (λ copy. struct_copy copy ≡ data_view part.now) }
 {
     let bytes = Vec::from_slice(alloc, part.bytes)?;

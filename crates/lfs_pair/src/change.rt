@@ -109,13 +109,7 @@ pub(crate) fn apply_change<'a>(
             Ok(())
         }
         Change::Attr { id, attr, bytes } => {
-            apply_entry_of(
-                alloc,
-                content,
-                ATTRIBUTE + u16::from(attr),
-                id,
-                bytes,
-            )?;
+            apply_entry_of(alloc, content, ATTRIBUTE + u16::from(attr), id, bytes)?;
             Ok(())
         }
         Change::NoAttr { id, attr } => {

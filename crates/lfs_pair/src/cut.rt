@@ -20,14 +20,8 @@ pub(crate) fn middle_cut(slots: &[Slot<'_>], geometry: Geometry) -> usize
     let mut front = 0;
     for slot in slots {
         let longer = front + slot_size(slot);
-        let back_fits = fits_pair(
-            slots.len() - cut,
-            total - front,
-            geometry,
-        );
-        if !fits_pair(cut + 1, longer, geometry)
-            || (back_fits && 2 * longer > total)
-        {
+        let back_fits = fits_pair(slots.len() - cut, total - front, geometry);
+        if !fits_pair(cut + 1, longer, geometry) || (back_fits && 2 * longer > total) {
             return cut;
         }
         cut += 1;

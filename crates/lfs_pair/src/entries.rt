@@ -91,12 +91,7 @@ pub(crate) fn push_changes(builder: &mut CommitBuilder<'_>, changes: &[Change<'_
 // ---- contents
 
 // Adds a name or a struct, if there is one.
-fn push_data(
-    builder: &mut CommitBuilder<'_>,
-    id: u16,
-    part: &Option<NameOrStruct<'_>>,
-    class: u16,
-)
+fn push_data(builder: &mut CommitBuilder<'_>, id: u16, part: &Option<NameOrStruct<'_>>, class: u16)
     requires id { id < 2 ^ 10 }
     requires class { class < 5 }
     requires part { AllowsIfSome class (option_map data_view part.now) }

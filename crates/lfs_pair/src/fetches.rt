@@ -67,10 +67,7 @@ fn read_revision<D: BlockDevice>(dev: &mut D, block: u32) -> Result<u32, Error>
 
 // Returns a pair's two blocks, the one with the later revision first. Where neither is later they
 // come as they are named.
-fn later_first<D: BlockDevice>(
-    dev: &mut D,
-    blocks: [u32; 2],
-) -> Result<[u32; 2], Error>
+fn later_first<D: BlockDevice>(dev: &mut D, blocks: [u32; 2]) -> Result<[u32; 2], Error>
     requires first { (array_address blocks).0 < (D.geometry dev.old).block_count }
     requires second { (array_address blocks).1 < (D.geometry dev.old).block_count }
     ensures later { IfOk result (λ later. array_address later ≡ later_block_first (disk_of_blocks (D.geometry dev.old) (D.blocks dev.old)) (array_address blocks)) }

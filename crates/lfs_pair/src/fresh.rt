@@ -31,11 +31,7 @@ const ZEROS: [u8; 512] = [0; 512];
 
 // Erases a block, and leaves no log in it. An erase may leave any bytes, so an old log may still be
 // there after it. The first page is then programmed with zeros. The buffer is as long as a block.
-fn erase_cleanly<D: BlockDevice>(
-    dev: &mut D,
-    block: u32,
-    buf: &mut [u8],
-) -> Result<(), Error>
+fn erase_cleanly<D: BlockDevice>(dev: &mut D, block: u32, buf: &mut [u8]) -> Result<(), Error>
     requires in_device { block < (D.geometry dev.old).block_count }
     requires buf { length buf.old ≡ (D.geometry dev.old).block_size }
     ensures cleared { OnOk result (has_commit (block_bytes (D.blocks dev.new) block) ≡ false) }

@@ -56,11 +56,7 @@ pub(crate) fn slots_size(slots: &[Slot<'_>]) -> u64
 }
 
 // Returns whether a pair may hold `count` slots of `size` bytes.
-pub(crate) fn fits_pair(
-    count: usize,
-    size: u64,
-    geometry: Geometry,
-) -> bool
+pub(crate) fn fits_pair(count: usize, size: u64, geometry: Geometry) -> bool
     ensures { IsTrue result ↔ ((count ≤ slots_limit) × (size ≤ pair_capacity geometry.block_size geometry.page)) }
 {
     count <= geometry.slot_limit() && size <= u64::from(geometry.pair_capacity())
@@ -71,9 +67,5 @@ pub(crate) fn fits_pair(
 pub fn content_fits(content: &Content<'_>, geometry: Geometry) -> bool
     ensures { IsTrue result ↔ RawContentFits geometry.block_size geometry.page (content_view content.now) }
 {
-    fits_pair(
-        content.slots.len(),
-        slots_size(&content.slots),
-        geometry,
-    )
+    fits_pair(content.slots.len(), slots_size(&content.slots), geometry)
 }

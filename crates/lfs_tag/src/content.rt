@@ -11,7 +11,7 @@ ghost use Rattle.lfs_tag.specs.ContentView.{data_view, attribute_view, slot_view
 ghost use Rattle.lfs_tag.specs.ContentGives.{GivesWithMemory};
 
 use crate::entry::Entry;
-use crate::fields::{MoveState, NULL_ADDRESS, move_from_bytes, address_from_bytes};
+use crate::fields::{MoveState, NULL_ADDRESS, address_from_bytes, move_from_bytes};
 use crate::kinds::{
     ATTRIBUTE_CLASS, CHECKSUM_CLASS, CREATE, CTZ_STRUCT, DELETE, DIRECTORY_NAME, DIRECTORY_STRUCT,
     FILE_NAME, HARD_TAIL, INLINE_STRUCT, MOVE_CLASS, MOVE_STATE, NAME_CLASS, SOFT_TAIL,
@@ -389,11 +389,7 @@ impl<'a> Content<'a> {
     /// Applies one more entry, as if the log had it at its end.
     ///
     /// Errors are those of [`read`](Content::read). After an error nothing is known of the content.
-    pub fn apply_next_entry(
-        &mut self,
-        alloc: Global,
-        entry: &Entry<'a>,
-    ) -> Result<(), ContentError>
+    pub fn apply_next_entry(&mut self, alloc: Global, entry: &Entry<'a>) -> Result<(), ContentError>
         ensures { GivesWithMemory (λ _. content_view self.new) result (content_after_one (content_view self.old) (log_entry_view entry.now)) }
     {
         apply_to_content(alloc, self, entry)?;

@@ -131,12 +131,7 @@ fn rank_of_slot(log: &Log<'_>, order: NameOrder, name: &[u8], id: u16) -> NameCo
 
 // Notes the ranks of a log's slots. Returns false where there is no room for them.
 #[tactic(auto, using(crate::proofs::Ranks::few_entries))]
-fn comparisons_of_slots(
-    ranks: &mut Ranks,
-    log: &Log<'_>,
-    order: NameOrder,
-    name: &[u8],
-) -> bool
+fn comparisons_of_slots(ranks: &mut Ranks, log: &Log<'_>, order: NameOrder, name: &[u8]) -> bool
     requires { ranks.old.items ≡ [] }
     ensures { IsTrue result → ranks.new.items ≡ comparisons_after order name.now [] (block_entries log.now) }
 {
@@ -149,12 +144,7 @@ fn comparisons_of_slots(
 }
 
 // Applies an entry to the ranks. Returns false where there is no room for another slot.
-fn apply_to_comparisons(
-    ranks: &mut Ranks,
-    order: NameOrder,
-    name: &[u8],
-    entry: &Entry<'_>,
-) -> bool
+fn apply_to_comparisons(ranks: &mut Ranks, order: NameOrder, name: &[u8], entry: &Entry<'_>) -> bool
     ensures { IsTrue result → ranks.new.items ≡ comparisons_after_entry order name.now ranks.old.items (log_entry_view entry.now) }
 {
     let class = entry.tag.class();
@@ -170,11 +160,7 @@ fn apply_to_comparisons(
 }
 
 // Returns how the name that an entry gives a slot compares with the wanted one.
-fn compare_with_entry(
-    order: NameOrder,
-    name: &[u8],
-    entry: &Entry<'_>,
-) -> NameComparison
+fn compare_with_entry(order: NameOrder, name: &[u8], entry: &Entry<'_>) -> NameComparison
     ensures { result ≡ comparison_with_entry order name.now (log_entry_view entry.now) }
 {
     if entry.tag.kind() == SUPERBLOCK_NAME {
@@ -235,11 +221,7 @@ fn splice_comparisons(ranks: &mut Ranks, entry: &Entry<'_>) -> bool
 
 // Returns the first slot whose name is the wanted one, or a greater one. Returns the number of
 // slots where there is none.
-fn first_wanted(
-    ranks: &[NameComparison],
-    same: bool,
-    skip: Option<u16>,
-) -> usize
+fn first_wanted(ranks: &[NameComparison], same: bool, skip: Option<u16>) -> usize
     ensures first { result ≡ first_wanted_slot same skip 0 ranks.now }
     ensures within { result ≤ length ranks.now }
 {
@@ -251,12 +233,7 @@ fn first_wanted(
     ranks.len()
 }
 
-fn named_as_wanted(
-    same: bool,
-    skip: Option<u16>,
-    id: usize,
-    rank: NameComparison,
-) -> bool
+fn named_as_wanted(same: bool, skip: Option<u16>, id: usize, rank: NameComparison) -> bool
     ensures { result ≡ is_wanted_slot same skip id rank }
 {
     is_as_wanted(same, rank) && !skips_id(skip, id)

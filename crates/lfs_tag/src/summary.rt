@@ -8,9 +8,7 @@ ghost use Rattle.lfs_tag.specs.LogEntryView.{log_entry_view};
 ghost use Rattle.lfs_tag.specs.ContentGives.{GivesWithMemory};
 ghost use Rattle.lfs_tag.specs.Summary.{IsLogSummary, empty_mark, mark_at_id, marks_with_change, marks_padded_to, has_both, marks_after_entry, outline_view, outline_after_entry, outline_after, empty_outline};
 
-use crate::content::{
-    ContentError, Tail, has_needed_slot, is_known_entry, tail_set_by,
-};
+use crate::content::{ContentError, Tail, has_needed_slot, is_known_entry, tail_set_by};
 use crate::entry::Entry;
 use crate::fields::{MoveState, move_from_bytes};
 use crate::kinds::{
@@ -93,10 +91,7 @@ fn all_complete(marks: &[SlotSummary]) -> bool
 }
 
 // Applies an entry to the outline.
-fn apply_to_outline(
-    outline: &mut PartialSummary,
-    entry: &Entry<'_>,
-) -> Result<(), ContentError>
+fn apply_to_outline(outline: &mut PartialSummary, entry: &Entry<'_>) -> Result<(), ContentError>
     ensures { GivesWithMemory (λ _. outline_view outline.new) result (outline_after_entry (outline_view outline.old) (log_entry_view entry.now)) }
 {
     let tag = entry.tag;
@@ -120,10 +115,7 @@ fn apply_to_outline(
 }
 
 // Applies to the slots' marks an entry that is no checksum, tail or move state.
-fn apply_to_marks(
-    marks: &mut Vec<SlotSummary>,
-    entry: &Entry<'_>,
-) -> Result<(), ContentError>
+fn apply_to_marks(marks: &mut Vec<SlotSummary>, entry: &Entry<'_>) -> Result<(), ContentError>
     ensures { GivesWithMemory (λ _. marks.new.items) result (marks_after_entry marks.old.items (log_entry_view entry.now)) }
 {
     let kind = entry.tag.kind();

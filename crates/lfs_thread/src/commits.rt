@@ -15,9 +15,7 @@ ghost use Rattle.lfs_model.specs.format.Thread.{address_blocks, addresses_blocks
 
 use lfs_blocks::Cache;
 use lfs_device::{BlockDevice, Error};
-use lfs_pair::{
-    Change, Outcome, Pair, commit, commit_bytes, split, split_bytes,
-};
+use lfs_pair::{Change, Outcome, Pair, commit, commit_bytes, split, split_bytes};
 use std::alloc::Global;
 
 // Commits changes to a pair. The active block isn't read where it is cached. Afterwards neither

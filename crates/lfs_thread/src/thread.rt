@@ -514,10 +514,7 @@ impl<D: BlockDevice> Thread<D> {
     /// Lends the device and the map to `work`, which leaves the blocks of the pairs as they are,
     /// and used. Such work writes a file's list into free blocks or blocks in flight, or settles it
     /// in the map. The cache is empty afterwards.
-    pub fn run_on_device<X, F: FnOnce(&mut D, &mut BlockMap) -> X>(
-        &mut self,
-        work: F,
-    ) -> X
+    pub fn run_on_device<X, F: FnOnce(&mut D, &mut BlockMap) -> X>(&mut self, work: F) -> X
         requires works { self.old.failed ≡ false }
         requires can { (device : D) (map : BlockMap) → AreDeviceAndMapOfThread D.BlockDevice self.old.kept device map → CanCallClosureOnDeviceAndMap F.FnOnce work device map }
         requires leaves { (device : D) (map : BlockMap) (x : X) (later : D) (later_map : BlockMap) → AreDeviceAndMapOfThread D.BlockDevice self.old.kept device map

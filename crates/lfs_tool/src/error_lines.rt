@@ -92,19 +92,12 @@ pub fn report<O: ToolOutput, E: ToolOutput>(fault: &Fault, out: &mut O, err: &mu
         Fault::Line(LineError::Modes) => write_line(err, MODES, 2),
         Fault::Line(LineError::Order) => write_line(err, ORDER, 2),
         Fault::Line(LineError::Board) => write_line(err, BOARD, 2),
-        Fault::Line(LineError::Limit(limit)) => {
-            write_line(err, broken_limit_text(*limit), 2)
-        }
-        Fault::Line(LineError::Misuse(misuse)) => {
-            write_line(err, line_of_misuse(*misuse), 2)
-        }
+        Fault::Line(LineError::Limit(limit)) => { write_line(err, broken_limit_text(*limit), 2) }
+        Fault::Line(LineError::Misuse(misuse)) => { write_line(err, line_of_misuse(*misuse), 2) }
         Fault::Line(LineError::Part) => write_line(err, PART, 2),
         Fault::Line(LineError::NotUtf8) => write_line(err, NOT_UTF8, 2),
         Fault::Line(LineError::Parser(error)) => match error.kind() {
-            ErrorKind::OutOfMemory => write_error_line(
-                err,
-                ToolError::Fs(Error::NoMemory),
-            ),
+            ErrorKind::OutOfMemory => write_error_line(err, ToolError::Fs(Error::NoMemory)),
             ErrorKind::DisplayHelp | ErrorKind::DisplayVersion => {
                 let _ = out.show(error);
                 0

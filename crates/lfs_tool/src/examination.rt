@@ -75,21 +75,13 @@ fn result_of_verdict(
 }
 
 // Returns the result for bytes that an image may have.
-fn result_of_bytes(
-    alloc: Global,
-    image: Vec<u8>,
-    layout: ImageLayout,
-) -> Result<CheckResult, Error>
+fn result_of_bytes(alloc: Global, image: Vec<u8>, layout: ImageLayout) -> Result<CheckResult, Error>
     requires { length image.items ≤ 268_435_456 }
     ensures checked { IfOk result (IsCheckResult layout image.items) }
     ensures err { IfErr result (λ e. e ≡ Error.NoMemory) }
 {
     let given = GivenSizes::of(image.len(), layout);
-    let stated = image_wrong_number(
-        &image,
-        layout.block_size,
-        layout.profile.versions,
-    );
+    let stated = image_wrong_number(&image, layout.block_size, layout.profile.versions);
     let verdict = judge_image(alloc, image, layout)?;
     Ok(result_of_verdict(stated, verdict, given))
 }

@@ -7,8 +7,7 @@ use lfs_model::NameOrder;
 use lfs_pair::is_same_pair;
 use lfs_tag::kinds::DELETE;
 use lfs_tag::{
-    Content, Log, MoveState, Slot, SlotNameKind, Struct, has_hard_tail, is_later_than,
-    name_cmp,
+    Content, Log, MoveState, Slot, SlotNameKind, Struct, has_hard_tail, is_later_than, name_cmp,
 };
 use lfs_thread::gstate_xor_delta;
 use std::alloc::{AllocError, Global};

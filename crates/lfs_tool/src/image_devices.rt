@@ -59,11 +59,7 @@ pub fn ram_device_of(image: Vec<u8>, layout: ImageLayout) -> Result<RamDevice, E
 /// # Errors
 /// - `Invalid` where no image has so many bytes.
 /// - `NoMemory` where memory for a word a block isn't granted.
-pub fn sparse_device_of(
-    alloc: Global,
-    len: u32,
-    layout: ImageLayout,
-) -> Result<SparseDevice, Error>
+pub fn sparse_device_of(alloc: Global, len: u32, layout: ImageLayout) -> Result<SparseDevice, Error>
     ensures sizes { IfOk result (λ d. let g = sparse_geometry d in (g.block_size ≡ layout.block_size) × (g.page ≡ layout.page) × (g.profile ≡ layout.profile)) }
     ensures count { IfOk result (λ d. ((sparse_geometry d).block_count ≡ len / layout.block_size) × (len % layout.block_size ≡ 0)) }
     ensures invalid { result ≡ Err Error.Invalid → len % layout.block_size ≡ 0 → ¬ IsValidGeometry layout.block_size layout.page (len / layout.block_size) }

@@ -24,11 +24,7 @@ use lfs_thread::Thread;
 use std::alloc::Global;
 
 // Returns whether the image of a device is accepted with its names in that order.
-fn accepts_order(
-    alloc: Global,
-    device: RamDevice,
-    order: NameOrder,
-) -> Result<bool, Error>
+fn accepts_order(alloc: Global, device: RamDevice, order: NameOrder) -> Result<bool, Error>
     ensures is { IfOk result (λ b. IsTrue b ↔ IsAcceptedInOrder order (disk_of_blocks (ram_geometry device) (ram_blocks device))) }
     ensures err { IfErr result (λ e. e ≡ Error.NoMemory) }
 {
@@ -108,11 +104,7 @@ fn rule_of_both(
 
 // Returns the rule that the image of a device breaks. It is accepted in neither order of names, and with longer
 // names first it breaks the rule `longer`.
-fn broken_rule_of(
-    alloc: Global,
-    device: RamDevice,
-    longer: Violation,
-) -> Result<BrokenRule, Error>
+fn broken_rule_of(alloc: Global, device: RamDevice, longer: Violation) -> Result<BrokenRule, Error>
     requires refused { IsInNoOrder (disk_of_blocks (ram_geometry device) (ram_blocks device)) }
     requires longer { Breaks (ordered_disk LongerFirst (disk_of_blocks (ram_geometry device) (ram_blocks device))) longer }
     ensures broken { IfOk result (λ rule. BreaksInSome (disk_of_blocks (ram_geometry device) (ram_blocks device)) rule.violation) }

@@ -50,7 +50,7 @@ pub use lfs_lookup::push_escaped_path;
 pub use lfs_tool_line::{
     Extras, Limit, Line, LineError, Misuse, Mode, Request, read_line, read_request,
 };
-pub use listings::{list, lines_of_device};
+pub use listings::{lines_of_device, list};
 pub use loaded_block::LoadedBlock;
 pub use output::write_and_flush;
 pub use progress::{FilesAndBytes, FollowsProgress};

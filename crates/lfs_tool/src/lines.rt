@@ -42,10 +42,7 @@ fn push_item_text(text: &mut Vec<u8>, found: &TreeItem) -> Result<(), AllocError
 }
 
 // Returns the lines of the entries, in order.
-pub(crate) fn tree_item_lines(
-    alloc: Global,
-    found: &[TreeItem],
-) -> Result<Vec<u8>, AllocError>
+pub(crate) fn tree_item_lines(alloc: Global, found: &[TreeItem]) -> Result<Vec<u8>, AllocError>
     ensures { IfOk result (λ text. text.items ≡ tree_entry_lines (tree_items_view found.now)) }
 {
     let mut text = Vec::new(alloc);

@@ -57,11 +57,7 @@ fn lines_of_ram(alloc: Global, device: RamDevice) -> Result<Vec<u8>, Error>
 }
 
 // Returns the lines of the bytes of an image.
-fn lines_of_image(
-    alloc: Global,
-    image: Vec<u8>,
-    layout: ImageLayout,
-) -> Result<Vec<u8>, Error>
+fn lines_of_image(alloc: Global, image: Vec<u8>, layout: ImageLayout) -> Result<Vec<u8>, Error>
     requires { length image.items < 2 ^ 32 }
     ensures ok { IfOk result (λ text. IsListingOfImage layout image.items text.items) }
     ensures err { IfErr result (RefusesToList layout image.items) }

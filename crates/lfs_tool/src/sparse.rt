@@ -134,10 +134,7 @@ impl BlockDevice for SparseDevice {
         ensures error { IfErr result (λ e. e ≡ Error.Io) }
     {
         let is_missing = !self.blocks[block as usize].read(off as usize, buf);
-        self.trace = Trace::with_ghost_history(
-            self,
-            &(block, off, buf.len(), is_missing),
-        );
+        self.trace = Trace::with_ghost_history(self, &(block, off, buf.len(), is_missing));
         if is_missing {
             let len = off + buf.len() as u32;
             self.missing = Some(MissingBytes { block, len });

@@ -135,10 +135,7 @@ fn read_waiting_entry<S: Source>(
     }
 }
 
-fn push_source_entry(
-    entries: &mut Vec<SourceEntry>,
-    entry: SourceEntry,
-) -> Result<(), SourceError>
+fn push_source_entry(entries: &mut Vec<SourceEntry>, entry: SourceEntry) -> Result<(), SourceError>
     ensures entries { OnOk result (entries.new.items ≡ entries.old.items ++ entry ∷ []) }
     ensures memory { (e : _) → result ≡ Err e → e ≡ SourceError.NoMemory }
 {

@@ -22,11 +22,7 @@ pub struct FaultLog {
     first: RefCell<Result<Option<PathFault>, AllocError>>,
 }
 
-fn path_fault_of(
-    alloc: Global,
-    path: &[u8],
-    error: &io::Error,
-) -> Result<PathFault, AllocError>
+fn path_fault_of(alloc: Global, path: &[u8], error: &io::Error) -> Result<PathFault, AllocError>
     ensures { IfOk result (λ fault. fault.path.items ≡ path.now) }
 {
     let path = path.to_vec(alloc)?;

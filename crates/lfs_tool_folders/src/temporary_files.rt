@@ -78,10 +78,7 @@ fn create_temporary_file<R: Files>(files: &R, paths: &mut ImagePaths) -> io::Res
 
 // Makes a new file beside a path. Where the folder takes no new file, makes or empties the one at the
 // path. Returns whether the file is beside it.
-fn create_new_file<R: Files>(
-    files: &R,
-    paths: &mut ImagePaths,
-) -> io::Result<(R::File, bool)>
+fn create_new_file<R: Files>(files: &R, paths: &mut ImagePaths) -> io::Result<(R::File, bool)>
     ensures path { paths.new.path ≡ paths.old.path }
     ensures beside { IfOk result (λ made. made.1 ≡ true → IsNumberedPath (string_bytes paths.old.path) (string_bytes paths.new.beside)) }
 {

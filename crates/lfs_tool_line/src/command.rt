@@ -7,9 +7,7 @@ ghost use Rattle.lfs_tool_line.specs.Matches.{HasImage, faults, rows};
 
 use crate::extra_options::with_extra_options;
 use crate::mode_options::with_path_modes;
-use crate::options::{
-    number_arg, with_board_options, with_limit_option, with_limit_options,
-};
+use crate::options::{number_arg, with_board_options, with_limit_option, with_limit_options};
 use crate::values::first_bad_number;
 use clap::error::ErrorKind;
 use clap::{Arg, ArgAction, ArgMatches, Command, Error};
@@ -186,10 +184,7 @@ fn name_order_arg<'a>(alloc: Global) -> Arg<'a>
         .help("Order of names in the image that -c makes")
 }
 
-fn add_order_option<'a>(
-    alloc: Global,
-    command: Command<'a>,
-) -> Result<Command<'a>, AllocError>
+fn add_order_option<'a>(alloc: Global, command: Command<'a>) -> Result<Command<'a>, AllocError>
     ensures { IfOk result (λ c. app_of c ≡ with_rule (app_of command.entry) order_rule) }
 {
     command.arg(name_order_arg(alloc))
@@ -205,10 +200,7 @@ fn explain_arg<'a>(alloc: Global) -> Arg<'a>
         .help("Say why after the line of an error")
 }
 
-fn add_explain_option<'a>(
-    alloc: Global,
-    command: Command<'a>,
-) -> Result<Command<'a>, AllocError>
+fn add_explain_option<'a>(alloc: Global, command: Command<'a>) -> Result<Command<'a>, AllocError>
     ensures { IfOk result (λ c. app_of c ≡ with_rule (app_of command.entry) explain_rule) }
 {
     command.arg(explain_arg(alloc))
@@ -225,10 +217,7 @@ fn image_arg<'a>(alloc: Global) -> Arg<'a>
         .help("The file with the image, or - for standard input or output")
 }
 
-fn add_image_argument<'a>(
-    alloc: Global,
-    command: Command<'a>,
-) -> Result<Command<'a>, AllocError>
+fn add_image_argument<'a>(alloc: Global, command: Command<'a>) -> Result<Command<'a>, AllocError>
     ensures { IfOk result (λ c. app_of c ≡ with_rule (app_of command.entry) image_rule) }
 {
     command.arg(image_arg(alloc))
@@ -248,10 +237,7 @@ fn bare_command<'a>(alloc: Global) -> Command<'a>
 }
 
 // Adds the options of which exactly one has to be given.
-fn with_four_modes<'a>(
-    alloc: Global,
-    command: Command<'a>,
-) -> Result<Command<'a>, AllocError>
+fn with_four_modes<'a>(alloc: Global, command: Command<'a>) -> Result<Command<'a>, AllocError>
     ensures { IfOk result (λ c. app_of c ≡ with_mode_options (app_of command.entry)) }
 {
     let create = "Create IMAGE from the folder DIR";
@@ -284,10 +270,7 @@ fn with_size_options<'a>(alloc: Global, command: Command<'a>) -> Result<Command<
 fn with_common_options<'a>(alloc: Global) -> Result<Command<'a>, AllocError>
     ensures { IfOk result (λ c. app_of c ≡ with_common_options) }
 {
-    let command = with_four_modes(
-        alloc,
-        bare_command(alloc),
-    )?;
+    let command = with_four_modes(alloc, bare_command(alloc))?;
     let command = with_path_modes(alloc, command)?;
     let command = with_size_options(alloc, command)?;
     let command = add_order_option(alloc, command)?;

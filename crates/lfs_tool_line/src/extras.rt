@@ -4,7 +4,7 @@ ghost use Rattle.std.specs.Prelude.{◌≡◌, IfOk};
 ghost use Rattle.clap.specs.Words.{found_of, rows_of};
 ghost use Rattle.lfs_tool_line.specs.Extras.{AreExtrasOf, is_given, is_standard_stream, misused_option, misused_pair, misuse_rule};
 
-use crate::values::{argument_text, flag_value, number_given_or, is_auto};
+use crate::values::{argument_text, flag_value, is_auto, number_given_or};
 use clap::ArgMatches;
 use std::alloc::{AllocError, Global};
 

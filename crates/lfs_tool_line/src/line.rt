@@ -8,7 +8,7 @@ use crate::command::parse_words;
 use crate::extras::{Extras, Misuse, extras_of_matches, misused_option};
 use crate::limits::{Limit, first_broken_limit, profile_given_or};
 use crate::modes::mode_of_matches;
-use crate::values::{argument_text, flag_value, number_given_or, is_auto};
+use crate::values::{argument_text, flag_value, is_auto, number_given_or};
 use clap::ArgMatches;
 use lfs_model::{NameOrder, Profile};
 use std::alloc::Global;
@@ -168,10 +168,7 @@ fn makes_part(line: &Line<'_>) -> bool
 }
 
 // Returns the line of the matches, or the first limit that breaks its rule.
-fn line_of_matches<'a>(
-    matches: &ArgMatches<'a>,
-    choices: Choices<'a>,
-) -> Result<Line<'a>, Limit>
+fn line_of_matches<'a>(matches: &ArgMatches<'a>, choices: Choices<'a>) -> Result<Line<'a>, Limit>
     requires image { HasImage (found_of matches.now) }
     requires choices { AreChoicesOf (rows_of (found_of matches.now)) choices }
     ensures ok { IfOk result (IsCommandLineOf (rows_of (found_of matches.now))) }

@@ -59,10 +59,7 @@ fn later_version_arg<'a>(alloc: Global) -> Arg<'a>
         .help("Read images of version 2.1, too")
 }
 
-fn with_later_version<'a>(
-    alloc: Global,
-    command: Command<'a>,
-) -> Result<Command<'a>, AllocError>
+fn with_later_version<'a>(alloc: Global, command: Command<'a>) -> Result<Command<'a>, AllocError>
     ensures { IfOk result (λ c. app_of c ≡ with_rule (app_of command.entry) version_rule) }
 {
     command.arg(later_version_arg(alloc))

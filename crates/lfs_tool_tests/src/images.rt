@@ -2,8 +2,8 @@
 
 use crate::texts::{list_text, unpack_text};
 use lfs_fixtures::{
-    BlockFilling, FixtureEntries, commits_beginning,
-    block_with_entries, image_with_pair, image_with_commit,
+    BlockFilling, FixtureEntries, block_with_entries, commits_beginning, image_with_commit,
+    image_with_pair,
 };
 use lfs_tool::{ImageLayout, WatchedStream};
 use std::alloc::{AllocError, Global};

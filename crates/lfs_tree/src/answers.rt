@@ -6,10 +6,7 @@ use lfs_device::{BlockDevice, Error};
 use lfs_thread::Thread;
 
 // The thread has failed where a call returned an error.
-pub(crate) fn mark_failed<D: BlockDevice, X>(
-    thread: &mut Thread<D>,
-    answer: &Result<X, Error>,
-)
+pub(crate) fn mark_failed<D: BlockDevice, X>(thread: &mut Thread<D>, answer: &Result<X, Error>)
     ensures { thread.new ≡ record thread.old { failed = is_err answer.now || thread.old.failed } }
 {
     if answer.is_err() {

@@ -67,9 +67,7 @@ pub fn truncate_file<D: BlockDevice>(
     ensures leaves { KeepsPairs thread.old.kept thread.new.kept }
     ensures reports { ReportsFaultOrNoMemory thread.old.kept thread.new.kept result }
 {
-    thread.run_on_device(|device, map| truncate_contents(
-        alloc, device, map, contents, limit, size,
-    ))
+    thread.run_on_device(|device, map| truncate_contents(alloc, device, map, contents, limit, size))
 }
 
 /// Ends the list in hand of an open writer, where there is one. The contents stay, and so do the

@@ -41,10 +41,7 @@ fn superblock_changes<'a>(structure: &'a [u8; 24]) -> [Change<'a>; 2]
 }
 
 // Writes the superblock, and nothing else, into a pair of the blocks 0 and 1.
-fn write_root_pair<D: BlockDevice>(
-    alloc: Global,
-    device: &mut D,
-) -> Result<Pair, Error>
+fn write_root_pair<D: BlockDevice>(alloc: Global, device: &mut D) -> Result<Pair, Error>
     ensures root { IfOk result (λ pair. IsRootHeader (disk_of_device D.BlockDevice device.new) (D.history device.new) pair) }
     ensures erases { OnOk result (erase_count (D.history device.new) ≡ erase_count (D.history device.old) + 2) }
     ensures error { IfErr result (λ e. LeavesDeviceUntouchedAtNoMemory device.old device.new e) }

@@ -44,10 +44,7 @@ fn list_named_by(slot: &Slot<'_>) -> Option<StoredList>
 }
 
 // Adds the lists that slots name.
-fn push_slot_lists(
-    lists: &mut Vec<StoredList>,
-    slots: &[Slot<'_>],
-) -> Result<(), AllocError>
+fn push_slot_lists(lists: &mut Vec<StoredList>, slots: &[Slot<'_>]) -> Result<(), AllocError>
     requires { AreWellFormed (map slot_view slots.now) }
     ensures { OnOk result (lists.new.items ≡ lists.old.items ++ raw_slots_lists (map slot_view slots.now)) }
 {
@@ -60,11 +57,7 @@ fn push_slot_lists(
 }
 
 // Adds the lists that the slots of a log name.
-fn push_log_lists(
-    alloc: Global,
-    lists: &mut Vec<StoredList>,
-    log: &Log<'_>,
-) -> Result<(), Error>
+fn push_log_lists(alloc: Global, lists: &mut Vec<StoredList>, log: &Log<'_>) -> Result<(), Error>
     requires { HasCompleteLog log.now }
     ensures lists { (content : ModelContent) → IsContentLog log.now content → OnOk result (lists.new.items ≡ lists.old.items ++ lists_of_slots content.slots) }
     ensures errors { IfErr result (λ e. e ≡ Error.NoMemory) }

@@ -16,9 +16,7 @@ ghost use Rattle.lfs_file.specs.Form as form;
 
 use lfs_device::{BlockDevice, Error, Geometry};
 use lfs_file::{StoredList, WriterContents, contents_in_memory};
-use lfs_lookup::{
-    Path, SlotPosition, look_up_path, read_inline_at, spot_of_file,
-};
+use lfs_lookup::{Path, SlotPosition, look_up_path, read_inline_at, spot_of_file};
 use lfs_thread::Thread;
 use std::alloc::Global;
 

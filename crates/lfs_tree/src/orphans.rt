@@ -11,9 +11,7 @@ ghost use Rattle.lfs_tree.specs.Orphans.{DirectoriesBegin, MarkReached, MarksPen
 ghost use Rattle.lfs_lookup.specs.TreeWalk.{HasFirstIfDirectory};
 
 use lfs_device::{BlockDevice, Error};
-use lfs_lookup::{
-    NameAndOwnedStruct, OwnedStruct, directory_items, follows_hard_tail,
-};
+use lfs_lookup::{NameAndOwnedStruct, OwnedStruct, directory_items, follows_hard_tail};
 use lfs_thread::{Thread, number_at_address};
 use std::alloc::{AllocError, Global};
 
@@ -151,9 +149,7 @@ fn numbers_not_reached<D: BlockDevice>(
     let mut numbers = Vec::new(alloc);
     let mut is_reached = true;
     for index in root..thread.len() {
-        is_reached = continues_reached(
-            thread, root, marks, index, is_reached,
-        );
+        is_reached = continues_reached(thread, root, marks, index, is_reached);
         push_if_unreached(&mut numbers, index, is_reached)?;
     }
     Ok(numbers)

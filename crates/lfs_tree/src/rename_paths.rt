@@ -19,9 +19,8 @@ use crate::entries_at::find_at_path;
 use crate::tree::Tree;
 use lfs_device::{BlockDevice, Error};
 use lfs_lookup::{
-    FoundNode, NodeAndEmptiness, Path, PathLookup, VisiblePathLookup, path_has_entries,
-    find_node, attributes_size_at, first_pair_found,
-    found_node, has_entries,
+    FoundNode, NodeAndEmptiness, Path, PathLookup, VisiblePathLookup, attributes_size_at,
+    find_node, first_pair_found, found_node, has_entries, path_has_entries,
 };
 use lfs_thread::Thread;
 use std::alloc::Global;
@@ -150,9 +149,7 @@ fn rename_findings<D: BlockDevice>(
     // By the sizes of its blocks a list has as many bytes as its entry says.
     let _device = thread.device();
     Ok(RenameFindings {
-        entry: found_node(found_alone(
-            targets.entry,
-        )),
+        entry: found_node(found_alone(targets.entry)),
         target,
         attributes_size,
         targets: Some(targets),

@@ -25,8 +25,8 @@ use crate::tree::Tree;
 use lfs_device::{BlockDevice, Error};
 use lfs_lookup::{FileStorage, Path, PathLookup, SlotPosition};
 use lfs_operations::{
-    rename, rename_across_pairs, rename_onto_directory, onto_directory_across,
-    rename_onto_file, onto_file_across,
+    onto_directory_across, onto_file_across, rename, rename_across_pairs, rename_onto_directory,
+    rename_onto_file,
 };
 use lfs_thread::Thread;
 use std::alloc::Global;
@@ -201,13 +201,7 @@ pub(crate) fn rename_at<D: BlockDevice>(
     let names = to.names(alloc)?;
     let targets = given_or_found(alloc, thread, root, from, to, known)?;
     let source = found_rename_source(targets.entry);
-    move_onto_found(
-        alloc,
-        thread,
-        source,
-        targets.target,
-        last_name_of(&names),
-    )
+    move_onto_found(alloc, thread, source, targets.target, last_name_of(&names))
 }
 
 impl<D: BlockDevice> Tree<D> {

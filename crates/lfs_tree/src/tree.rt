@@ -36,15 +36,14 @@ use crate::attributes_at::{remove_attr_at, set_attr_at};
 use crate::entries_at::{create_empty_file, make_directory_at};
 use crate::formats::format;
 use crate::lost_recovery::end_and_drop;
-use crate::mounted_tree::{root_and_profile, mount_thread};
+use crate::mounted_tree::{mount_thread, root_and_profile};
 use crate::remounts::{SpareThreadParts, mount_again};
 use crate::removals_at::remove_at;
 use core::mem::replace_with;
 use lfs_device::{BlockDevice, Error, Geometry};
 use lfs_lookup::{
-    FoundAttribute, FoundNode, Listing, NodeAndEmptiness, Path, PathLookup, find_attribute,
-    path_has_entries, find_node, attributes_size_at,
-    list_directory,
+    FoundAttribute, FoundNode, Listing, NodeAndEmptiness, Path, PathLookup, attributes_size_at,
+    find_attribute, find_node, list_directory, path_has_entries,
 };
 use lfs_model::NameOrder;
 use lfs_tag::{MoveState, Superblock};

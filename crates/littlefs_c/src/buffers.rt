@@ -41,9 +41,7 @@ pub(crate) fn fill_with_bytes(answer: Result<Vec<u8>, Error>, buffer: &mut [u8])
     ensures buffer { buffer.new ≡ filled_buffer answer buffer.old }
 {
     match answer {
-        Ok(bytes) => room_code(Ok(copy_if_fitting(
-            &bytes, buffer,
-        ))),
+        Ok(bytes) => room_code(Ok(copy_if_fitting(&bytes, buffer))),
         Err(error) => room_code(Err(error)),
     }
 }

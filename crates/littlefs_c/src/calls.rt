@@ -13,9 +13,7 @@ use crate::buffers::copy_if_fitting;
 use crate::image::{device, mount_copy};
 use crate::lines::lines_of_items;
 use crate::operation_runs::apply_operations;
-use crate::reads::{
-    attribute_in, image_items, read_image_part,
-};
+use crate::reads::{attribute_in, image_items, read_image_part};
 use bitflags::Flags;
 use lfs_device::Error;
 use lfs_fs::{Op, OpenFlags, format_ordered};

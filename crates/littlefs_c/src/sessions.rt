@@ -4,7 +4,7 @@ ghost use Rattle.std.specs.Prelude.{◌^◌, ◌<◌};
 ghost use Rattle.lfs_model.specs.session.Operations as ops;
 ghost use Rattle.littlefs_c.specs.Sessions.{FromSession, CallsSession, CopiesImage, CopiesPart, IsCountCall, IsDiskImage, IsUnitCall};
 
-use crate::buffers::{copy_part, copy_if_fitting};
+use crate::buffers::{copy_if_fitting, copy_part};
 use crate::codes::{count_code, unit_code};
 use crate::handle::{CLOSED, Handle, put_session, take_session};
 use crate::noted::HeldDevice;

@@ -8,7 +8,7 @@ use crate::run::{folder_of_line, geometry_of_line};
 use lfs_device::Error;
 use lfs_tool::{
     CheckResult, Fault, Line, Mode, RefusalReason, ToolError, ToolOutput, WrongNumber,
-    result_of_image, check_result_lines, push_escaped_path, report, write_and_flush,
+    check_result_lines, push_escaped_path, report, result_of_image, write_and_flush,
 };
 use lfs_tool_folders::{Folder, SourceEntry};
 use lfs_tool_line::Sizes;

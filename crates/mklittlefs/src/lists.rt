@@ -7,7 +7,7 @@ use lfs_device::{BlockDevice, Error};
 use lfs_file::blocks_for;
 use lfs_tag::{Content, Log, Struct, is_later_than};
 use lfs_tool::{
-    ImageLayout, Line, SparseDevice, ToolError, WatchedStream, list, lines_of_device,
+    ImageLayout, Line, SparseDevice, ToolError, WatchedStream, lines_of_device, list,
     sparse_device_of,
 };
 use std::alloc::{AllocError, Global};

@@ -12,8 +12,8 @@ use crate::times::set_times;
 use lfs_device::{Error, Geometry};
 use lfs_tool::{
     Extras, Fault, ImageInput, ImageLayout, Line, LineError, Mode, Request, ToolError, ToolOutput,
-    WatchedStream, check, create, geometry_of_sizes, ram_device_of, read_image,
-    read_request, report, unpack, write_and_flush,
+    WatchedStream, check, create, geometry_of_sizes, ram_device_of, read_image, read_request,
+    report, unpack, write_and_flush,
 };
 use lfs_tool_folders::{Folder, FolderRules, Links, Target, TargetError, TargetFolder};
 use std::io;

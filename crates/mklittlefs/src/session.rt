@@ -5,8 +5,7 @@ use crate::parts::{ImagePart, open_part};
 use lfs_device::{Error, RamDevice};
 use lfs_fs::{OpenFlags, Session, mount};
 use lfs_tool::{
-    Line, Mode, ToolError, ToolOutput, WatchedStream, ram_device_of, read_image,
-    write_and_flush,
+    Line, Mode, ToolError, ToolOutput, WatchedStream, ram_device_of, read_image, write_and_flush,
 };
 
 /// Mounts an image in memory.

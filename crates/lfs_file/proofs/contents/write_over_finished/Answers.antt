@@ -34,8 +34,8 @@ returns-then-size-limit-clause-written g c =
     record {
       stands = record {
         idle = record {
-         count = c.requires.stands.count ∙ sym (ap length c.load_first_bytes.ensures.reading.device.same);
-         none = λ b is. (let large = c.requires.fits.large (c.requires.stands.flying b is).0 in absurd (omega arith));
+          count = c.requires.stands.count ∙ sym (ap length c.load_first_bytes.ensures.reading.device.same);
+          none = λ b is. (let large = c.requires.fits.large (c.requires.stands.flying b is).0 in absurd (omega arith));
         };
         resting = record { geometry = c.in_ok-list.ensures.resting.geometry ∙ sym ((c.write_buffered_at.ensures.holds d).geometry); held = c.write_buffered_at.ensures.held };
       };

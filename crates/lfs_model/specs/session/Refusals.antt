@@ -14,7 +14,7 @@ abbrev pub is_root_path : Path → Bool
 is_root_path [] = true
 is_root_path (name ∷ p) = false
 
--- a path that names an entry, not the root
+-- no entry has the path: it is none, or the root
 abbrev pub is_unusable : Option Path → Bool
 is_unusable None = true
 is_unusable (Some p) = is_root_path p

@@ -591,8 +591,8 @@ Progress:
   At a terminal -c and -u show how much is done, once a second has gone by.
 ";
 
-// Words that are no line: the status, what goes to `out`, and what to `err`, if that isn't the parser's
-// own text.
+// Words that are no line, which end with status 2, and what goes to `err`, if that isn't the parser's own
+// text.
 const PART: &str = "error: -b auto and --offset are for -l, -u, --check and --cat\n";
 
 const SIZE: &str = "error: --size auto is for -c\n";
@@ -603,173 +603,107 @@ const TIMES: &str = "error: --times is for -c and -u\n";
 
 const STREAMS: &str = "error: --put takes - as FILE or as IMAGE, not as both\n";
 
-const REFUSED: [(&[&str], u8, &str, Option<&str>); 47] = [
+const REFUSED: [(&[&str], Option<&str>); 43] = [
     // options that are for other modes
-    (&["mklittlefs", "-l", "-sauto", "i"], 2, "", Some(SIZE)),
-    (&["mklittlefs", "-cd", "--spare=1", "i"], 2, "", Some(SPARE)),
-    (&["mklittlefs", "-l", "--spare=1", "i"], 2, "", Some(SPARE)),
-    (
-        &["mklittlefs", "-cd", "-sauto", "--spare=x", "i"],
-        2,
-        "",
-        None,
-    ),
-    (
-        &["mklittlefs", "--cat", "/a", "--times", "i"],
-        2,
-        "",
-        Some(TIMES),
-    ),
-    (
-        &["mklittlefs", "--check", "--times", "i"],
-        2,
-        "",
-        Some(TIMES),
-    ),
-    (
-        &["mklittlefs", "--put", "-", "/a", "-"],
-        2,
-        "",
-        Some(STREAMS),
-    ),
+    (&["mklittlefs", "-l", "-sauto", "i"], Some(SIZE)),
+    (&["mklittlefs", "-cd", "--spare=1", "i"], Some(SPARE)),
+    (&["mklittlefs", "-l", "--spare=1", "i"], Some(SPARE)),
+    (&["mklittlefs", "-cd", "-sauto", "--spare=x", "i"], None),
+    (&["mklittlefs", "--cat", "/a", "--times", "i"], Some(TIMES)),
+    (&["mklittlefs", "--check", "--times", "i"], Some(TIMES)),
+    (&["mklittlefs", "--put", "-", "/a", "-"], Some(STREAMS)),
     // a part of a file that is to be made
-    (&["mklittlefs", "-cd", "-b", "auto", "i"], 2, "", Some(PART)),
-    (&["mklittlefs", "-cd", "--offset=1", "i"], 2, "", Some(PART)),
-    (&["mklittlefs", "-l", "-pauto", "i"], 2, "", None),
+    (&["mklittlefs", "-cd", "-b", "auto", "i"], Some(PART)),
+    (&["mklittlefs", "-cd", "--offset=1", "i"], Some(PART)),
+    (&["mklittlefs", "-l", "-pauto", "i"], None),
     // not exactly one mode
-    (&["mklittlefs", "i"], 2, "", Some(MODES)),
-    (&["mklittlefs", "-p", "256", "i", "-b0"], 2, "", Some(MODES)),
-    (&["mklittlefs", "-l", "-c", "d", "i"], 2, "", Some(MODES)),
-    (&["mklittlefs", "-l", "-u", "d", "i"], 2, "", Some(MODES)),
-    (&["mklittlefs", "-l", "--check", "i"], 2, "", Some(MODES)),
-    (&["mklittlefs", "--check", "-cd", "i"], 2, "", Some(MODES)),
+    (&["mklittlefs", "i"], Some(MODES)),
+    (&["mklittlefs", "-p", "256", "i", "-b0"], Some(MODES)),
+    (&["mklittlefs", "-l", "-c", "d", "i"], Some(MODES)),
+    (&["mklittlefs", "-l", "-u", "d", "i"], Some(MODES)),
+    (&["mklittlefs", "-l", "--check", "i"], Some(MODES)),
+    (&["mklittlefs", "--check", "-cd", "i"], Some(MODES)),
     // an order that is none
-    (
-        &["mklittlefs", "-l", "--order", "first", "i"],
-        2,
-        "",
-        Some(ORDER),
-    ),
-    (
-        &["mklittlefs", "-c", "d", "--order", "", "i"],
-        2,
-        "",
-        Some(ORDER),
-    ),
+    (&["mklittlefs", "-l", "--order", "first", "i"], Some(ORDER)),
+    (&["mklittlefs", "-c", "d", "--order", "", "i"], Some(ORDER)),
     // a board that is none, and limits that break their rules: the first of them is named
-    (
-        &["mklittlefs", "-l", "--board", "ESP32", "i"],
-        2,
-        "",
-        Some(BOARD),
-    ),
+    (&["mklittlefs", "-l", "--board", "ESP32", "i"], Some(BOARD)),
     (
         &["mklittlefs", "-l", "--board=", "--name-max=0", "i"],
-        2,
-        "",
         Some(BOARD),
     ),
     (
         &["mklittlefs", "-l", "--order=x", "--board=x", "i"],
-        2,
-        "",
         Some(ORDER),
     ),
     (
         &["mklittlefs", "-cd", "--name-max", "0", "i"],
-        2,
-        "",
         Some(NAME_MAX),
     ),
     (
         &["mklittlefs", "-cd", "--name-max=256", "--file-max=0", "i"],
-        2,
-        "",
         Some(NAME_MAX),
     ),
     (
         &["mklittlefs", "-cd", "--file-max", "0", "i"],
-        2,
-        "",
         Some(FILE_MAX),
     ),
     (
         &["mklittlefs", "-cd", "--file-max", "2147483648", "i"],
-        2,
-        "",
         Some(FILE_MAX),
     ),
     (
         &["mklittlefs", "-cd", "--attr-max", "0", "i"],
-        2,
-        "",
         Some(ATTR_MAX),
     ),
     (
         &["mklittlefs", "--check", "--attr-max", "1023", "i"],
-        2,
-        "",
         Some(ATTR_MAX),
     ),
     (
         &["mklittlefs", "-cd", "--inline-max", "0", "i"],
-        2,
-        "",
         Some(INLINE_MAX),
     ),
     (
         &["mklittlefs", "-cd", "--inline-max", "513", "i"],
-        2,
-        "",
         Some(INLINE_MAX),
     ),
     (
         &["mklittlefs", "-cd", "-b65536", "--inline-max", "1023", "i"],
-        2,
-        "",
         Some(INLINE_MAX),
     ),
     // what the parser refuses
     (
         &["mklittlefs", "-cd", "--name-max", "4294967296", "i"],
-        2,
-        "",
         None,
     ),
-    (&["mklittlefs", "-cd", "--board"], 2, "", None),
-    (&["mklittlefs", "-l"], 2, "", None),
-    (&["mklittlefs", "-l", "i", "j"], 2, "", None),
-    (&["mklittlefs", "-l", "i", "-c"], 2, "", None),
-    (&["mklittlefs", "-l", "-b", "4294967296", "i"], 2, "", None),
-    (&["mklittlefs", "-x"], 2, "", None),
+    (&["mklittlefs", "-cd", "--board"], None),
+    (&["mklittlefs", "-l"], None),
+    (&["mklittlefs", "-l", "i", "j"], None),
+    (&["mklittlefs", "-l", "i", "-c"], None),
+    (&["mklittlefs", "-l", "-b", "4294967296", "i"], None),
+    (&["mklittlefs", "-x"], None),
     // numbers that are none, or too large
-    (
-        &["mklittlefs", "-l", "-p", "0x", "i"],
-        2,
-        "",
-        Some(BAD_PAGE),
-    ),
+    (&["mklittlefs", "-l", "-p", "0x", "i"], Some(BAD_PAGE)),
     (
         &["mklittlefs", "-cd", "-p=1.3k", "-s4k4", "i"],
-        2,
-        "",
         Some(BAD_PAGE_IN_UNITS),
     ),
     (
         &["mklittlefs", "--name-max", "0x100000000", "i"],
-        2,
-        "",
         Some(BAD_NAME_MAX),
     ),
-    (&["mklittlefs", "-l", "-s", "4096M", "i"], 2, "", None),
-    (&["mklittlefs", "-l", "-b", "", "i"], 2, "", None),
-    (&["mklittlefs", "-l", "-b", "1.5", "i"], 2, "", None),
-    // a request for help
-    (&["mklittlefs", "--help"], 0, HELP, Some("")),
-    (&["mklittlefs", "-l", "-h"], 0, HELP, Some("")),
-    // and for the version
-    (&["mklittlefs", "--version"], 0, VERSION, Some("")),
-    (&["mklittlefs", "-V"], 0, VERSION, Some("")),
+    (&["mklittlefs", "-l", "-s", "4096M", "i"], None),
+    (&["mklittlefs", "-l", "-b", "", "i"], None),
+    (&["mklittlefs", "-l", "-b", "1.5", "i"], None),
+];
+
+// What shows a text and ends with status 0: requests for help and for the version.
+const SHOWN: [(&[&str], &str); 4] = [
+    (&["mklittlefs", "--help"], HELP),
+    (&["mklittlefs", "-l", "-h"], HELP),
+    (&["mklittlefs", "--version"], VERSION),
+    (&["mklittlefs", "-V"], VERSION),
 ];
 
 // Whether a fault is shown so, which is its own text too.
@@ -795,10 +729,22 @@ fn is_fault_reported_as(
 
 #[test]
 fn faults_of_lines_are_shown(rt: HostRuntime) -> Result<(), Fail> {
-    for (words, status, out, err) in REFUSED {
+    for (words, err) in REFUSED {
         let is_reported = match read_line(rt.alloc(), words) {
             Ok(_) => false,
-            Err(error) => is_fault_reported_as(rt.alloc(), &Fault::Line(error), status, out, err)?,
+            Err(error) => is_fault_reported_as(rt.alloc(), &Fault::Line(error), 2, "", err)?,
+        };
+        assert!(rt; is_reported, "{words:?}");
+    }
+    Ok(())
+}
+
+#[test]
+fn help_and_version_are_shown(rt: HostRuntime) -> Result<(), Fail> {
+    for (words, out) in SHOWN {
+        let is_reported = match read_line(rt.alloc(), words) {
+            Ok(_) => false,
+            Err(error) => is_fault_reported_as(rt.alloc(), &Fault::Line(error), 0, out, Some(""))?,
         };
         assert!(rt; is_reported, "{words:?}");
     }

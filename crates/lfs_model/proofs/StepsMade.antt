@@ -21,6 +21,7 @@ use Rattle.lfs_model.specs.session.Run.{IsReply, is_refusal, is_read_only, opens
 use Rattle.lfs_model.proofs.Uniqueness.{one_thread}
 use Rattle.lfs_model.proofs.OtherOrder.{same_pairs, writable_in_order}
 use Rattle.lfs_model.proofs.Arranged.{IsFinished}
+use Rattle.lfs_model.proofs.Unmoved.{nothing_moves}
 
 same_session : (s t : Session) → Healthy s ≡ Healthy t → s ≡ t
 same_session s t e = ap or_else e
@@ -125,7 +126,7 @@ completed_step disk ps s around op new qs calls old over accepted proper done = 
       fills = λ e. absurd (let k = sym proper.fills ∙ e in cc);
       recovered = λ e. done.recovered;
       stays = λ h. done.recovered;
-      arranged = λ e. done.arranged;
+      arranged = λ e. nothing_moves disk ps s op calls new qs proper.geometry done.accepted done.arranged;
       profile = λ h. done.writable;
       silent = proper.silent;
       itself = proper.itself;

@@ -10,6 +10,7 @@ pub mod State
 pub mod Recovery
 pub mod SlotEdits
 pub mod Layout
+pub mod Moved
 pub mod InDirectory
 pub mod Run
 pub mod Headline

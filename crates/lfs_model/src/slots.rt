@@ -2,21 +2,26 @@
 
 ghost use Rattle.std.specs.Prelude.{◌≡◌, true, false, List, [], ◌∷◌, ◌++◌, filter, replicate, Some, None, codes};
 ghost use Rattle.lfs_model.specs.format.Disk.{default_profile};
-ghost use Rattle.lfs_model.specs.format.Disk.{Disk};
+ghost use Rattle.lfs_model.specs.format.Disk.{Disk, SameGeometry, block_count};
 ghost use Rattle.lfs_model.specs.format.Slots.{Inline, Ctz};
 ghost use Rattle.lfs_model.specs.format.Thread.{Pair};
 ghost use Rattle.lfs_model.specs.session.Operations as ops;
+ghost use Rattle.lfs_model.specs.session.Operations.{Operation};
+ghost use Rattle.lfs_model.specs.session.History.{CallEvent};
+ghost use Rattle.lfs_model.specs.session.Session.{Session};
+ghost use Rattle.lfs_model.specs.tree.View.{IsAccepted};
 ghost use Rattle.lfs_model.specs.session.State.{mounted_session};
-ghost use Rattle.lfs_model.specs.tree.Fresh.{empty_tree};
+ghost use Rattle.lfs_model.specs.tree.Fresh.{empty_tree, superblock_slot};
 ghost use Rattle.lfs_model.specs.session.Recovery.{recovers_first};
 ghost use Rattle.lfs_model.specs.session.SlotEdits.{file_slot, directory_slot, StoresBytes, EditsSlots};
-ghost use Rattle.lfs_model.specs.session.Layout.{removed_addresses, IsPairAfter};
+ghost use Rattle.lfs_model.specs.session.Layout.{removed_addresses, IsPairAfter, IsLayoutRecovered};
+ghost use Rattle.lfs_model.specs.session.Moved.{IsPairMoved, IsPairUnloaded, IsRootUnloaded, IsMoved, IsLayoutMoved};
 ghost use Rattle.lfs_model.specs.crash.Frame.{answers_itself};
 ghost use Rattle.lfs_model.specs.layers.Keeping.{takes_away, may_store_at, struct_at, KeepsStructs};
 ghost use Rattle.lfs_model.specs.session.Run.{is_read_only, writes_or_truncates, needs_no_call, renames_itself, edits_slots};
 ghost use Rattle.lfs_model.specs.examples.Sessions.{creating_flags, read_flags};
 ghost use Rattle.lfs_model.specs.examples.Images.{small_disk_beginning, small_image, large_image};
-ghost use Rattle.lfs_model.specs.examples.Runs.{pair_with_tail, root_and_directory, root_and_two, root_with_file, long_attribute_slot, slot_with_list, each_operation, with_reader, with_writer};
+ghost use Rattle.lfs_model.specs.examples.Runs.{pair_with_tail, tail_to_address, root_with_d, image_of_two, root_and_directory, root_and_two, root_with_file, long_attribute_slot, slot_with_list, each_operation, with_reader, with_writer};
 
 /// Which operations recover first, which change where slots are, and which leave the disk alone.
 pub fn operations_are_classified_by_disk_effect()
@@ -86,6 +91,33 @@ pub fn pairs_are_split_and_dropped()
     ensures dropped { IsPairAfter small_image false ⊥ (pair_with_tail (2, 3) [] None) [] }
     ensures not_kept { (q : Pair) → IsPairAfter small_image false ⊥ (pair_with_tail (2, 3) [] None) (q ∷ []) → ⊥ }
     ensures first_stays { IsPairAfter small_image true ⊥ (pair_with_tail (2, 3) [] None) [] → ⊥ }
+{}
+
+/// Where the profile gives no cycles, slots are where an operation alone lays them out. So they are where nothing moved.
+pub fn pairs_stay_without_cycles()
+    ensures laid_out { (disk new : Disk) (ps qs : List Pair) (s : Session) (op : Operation) (calls : List CallEvent) → disk.profile.pair_cycles ≡ 0
+        → IsLayoutMoved disk ps s op calls new qs → IsLayoutRecovered disk ps s op new qs }
+    ensures unmoved { (disk new : Disk) (ps qs : List Pair) (s : Session) (op : Operation) (calls : List CallEvent) → SameGeometry disk new → IsAccepted new qs
+        → IsLayoutRecovered disk ps s op new qs → IsLayoutMoved disk ps s op calls new qs }
+{}
+
+/// A worn pair moves whole, or all its slots go to a pair behind it. A pair that isn't worn stays.
+pub fn worn_pair_moves()
+    ensures moved { IsPairMoved (image_of_two 1) root_and_two
+        (root_with_d ∷ pair_with_tail (4, 5) (file_slot (codes "a") ∷ []) (tail_to_address true (8, 9)) ∷ pair_with_tail (8, 9) (file_slot (codes "z") ∷ []) None ∷ []) }
+    ensures unloaded { (new : Disk) → block_count new ≡ 16 → IsPairUnloaded (image_of_two 1) root_and_two new
+        (root_with_d ∷ pair_with_tail (4, 5) [] (tail_to_address true (8, 9)) ∷ pair_with_tail (8, 9) (file_slot (codes "a") ∷ []) (tail_to_address true (6, 7)) ∷ pair_with_tail (6, 7) (file_slot (codes "z") ∷ []) None ∷ []) }
+
+    // A superblock stays in the first pair, and another one goes with the entries.
+    ensures root { (new : Disk) → block_count new ≡ 16 → IsRootUnloaded (image_of_two 1) root_and_two new
+        (pair_with_tail (0, 1) (superblock_slot default_profile 4096 16 ∷ []) (tail_to_address true (8, 9)) ∷ record root_with_d { at = (8, 9) }
+        ∷ pair_with_tail (4, 5) (file_slot (codes "a") ∷ []) (tail_to_address true (6, 7)) ∷ pair_with_tail (6, 7) (file_slot (codes "z") ∷ []) None ∷ []) }
+
+    // Eight of nine blocks would be used.
+    ensures no_room { (new : Disk) → block_count new ≡ 9 → IsPairUnloaded (image_of_two 1) root_and_two new
+        (root_with_d ∷ pair_with_tail (4, 5) [] (tail_to_address true (8, 9)) ∷ pair_with_tail (8, 9) (file_slot (codes "a") ∷ []) (tail_to_address true (6, 7)) ∷ pair_with_tail (6, 7) (file_slot (codes "z") ∷ []) None ∷ []) → ⊥ }
+    ensures not_worn { (new : Disk) (qs : List Pair) → IsMoved (image_of_two 2) root_and_two new qs → ⊥ }
+    ensures no_cycles { (new : Disk) (qs : List Pair) → IsMoved (image_of_two 0) root_and_two new qs → ⊥ }
 {}
 
 /// A directory is dropped where it is removed, or where a rename replaces it.

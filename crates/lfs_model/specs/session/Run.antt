@@ -17,7 +17,7 @@ use Rattle.lfs_model.specs.session.Session.{Session, DiskSummary, OpenFile, Read
 use Rattle.lfs_model.specs.session.Refusals.{path_or_root}
 use Rattle.lfs_model.specs.session.State.{IsSummary, SessionHealth, HasFailed, Healthy, is_remount, result_and_health}
 use Rattle.lfs_model.specs.session.Recovery.{IsRecovered, recovers_first}
-use Rattle.lfs_model.specs.session.Layout.{IsLayoutRecovered}
+use Rattle.lfs_model.specs.session.Moved.{IsLayoutMoved}
 
 -- a session over a device between two operations, with the calls that the device has had, the newest first
 pub record SystemState : Type 0 where
@@ -145,7 +145,7 @@ pub record IsEffect (disk : Disk) (ps : List Pair) (s : Session) (op : Operation
   pub recovered : recovers_first op ≡ true → IsRecovered qs
   pub stays : IsRecovered ps → IsRecovered qs
   -- where slots are
-  pub arranged : edits_slots s op ≡ true → IsLayoutRecovered disk ps s op new qs
+  pub arranged : edits_slots s op ≡ true → IsLayoutMoved disk ps s op calls new qs
   pub profile : IsWritable disk ps → IsWritable new qs
 
 -- One operation, from the system state before it to the one after it.

@@ -1,0 +1,50 @@
+-- Where no pair moves: after most operations, and always where the profile gives no cycles.
+use Rattle.std.proofs.Common.{ℕ, ◌≡◌, inl, inr, true, false, List, [], ◌∷◌, ◌++◌, append_assoc, Option, Some, None, refl, sym, ap, subst, ◌∙◌}
+use Rattle.lfs_model.specs.format.Disk.{Disk, SameGeometry}
+use Rattle.lfs_model.specs.declared.limits.Profile.{Profile}
+use Rattle.lfs_model.specs.format.Content.{current_block}
+use Rattle.lfs_model.specs.format.Thread.{Pair}
+use Rattle.lfs_model.specs.tree.View.{IsAccepted}
+use Rattle.lfs_model.specs.session.History.{CallEvent}
+use Rattle.lfs_model.specs.session.Operations.{Operation}
+use Rattle.lfs_model.specs.session.Session.{Session}
+use Rattle.lfs_model.specs.session.Layout.{IsLayoutRecovered}
+use Rattle.lfs_model.proofs.Counts.{Each}
+use Rattle.lfs_model.specs.session.Moved.{is_worn_block, is_worn, IsMoved, IsWearSpread, IsLayoutMoved}
+
+pub nothing_moves : (disk : Disk) (ps : List Pair) (s : Session) (op : Operation) (calls : List CallEvent) (new : Disk) (qs : List Pair) → SameGeometry disk new → IsAccepted new qs →
+    IsLayoutRecovered disk ps s op new qs → IsLayoutMoved disk ps s op calls new qs
+nothing_moves disk ps s op calls new qs geometry ok laid = record { done = new; after = qs; had = inr (inl refl); geometry = geometry; accepted = ok; operation = laid; spread = inl (refl, refl) }
+
+never_worn : (cycles : ℕ) (block : Option (List ℕ)) → cycles ≡ 0 → is_worn_block cycles block ≡ true → ⊥
+never_worn cycles None e h = absurd (cc)
+never_worn cycles (Some block) e h = absurd (let k = sym (ap (λ n. is_worn_block n (Some block)) e) ∙ h in cc)
+
+pub none_is_worn : (disk : Disk) (p : Pair) → disk.profile.pair_cycles ≡ 0 → is_worn disk p ≡ true → ⊥
+none_is_worn disk p e h = never_worn disk.profile.pair_cycles (current_block disk p.at) e h
+
+pub none_moves : (disk : Disk) (ps : List Pair) (new : Disk) (qs : List Pair) → disk.profile.pair_cycles ≡ 0 → IsMoved disk ps new qs → ⊥
+none_moves disk ps new qs e (inl m) = none_is_worn disk m.worn e m.due
+none_moves disk ps new qs e (inr (inl m)) = none_is_worn disk m.worn e m.due
+none_moves disk ps new qs e (inr (inr m)) = none_is_worn disk m.worn e m.due
+
+-- a pair that moves is among the pairs
+worn_among : (disk : Disk) (front : List Pair) (worn : Pair) (back : List Pair) → Each (λ p. is_worn disk p ≡ false) (front ++ worn ∷ back) → is_worn disk worn ≡ true → ⊥
+worn_among disk [] worn back h due = let k = sym h.0 ∙ due in absurd (cc)
+worn_among disk (p ∷ front) worn back h due = worn_among disk front worn back h.1 due
+
+pub only_worn_moves : (disk : Disk) (ps : List Pair) (new : Disk) (qs : List Pair) → Each (λ p. is_worn disk p ≡ false) ps → IsMoved disk ps new qs → ⊥
+only_worn_moves disk ps new qs h (inl m) = worn_among disk (m.front ++ m.before ∷ []) m.worn m.back (subst (Each (λ p. is_worn disk p ≡ false)) (m.was ∙ sym (append_assoc m.front (m.before ∷ []) (m.worn ∷ m.back))) h) m.due
+only_worn_moves disk ps new qs h (inr (inl m)) = worn_among disk (m.front ++ m.before ∷ []) m.worn m.back (subst (Each (λ p. is_worn disk p ≡ false)) (m.was ∙ sym (append_assoc m.front (m.before ∷ []) (m.worn ∷ m.back))) h) m.due
+only_worn_moves disk ps new qs h (inr (inr m)) = worn_among disk [] m.worn m.back (subst (Each (λ p. is_worn disk p ≡ false)) m.was h) m.due
+
+pub stays_without_cycles : (disk : Disk) (ps : List Pair) (new : Disk) (qs : List Pair) → disk.profile.pair_cycles ≡ 0 → IsWearSpread disk ps new qs → (new ≡ disk) × (qs ≡ ps)
+stays_without_cycles disk ps new qs e (inl same) = same
+stays_without_cycles disk ps new qs e (inr m) = absurd (none_moves disk ps new qs e m)
+
+-- without cycles slots are where the operation lays them out
+pub laid_without_cycles : (disk : Disk) (ps : List Pair) (s : Session) (op : Operation) (calls : List CallEvent) (new : Disk) (qs : List Pair) → disk.profile.pair_cycles ≡ 0 →
+    IsLayoutMoved disk ps s op calls new qs → IsLayoutRecovered disk ps s op new qs
+laid_without_cycles disk ps s op calls new qs e h =
+    let same = stays_without_cycles h.done h.after new qs (ap (λ (v : Profile). v.pair_cycles) h.geometry.profile ∙ e) h.spread in
+    subst (λ d. IsLayoutRecovered disk ps s op d qs) (sym same.0) (subst (IsLayoutRecovered disk ps s op h.done) (sym same.1) h.operation)

@@ -1,0 +1,83 @@
+use Rattle.std.proofs.Common.{ℕ, ◌≡◌, ◌≤◌, ◌*◌, true, [], ◌∷◌, Some, None, Contains, refl, sym, subst, arith}
+use Rattle.std.specs.Prelude.{codes}
+use Rattle.std.proofs.lemmas.List.Elements.{All-from_recursion}
+use Rattle.lfs_model.specs.format.Crc.{crc_of, next_bits}
+use Rattle.lfs_model.specs.format.Log.{chain_of, chain_within, commit_within, entry_at, closes}
+use Rattle.lfs_model.specs.format.Thread.{Pair, address_blocks}
+use Rattle.lfs_model.specs.session.SlotEdits.{file_slot}
+use Rattle.lfs_model.specs.tree.Shown.{used_blocks}
+use Rattle.lfs_model.specs.session.Moved.{is_worn_block, is_worn, AreUnused}
+use Rattle.lfs_model.specs.examples.Runs.{pair_with_tail, tail_to_address, root_with_d, image_of_two, root_and_two}
+use Rattle.lfs_model.proofs.BlockSets.{number_count-Contains}
+use Rattle.lfs_model.proofs.Counts.{Each}
+use Rattle.lfs_model.proofs.Unmoved.{none_moves, only_worn_moves}
+use Rattle.lfs_model.proofs.slots.worn_pair_moves.Goals as goal
+
+abbrev directory_pair : Pair
+directory_pair = pair_with_tail (4, 5) (file_slot (codes "a") ∷ []) (tail_to_address true (6, 7))
+
+abbrev last_pair : Pair
+last_pair = pair_with_tail (6, 7) (file_slot (codes "z") ∷ []) None
+
+unused : AreUnused (image_of_two 1) root_and_two (8, 9)
+unused = All-from_recursion (λ b. Contains (used_blocks (image_of_two 1) root_and_two) b → ⊥) (address_blocks (8, 9)) (
+  (λ has. let k : 1 ≤ 0 = number_count-Contains (0 ∷ 1 ∷ 4 ∷ 5 ∷ 6 ∷ 7 ∷ []) 8 has in omega arith),
+  ((λ has. let k : 1 ≤ 0 = number_count-Contains (0 ∷ 1 ∷ 4 ∷ 5 ∷ 6 ∷ 7 ∷ []) 9 has in omega arith), tt),
+)
+
+-- each has the revision 1
+worn : (cycles : ℕ) → Each (λ p. is_worn (image_of_two cycles) p ≡ is_worn_block cycles (Some (1 ∷ 0 ∷ 0 ∷ 0 ∷ []))) root_and_two
+unfolding chain_of chain_within commit_within entry_at closes crc_of next_bits
+worn cycles = (refl, (refl, (refl, tt)))
+
+pub returns-clause-moved : goal.returns-clause-moved
+returns-clause-moved c = record {
+  front = root_with_d ∷ [];
+  before = directory_pair;
+  worn = last_pair;
+  back = [];
+  to = (8, 9);
+  was = refl;
+  joined = refl;
+  is = refl;
+  unused = unused;
+  due = (worn 1).1.1.0;
+}
+
+pub returns-clause-unloaded : goal.returns-clause-unloaded
+returns-clause-unloaded c = λ new e. record {
+  front = [];
+  before = root_with_d;
+  worn = directory_pair;
+  back = last_pair ∷ [];
+  to = (8, 9);
+  was = refl;
+  first = refl;
+  some = refl;
+  is = refl;
+  unused = unused;
+  room = subst (λ n. 8 * 8 ≤ 7 * n) (sym e) (omega arith);
+  due = (worn 1).1.0;
+}
+
+pub returns-clause-root : goal.returns-clause-root
+returns-clause-root c = λ new e. record {
+  worn = root_with_d;
+  back = directory_pair ∷ last_pair ∷ [];
+  to = (8, 9);
+  was = refl;
+  root = refl;
+  is = refl;
+  unused = unused;
+  room = subst (λ n. 8 * 8 ≤ 7 * n) (sym e) (omega arith);
+  due = (worn 1).0;
+}
+
+pub returns-clause-no_room : goal.returns-clause-no_room
+returns-clause-no_room c = λ new e h. let k : 8 * 8 ≤ 7 * 9 = subst (λ n. 8 * 8 ≤ 7 * n) e h.room in omega arith
+
+pub returns-clause-not_worn : goal.returns-clause-not_worn
+returns-clause-not_worn c = λ new qs. only_worn_moves (image_of_two 2) root_and_two new qs (worn 2)
+
+pub returns-clause-no_cycles : goal.returns-clause-no_cycles
+returns-clause-no_cycles c = λ new qs. none_moves (image_of_two 0) root_and_two new qs refl

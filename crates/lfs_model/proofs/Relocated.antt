@@ -1,23 +1,20 @@
 -- A pair that a hard tail names is at two other blocks, for the step that moves a worn pair: nothing else changes.
-use Rattle.std.proofs.Common.{ℕ, ◌≡◌, ◌≢◌, ◌+◌, ◌<◌, ◌≤◌, Bool, true, false, List, [], ◌∷◌, ◌++◌, length, Some, refl, sym, ap, ap₂, subst, ◌∙◌, arith, append_assoc, append-nil, length-append, flat_map}
+use Rattle.std.proofs.Common.{◌≡◌, ◌<◌, ◌≤◌, true, false, List, [], ◌∷◌, ◌++◌, length, Some, refl, sym, ap, ap₂, subst, ◌∙◌, arith, append_assoc, append-nil, length-append}
 use Rattle.std.specs.Prelude.{All}
 use Rattle.std.proofs.lemmas.List.Elements.{recursion_from_All}
 use Rattle.lfs_model.specs.format.Disk.{Disk}
-use Rattle.lfs_model.specs.format.Slots.{Slot, Gstate, PairContent, FitsInPair, gstate_xor}
-use Rattle.lfs_model.specs.format.Thread.{Pair, address_blocks, is_hard_tail, blocks_of_pairs, pairs_gstate, starts_superblock, pair_count_before_root}
-use Rattle.lfs_model.specs.tree.Shown.{all_slots_not_moved, used_blocks}
+use Rattle.lfs_model.specs.format.Slots.{PairContent, FitsInPair, gstate_xor}
+use Rattle.lfs_model.specs.format.Thread.{Pair, address_blocks, is_hard_tail, pairs_gstate, starts_superblock, pair_count_before_root}
 use Rattle.lfs_model.specs.tree.View.{IsAccepted}
 use Rattle.lfs_model.specs.tree.Profile.{IsWritableSlot, HasNoEmpties, IsWritable}
-use Rattle.lfs_model.specs.session.Layout.{FitsPair}
-use Rattle.lfs_model.specs.layers.Steps.{number_count, ends_joined, IsWritableChange}
-use Rattle.lfs_model.proofs.Counts.{Each, each_left, each_right}
+use Rattle.lfs_model.specs.layers.Steps.{ends_joined, IsWritableChange}
+use Rattle.lfs_model.proofs.Counts.{Each, each_right}
 use Rattle.lfs_model.proofs.Global.{HasNoMove, gstate_cons, gstate_kept}
 use Rattle.lfs_model.proofs.Listings.{IsRun}
-use Rattle.lfs_model.proofs.Sites.{Site, dirs_at, thread_at, IsSite}
-use Rattle.lfs_model.proofs.Superblocks.{IsChain}
+use Rattle.lfs_model.proofs.Sites.{Site, thread_at, IsSite}
 use Rattle.lfs_model.proofs.Changes.{chain_now}
-use Rattle.lfs_model.proofs.Splices.{all_slots, IsDevice, AreFree, IsShape, move_shape, splice_change}
-use Rattle.lfs_model.proofs.Moves.{AllReached, IsStep}
+use Rattle.lfs_model.proofs.Splices.{all_slots, IsDevice, AreFree, move_shape, splice_change}
+use Rattle.lfs_model.proofs.Moves.{IsStep}
 use Rattle.lfs_model.proofs.Rests.{slots_stay}
 use Rattle.lfs_model.proofs.Writable.{IsWithin}
 use Rattle.lfs_model.proofs.Profiles.{step_writable}
@@ -54,7 +51,7 @@ run_goes_on [] p (q ∷ right) h e = record { next = q; others = right; is = ref
 run_goes_on (l ∷ []) p right h e = let n = run_goes_on [] p right h.1 e in record { next = n.next; others = n.others; is = n.is }
 run_goes_on (l ∷ m ∷ left) p right h e = let n = run_goes_on (m ∷ left) p right h.1 e in record { next = n.next; others = n.others; is = n.is }
 
-each_within : (disk : Disk) (ps : List Pair) → IsWritable disk ps → Each (IsWithin disk.profile disk.block_size disk.page) ps
+pub each_within : (disk : Disk) (ps : List Pair) → IsWritable disk ps → Each (IsWithin disk.profile disk.block_size disk.page) ps
 each_within disk ps ok = go ps (recursion_from_All (λ (r : Pair). FitsInPair disk.block_size disk.page r.content) ps ok.pairs)
     (recursion_from_All (λ (r : Pair). All (IsWritableSlot disk.profile disk.block_size disk.page) r.content.slots) ps ok.slots)
   where
@@ -64,7 +61,7 @@ each_within disk ps ok = go ps (recursion_from_All (λ (r : Pair). FitsInPair di
     go (r ∷ ps) h k = (record { pair = h.0; slots = k.0 }, go ps h.1 k.1)
 
 -- a pair with the slots of another is within the limits, too
-within_same : (disk : Disk) (p q : Pair) → q.content.slots ≡ p.content.slots → IsWithin disk.profile disk.block_size disk.page p → IsWithin disk.profile disk.block_size disk.page q
+pub within_same : (disk : Disk) (p q : Pair) → q.content.slots ≡ p.content.slots → IsWithin disk.profile disk.block_size disk.page p → IsWithin disk.profile disk.block_size disk.page q
 within_same disk p q e h = record {
   pair = fits_same disk p q e h.pair;
   slots = subst (All (IsWritableSlot disk.profile disk.block_size disk.page)) (sym e) h.slots;

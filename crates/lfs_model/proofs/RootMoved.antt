@@ -1,6 +1,6 @@
 -- The root directory begins at another pair, for the step that moves a worn one: the image shows the same tree.
-use Rattle.std.proofs.Common.{ℕ, ◌≡◌, ◌⊎◌, inl, inr, ◌+◌, ◌<◌, ◌≤◌, Bool, true, false, cond, not, nat_eq, ◌&&◌, List, [], ◌∷◌, ◌++◌, length, Option, Some, None, refl, sym, ap, ap₂, subst, ◌∙◌, arith, flat_map, filter, option_and_then, AllPairs, Less}
-use Rattle.std.specs.Prelude.{All, Any, codes}
+use Rattle.std.proofs.Common.{ℕ, ◌≡◌, inl, inr, ◌+◌, ◌<◌, ◌≤◌, Bool, true, false, cond, not, nat_eq, ◌&&◌, List, [], ◌∷◌, ◌++◌, length, Some, refl, sym, ap, ap₂, subst, ◌∙◌, arith, filter, option_and_then, AllPairs, Less}
+use Rattle.std.specs.Prelude.{All}
 use Rattle.std.specs.Option.{option_map}
 use Rattle.std.specs.List.{IsDistinct}
 use Rattle.std.proofs.lemmas.Bool.{false_from_ne_true, and_parts}
@@ -8,19 +8,18 @@ use Rattle.std.proofs.lemmas.List.Elements.{All-from_recursion, recursion_from_A
 use Rattle.std.proofs.lemmas.List.Concat.{flat_map-append}
 use Rattle.lfs_model.specs.declared.limits.AcceptedVersions.{AcceptedVersions}
 use Rattle.lfs_model.specs.declared.limits.Profile.{Profile}
-use Rattle.lfs_model.specs.declared.order.NameOrder.{NameOrder}
 use Rattle.lfs_model.specs.format.Disk.{Disk, SameGeometry, block_count}
 use Rattle.lfs_model.specs.format.Names.{Name, name_cmp}
 use Rattle.lfs_model.specs.format.EntryTypes.{superblock_fields}
-use Rattle.lfs_model.specs.format.Slots.{Slot, Struct, Inline, Ctz, Branch, Gstate, is_superblock, same_pair}
+use Rattle.lfs_model.specs.format.Slots.{Slot, Inline, Ctz, Branch, Gstate, is_superblock, same_pair}
 use Rattle.lfs_model.specs.format.Content.{content_at, current_block}
-use Rattle.lfs_model.specs.format.Thread.{Pair, anchor_address, AreLinked, from_first_slots, is_hard_tail, starts_superblock, has_no_entry, may_continue, has_superblock, pair_count_before_root, IsThread, blocks_of_pairs, pairs_gstate, pairs_from_root, root_address, first_address, slots_not_moved, unmoved_entries, ThreadDirectory, directories_with_pair, pair_directories, directory_slots, BeginsAt}
-use Rattle.lfs_model.specs.tree.Tree.{Path, Tree, EntryMap, entry_named, branch_address, child_slot, slot_at_path, root_slot, address_at_path, address_from_slot, names_at, struct_node, beneath_slot, beneath_root}
+use Rattle.lfs_model.specs.format.Thread.{Pair, anchor_address, AreLinked, from_first_slots, is_hard_tail, has_no_entry, may_continue, has_superblock, pair_count_before_root, IsThread, blocks_of_pairs, pairs_gstate, pairs_from_root, root_address, first_address, slots_not_moved, unmoved_entries, ThreadDirectory, directories_with_pair, pair_directories, directory_slots, BeginsAt}
+use Rattle.lfs_model.specs.tree.Tree.{Path, EntryMap, entry_named, branch_address, slot_at_path, root_slot, address_at_path, names_at, struct_node, beneath_slot, beneath_root}
 use Rattle.lfs_model.specs.tree.Shown.{all_directories, all_entries, LeadsTo, IsReachedBySome, struct_list_bytes, struct_blocks, tree_on_disk, all_slots_not_moved, used_blocks}
-use Rattle.lfs_model.specs.tree.View.{accepts_version, IsSuperblock, BeginsWith, superblock_entry, IsSuperblockFirst, SuperblockFirstIfAny, HasStruct, BeginsWithSuperblock, first_slot_name, first_slots, IsTreeEntry, chain_pairs, after_chain, IsWellFormedCtz, IsAccepted}
+use Rattle.lfs_model.specs.tree.View.{accepts_version, IsSuperblock, BeginsWith, superblock_entry, IsSuperblockFirst, SuperblockFirstIfAny, HasStruct, BeginsWithSuperblock, first_slot_name, chain_pairs, IsWellFormedCtz, IsAccepted}
 use Rattle.lfs_model.specs.session.SlotEdits.{slot_of}
 use Rattle.lfs_model.specs.layers.Steps.{number_count, HoldsOfSome, KeepsStruct}
-use Rattle.lfs_model.proofs.Counts.{Each, each_append, each_left, each_right, each_both, each_pieces, each_joined, each_counted, each_from_counted, count_append, once_from_distinct, distinct_from_once}
+use Rattle.lfs_model.proofs.Counts.{Each, each_append, each_right, each_both, each_pieces, each_counted, each_from_counted, count_append, once_from_distinct, distinct_from_once}
 use Rattle.lfs_model.proofs.Global.{HasNoMove, unmoved_all}
 use Rattle.lfs_model.proofs.Files.{SameFileBlocks, is_list_same, contents_same}
 use Rattle.lfs_model.proofs.LeftFiles.{stays_same}
@@ -86,7 +85,7 @@ not_among a x [] h k e = k
 not_among a x (d ∷ ds) h (inl k) e = let z = pair_on a x d.at e (pair_back d.at x k) in absurd (let y = sym z ∙ h.0 in cc)
 not_among a x (d ∷ ds) h (inr k) e = not_among a x ds h.1 k e
 
-pairs_count : (b : ℕ) (xs ys : List Pair) → number_count b (blocks_of_pairs (xs ++ ys)) ≡ number_count b (blocks_of_pairs xs) + number_count b (blocks_of_pairs ys)
+pub pairs_count : (b : ℕ) (xs ys : List Pair) → number_count b (blocks_of_pairs (xs ++ ys)) ≡ number_count b (blocks_of_pairs xs) + number_count b (blocks_of_pairs ys)
 pairs_count b xs ys = ap (number_count b) (flat_map-append (λ (p : Pair). p.at.0 ∷ p.at.1 ∷ []) xs ys) ∙ count_append b (blocks_of_pairs xs) (blocks_of_pairs ys)
 
 -- ---- the change

@@ -1,0 +1,291 @@
+-- The steps by which the root directory begins at another pair, for the functions that move a worn one: its first pair moves behind
+-- the superblock's, or leaves the superblock's pair.
+use Rattle.std.proofs.Common.{ℕ, ◌≡◌, ◌+◌, ◌≤◌, true, false, cond, ◌&&◌, List, [], ◌∷◌, ◌++◌, length, take, slice_get, option_map, Some, refl, sym, ap, ap₂, subst, ◌∙◌, arith, append_assoc, length-append}
+use Rattle.std.specs.Prelude.{All, sum_by}
+use Rattle.std.proofs.lemmas.Bool.{and_from}
+use Rattle.std.proofs.lemmas.List.Sums.{sum_by-cons}
+use Rattle.std.proofs.lemmas.List.Elements.{All-from_recursion, recursion_from_All}
+use Rattle.lfs_model.specs.declared.limits.Profile.{Profile}
+use Rattle.lfs_model.specs.format.Disk.{Disk, SameGeometry, pair_capacity, slots_limit}
+use Rattle.lfs_model.specs.format.Slots.{Slot, PairContent, zero_gstate, gstate_xor, slot_size, FitsInPair}
+use Rattle.lfs_model.specs.format.Content.{content_at, current_block}
+use Rattle.lfs_model.specs.format.Thread.{Pair, anchor_address, AreLinked, address_blocks, from_first_slots, first_address, has_slots, is_hard_tail, starts_superblock, starts_or, has_no_entry, may_continue, has_superblock, pair_count_before_root, pairs_gstate, pairs_from_root}
+use Rattle.lfs_model.specs.tree.View.{BeginsWith, superblock_entry, IsSuperblockFirst, SuperblockFirstIfAny, HasStruct, IsTreeEntry, first_slot_name, IsAccepted}
+use Rattle.lfs_model.specs.tree.Profile.{IsWritableSlot, HasNoEmpties, IsWritable}
+use Rattle.lfs_model.specs.layers.Steps.{SameFileBlocks}
+use Rattle.lfs_model.specs.tree.Shown.{all_slots_not_moved}
+use Rattle.lfs_model.proofs.Counts.{Each}
+use Rattle.lfs_model.proofs.Global.{HasNoMove, gstate_cons, gstate_kept, gstate_right}
+use Rattle.lfs_model.proofs.Superblocks.{Mark, StructMark, HasMark, IsChain, pairs_behind, hold_from_rules, meets_starting, starts, from_held}
+use Rattle.lfs_model.proofs.Changes.{links_changed}
+use Rattle.lfs_model.proofs.Splices.{IsDevice, AreFree, IsShape, split_shape, move_shape}
+use Rattle.lfs_model.proofs.Writable.{IsWithin}
+use Rattle.lfs_model.proofs.Relocated.{IsRelocated, relocated_gstate, each_within, within_same}
+use Rattle.lfs_model.proofs.RootMoved.{pairs_count, IsRootMoved, IsSameImage, root_moved}
+
+-- ---- the writing profile
+
+writable_from : (disk new : Disk) (qs : List Pair) → SameGeometry disk new → Each (IsWithin disk.profile disk.block_size disk.page) qs → HasNoEmpties false (pairs_from_root qs) → IsWritable new qs
+writable_from disk new qs g h empties = record {
+  pairs = subst (λ b. All (λ r. FitsInPair b new.page r.content) qs) (sym g.block_size) (subst (λ z. All (λ r. FitsInPair disk.block_size z r.content) qs) (sym g.page)
+      (All-from_recursion (λ r. FitsInPair disk.block_size disk.page r.content) qs (pair_parts qs h)));
+  slots = subst (λ (k : Profile). All (λ r. All (IsWritableSlot k new.block_size new.page) r.content.slots) qs) (sym g.profile)
+      (subst (λ b. All (λ r. All (IsWritableSlot disk.profile b new.page) r.content.slots) qs) (sym g.block_size)
+      (subst (λ z. All (λ r. All (IsWritableSlot disk.profile disk.block_size z) r.content.slots) qs) (sym g.page)
+      (All-from_recursion (λ r. All (IsWritableSlot disk.profile disk.block_size disk.page) r.content.slots) qs (slot_parts qs h))));
+  no_empty_pair = empties;
+}
+  where
+    pair_parts : (rs : List Pair) → Each (IsWithin disk.profile disk.block_size disk.page) rs → Each (λ r. FitsInPair disk.block_size disk.page r.content) rs
+    pair_parts [] k = tt
+    pair_parts (r ∷ rs) k = (k.0.pair, pair_parts rs k.1)
+
+    slot_parts : (rs : List Pair) → Each (IsWithin disk.profile disk.block_size disk.page) rs → Each (λ r. All (IsWritableSlot disk.profile disk.block_size disk.page) r.content.slots) rs
+    slot_parts [] k = tt
+    slot_parts (r ∷ rs) k = (k.0.slots, slot_parts rs k.1)
+
+-- the root directory's first pair has another address, and what it had
+empties_same : (chain now : List Pair) (r s : Pair) (rest : List Pair) → IsChain chain (r ∷ rest) → IsChain now (s ∷ rest) → s.content.tail ≡ r.content.tail →
+    HasNoEmpties false (pairs_from_root (chain ++ r ∷ rest)) → HasNoEmpties false (pairs_from_root (now ++ s ∷ rest))
+empties_same chain now r s rest was is tail h = subst (HasNoEmpties false) (sym (pairs_behind now (s ∷ rest) is))
+    ((λ e. absurd (cc)), subst (λ t. HasNoEmpties (is_hard_tail t) rest) (sym tail) (subst (HasNoEmpties false) (pairs_behind chain (r ∷ rest) was) h).1)
+
+-- an accepted image in the profile, with the same tree
+pub record IsSameWritable (disk : Disk) (ps : List Pair) (new : Disk) (qs : List Pair) : Type 0 where
+  pub same : IsSameImage disk ps new qs
+  pub writable : IsWritable new qs
+
+-- ---- pairs of the same slots, whose tails are hard where theirs were
+
+abbrev SameOutlines : List Pair → List Pair → Type 0
+SameOutlines [] [] = Unit {0}
+SameOutlines [] (q ∷ qs) = ⊥
+SameOutlines (p ∷ ps) [] = ⊥
+SameOutlines (p ∷ ps) (q ∷ qs) = (q.content.slots ≡ p.content.slots) × (is_hard_tail q.content.tail ≡ is_hard_tail p.content.tail) × SameOutlines ps qs
+
+outlines_itself : (ps : List Pair) → SameOutlines ps ps
+outlines_itself [] = tt
+outlines_itself (p ∷ ps) = (refl, refl, outlines_itself ps)
+
+outlines_behind : (front ps qs : List Pair) → SameOutlines ps qs → SameOutlines (front ++ ps) (front ++ qs)
+outlines_behind [] ps qs h = h
+outlines_behind (p ∷ front) ps qs h = (refl, refl, outlines_behind front ps qs h)
+
+superblock_alike : (ps qs : List Pair) → SameOutlines ps qs → has_superblock qs ≡ has_superblock ps
+superblock_alike [] [] h = refl
+superblock_alike [] (q ∷ qs) h = absurd h
+superblock_alike (p ∷ ps) [] h = absurd h
+superblock_alike (p ∷ ps) (q ∷ qs) h = ap₂ (λ slots b. starts_or slots b) h.0 (ap₂ (λ x y. x && y) h.1 (superblock_alike ps qs h.2))
+
+count_alike : (ps qs : List Pair) → SameOutlines ps qs → pair_count_before_root qs ≡ pair_count_before_root ps
+count_alike [] [] h = refl
+count_alike [] (q ∷ qs) h = absurd h
+count_alike (p ∷ ps) [] h = absurd h
+count_alike (p ∷ ps) (q ∷ qs) h =
+    ap₂ (λ b n. cond b (1 + n) 0) (ap₂ (λ x y. x && y) (superblock_alike ps qs h.2) (ap₂ (λ slots b. has_no_entry slots && b) h.0 h.1)) (count_alike ps qs h.2)
+
+named_alike : (ps qs : List Pair) → SameOutlines ps qs → first_slot_name (from_first_slots qs) ≡ first_slot_name (from_first_slots ps)
+named_alike [] [] h = refl
+named_alike [] (q ∷ qs) h = absurd h
+named_alike (p ∷ ps) [] h = absurd h
+named_alike (p ∷ ps) (q ∷ qs) h = go p.content.slots q.content.slots h.0 refl refl (named_alike ps qs h.2)
+  where
+    go : (s t : List Slot) → t ≡ s → p.content.slots ≡ s → q.content.slots ≡ t → first_slot_name (from_first_slots qs) ≡ first_slot_name (from_first_slots ps) →
+        first_slot_name (from_first_slots (q ∷ qs)) ≡ first_slot_name (from_first_slots (p ∷ ps))
+    go [] [] e f k next = ap (λ z. first_slot_name (cond (has_slots z) (q ∷ qs) (from_first_slots qs))) k ∙ next ∙ sym (ap (λ z. first_slot_name (cond (has_slots z) (p ∷ ps) (from_first_slots ps))) f)
+    go [] (y ∷ t) e f k next = absurd (cc)
+    go (x ∷ s) [] e f k next = absurd (cc)
+    go (x ∷ s) (y ∷ t) e f k next = ap (λ z. first_slot_name (cond (has_slots z) (q ∷ qs) (from_first_slots qs))) k ∙ ap (λ z. first_slot_name (record { at = q.at; content = record { slots = z; tail = q.content.tail; move = q.content.move } } ∷ qs)) h.0
+        ∙ sym (ap (λ z. first_slot_name (cond (has_slots z) (p ∷ ps) (from_first_slots ps))) f)
+
+each_alike : (P : List Slot → Type 0) (ps qs : List Pair) → SameOutlines ps qs → Each (λ r. P r.content.slots) ps → Each (λ r. P r.content.slots) qs
+each_alike P [] [] h k = tt
+each_alike P [] (q ∷ qs) h k = absurd h
+each_alike P (p ∷ ps) [] h k = absurd h
+each_alike P (p ∷ ps) (q ∷ qs) h k = (subst P (sym h.0) k.0, each_alike P ps qs h.2 k.1)
+
+within_alike : (disk : Disk) (ps qs : List Pair) → SameOutlines ps qs → Each (IsWithin disk.profile disk.block_size disk.page) ps → Each (IsWithin disk.profile disk.block_size disk.page) qs
+within_alike disk [] [] h k = tt
+within_alike disk [] (q ∷ qs) h k = absurd h
+within_alike disk (p ∷ ps) [] h k = absurd h
+within_alike disk (p ∷ ps) (q ∷ qs) h k = (within_same disk p q h.0 k.0, within_alike disk ps qs h.2 k.1)
+
+-- ---- the root's first pair moves behind the superblock's
+
+module _ (disk new : Disk) (front : List Pair) (p x q y : Pair) (back : List Pair) (ok : IsAccepted disk (front ++ p ∷ x ∷ back)) (fits : IsWritable disk (front ++ p ∷ x ∷ back))
+    (none : HasNoMove (pairs_gstate (front ++ p ∷ x ∷ back))) (number : pair_count_before_root (front ++ p ∷ x ∷ back) ≡ length front + 1) (c : IsRelocated disk new front p x q y back)
+    (first : BeginsWith (current_block new (first_address (from_first_slots (front ++ q ∷ y ∷ back)))) superblock_entry) where
+  abbrev chain : List Pair
+  chain = front ++ p ∷ []
+
+  abbrev now : List Pair
+  now = front ++ q ∷ []
+
+  old_is : front ++ p ∷ x ∷ back ≡ chain ++ x ∷ back
+  old_is = sym (append_assoc front (p ∷ []) (x ∷ back))
+
+  new_is : front ++ q ∷ y ∷ back ≡ now ++ y ∷ back
+  new_is = sym (append_assoc front (q ∷ []) (y ∷ back))
+
+  hard_same : is_hard_tail q.content.tail ≡ is_hard_tail p.content.tail
+  hard_same = ap is_hard_tail c.tail ∙ sym c.hard
+
+  outlines : SameOutlines (front ++ p ∷ x ∷ back) (front ++ q ∷ y ∷ back)
+  outlines = outlines_behind front (p ∷ x ∷ back) (q ∷ y ∷ back)
+      (c.slots, hard_same, (ap (λ (z : PairContent). z.slots) c.same, ap (λ (z : PairContent). is_hard_tail z.tail) c.same, outlines_itself back))
+
+  outlines_chain : SameOutlines chain now
+  outlines_chain = outlines_behind front (p ∷ []) (q ∷ []) (c.slots, hard_same, tt)
+
+  was_chain : IsChain chain (x ∷ back)
+  was_chain = ap pair_count_before_root (sym old_is) ∙ number ∙ sym (length-append front (p ∷ []))
+
+  is_chain : IsChain now (y ∷ back)
+  is_chain = ap pair_count_before_root (sym new_is) ∙ count_alike (front ++ p ∷ x ∷ back) (front ++ q ∷ y ∷ back) outlines ∙ number ∙ sym (length-append front (q ∷ []))
+
+  shape : IsShape p (x ∷ []) q (y ∷ []) (y.at.0 ∷ y.at.1 ∷ [])
+  shape = move_shape p x q y c.at c.tail (ap (λ (z : PairContent). z.tail) c.same) (λ e. ap starts_superblock c.slots ∙ e)
+
+  moved : IsRootMoved disk new chain x now y back (address_blocks y.at)
+  moved = record {
+    geometry = c.device.geometry;
+    contents = subst (All (λ r. content_at new r.at ≡ Some r.content)) new_is c.device.contents;
+    first = subst (λ z. BeginsWith (current_block new (first_address (from_first_slots z))) superblock_entry) new_is first;
+    files = subst (λ z. All (λ u. SameFileBlocks disk new u.struct) (all_slots_not_moved z)) old_is c.device.files;
+    links = subst (AreLinked (Some anchor_address)) new_is (links_changed front (p ∷ x ∷ back) (q ∷ y ∷ back) (shape.links back) (Some anchor_address) ok.thread.links);
+    slots = ap (λ (z : PairContent). z.slots) c.same;
+    tail = ap (λ (z : PairContent). z.tail) c.same;
+    still = ap pairs_gstate (sym new_is) ∙ relocated_gstate front p x q y back c.delta c.same ∙ ap pairs_gstate old_is;
+    is_chain = is_chain;
+    marked = λ m h k. each_alike (SuperblockFirstIfAny (HasMark m)) chain now outlines_chain h;
+    named = ap (λ z. first_slot_name (from_first_slots z)) (sym new_is) ∙ named_alike (front ++ p ∷ x ∷ back) (front ++ q ∷ y ∷ back) outlines ∙ ap (λ z. first_slot_name (from_first_slots z)) old_is;
+    blocks = λ b. omega (arith, shape.blocks b, pairs_count b now (y ∷ []), pairs_count b front (q ∷ []), pairs_count b (q ∷ []) (y ∷ []), pairs_count b chain (x ∷ []), pairs_count b front (p ∷ []), pairs_count b (p ∷ []) (x ∷ []));
+    free = subst (λ z. AreFree disk z (address_blocks y.at) []) old_is c.free;
+  }
+
+  pub relocate_root : IsSameWritable disk (front ++ p ∷ x ∷ back) new (front ++ q ∷ y ∷ back)
+  relocate_root = record {
+    same = subst (λ z. IsSameImage disk z new (front ++ q ∷ y ∷ back)) (sym old_is) (subst (IsSameImage disk (chain ++ x ∷ back) new) (sym new_is)
+        (root_moved disk new chain x now y back (address_blocks y.at) was_chain (subst (IsAccepted disk) old_is ok) (subst (λ z. HasNoMove (pairs_gstate z)) old_is none) moved));
+    writable = writable_from disk new (front ++ q ∷ y ∷ back) c.device.geometry (within_alike disk (front ++ p ∷ x ∷ back) (front ++ q ∷ y ∷ back) outlines (each_within disk (front ++ p ∷ x ∷ back) fits))
+        (subst (λ z. HasNoEmpties false (pairs_from_root z)) (sym new_is) (empties_same chain now x y back was_chain is_chain (ap (λ (z : PairContent). z.tail) c.same)
+        (subst (λ z. HasNoEmpties false (pairs_from_root z)) old_is fits.no_empty_pair)));
+  }
+
+-- ---- the root leaves the superblock's pair
+
+-- On the new disk q is in place of x, the thread's first pair. It keeps the superblock, and its hard tail names y, which has all
+-- slots and the tail of x, at blocks that nobody owned.
+pub record IsExpanded (disk new : Disk) (x q y : Pair) (back : List Pair) : Type 0 where
+  pub device : IsDevice disk new (x ∷ back) (q ∷ y ∷ back)
+  pub free : AreFree disk (x ∷ back) (address_blocks y.at) []
+  pub at : q.at ≡ x.at
+  pub kept : q.content.slots ≡ take 1 x.content.slots
+  pub tail : q.content.tail ≡ Some (record { hard = true; to = y.at })
+  pub delta : q.content.move ≡ x.content.move
+  pub slots : y.content.slots ≡ x.content.slots
+  pub last : y.content.tail ≡ x.content.tail
+  pub none : y.content.move ≡ zero_gstate
+
+pub unloaded_gstate : (before : List Pair) (x q y : Pair) (back : List Pair) → q.content.move ≡ x.content.move → y.content.move ≡ zero_gstate →
+    pairs_gstate (before ++ q ∷ y ∷ back) ≡ pairs_gstate (before ++ x ∷ back)
+unloaded_gstate before x q y back delta none = gstate_kept before (x ∷ []) (q ∷ y ∷ []) back
+    (gstate_cons q (y ∷ []) ∙ ap₂ gstate_xor delta (gstate_cons y [] ∙ gstate_right y.content.move ∙ none) ∙ sym (gstate_cons x []))
+
+take_marked : (P : Slot → Type 0) (slots : List Slot) → IsSuperblockFirst P slots → IsSuperblockFirst P (take 1 slots)
+take_marked P [] h = absurd h
+take_marked P (s ∷ slots) h = (h.0, h.1, All-from_recursion IsTreeEntry [] tt)
+
+headed : (P : Slot → Type 0) (slots : List Slot) → IsSuperblockFirst P slots → SuperblockFirstIfAny P slots
+headed P [] h = absurd h
+headed P (s ∷ slots) h = h
+
+take_bare : (slots : List Slot) → starts_superblock slots ≡ true → has_no_entry (take 1 slots) ≡ true
+take_bare [] e = refl
+take_bare (s ∷ slots) e = e
+
+take_first : (slots : List Slot) → slice_get (take 1 slots) 0 ≡ slice_get slots 0
+take_first [] = refl
+take_first (s ∷ slots) = refl
+
+take_fits : (block_size page : ℕ) (slots : List Slot) → sum_by slot_size slots ≤ pair_capacity block_size page → length slots ≤ slots_limit →
+    (sum_by slot_size (take 1 slots) ≤ pair_capacity block_size page) × (length (take 1 slots) ≤ slots_limit)
+take_fits block_size page [] h k = (h, k)
+take_fits block_size page (s ∷ slots) h k = ((let e = sum_by-cons slot_size s slots in let f = sum_by-cons slot_size s [] in omega arith), (omega arith))
+
+take_each : (P : Slot → Type 0) (slots : List Slot) → Each P slots → Each P (take 1 slots)
+take_each P [] h = tt
+take_each P (s ∷ slots) h = (h.0, tt)
+
+module _ (disk new : Disk) (x q y : Pair) (back : List Pair) (ok : IsAccepted disk (x ∷ back)) (fits : IsWritable disk (x ∷ back))
+    (none : HasNoMove (pairs_gstate (x ∷ back))) (number : pair_count_before_root (x ∷ back) ≡ 0) (c : IsExpanded disk new x q y back) where
+  abbrev bytes : List ℕ
+  bytes = ok.superblock.0
+
+  -- the superblock comes first
+  held : IsSuperblockFirst (HasStruct disk.profile.versions bytes) x.content.slots
+  held = (hold_from_rules (StructMark disk.profile.versions bytes) [] x back number ok.superblock.1.1 ok.root ok.slots).1.0
+
+  kept_marked : (m : Mark) → IsSuperblockFirst (HasMark m) x.content.slots → IsSuperblockFirst (HasMark m) q.content.slots
+  kept_marked m h = subst (IsSuperblockFirst (HasMark m)) (sym c.kept) (take_marked (HasMark m) x.content.slots h)
+
+  x_starts : starts_superblock x.content.slots ≡ true
+  x_starts = starts x.content.slots (StructMark disk.profile.versions bytes) held
+
+  old_front : from_first_slots (x ∷ back) ≡ x ∷ back
+  old_front = from_held (StructMark disk.profile.versions bytes) x back held
+
+  new_front : from_first_slots (q ∷ y ∷ back) ≡ q ∷ y ∷ back
+  new_front = from_held (StructMark disk.profile.versions bytes) q (y ∷ back) (kept_marked (StructMark disk.profile.versions bytes) held)
+
+  split : IsShape x [] q (y ∷ []) (y.at.0 ∷ y.at.1 ∷ [])
+  split = split_shape x q y c.at c.tail c.last (λ e. starts q.content.slots (StructMark disk.profile.versions bytes) (kept_marked (StructMark disk.profile.versions bytes) held))
+
+  behind_root : pair_count_before_root (y ∷ back) ≡ 0
+  behind_root = count_alike (x ∷ back) (y ∷ back) (c.slots, ap is_hard_tail c.last, outlines_itself back) ∙ number
+
+  expanded_chain : IsChain (q ∷ []) (y ∷ back)
+  expanded_chain = ap₂ (λ b n. cond b (1 + n) 0)
+      (and_from (has_superblock (y ∷ back)) (may_continue q) (meets_starting y back (ap starts_superblock c.slots ∙ x_starts))
+      (and_from (has_no_entry q.content.slots) (is_hard_tail q.content.tail) (ap has_no_entry c.kept ∙ take_bare x.content.slots x_starts) (ap is_hard_tail c.tail)))
+      behind_root
+
+  expanded : IsRootMoved disk new [] x (q ∷ []) y back (address_blocks y.at)
+  expanded = record {
+    geometry = c.device.geometry;
+    contents = c.device.contents;
+    first = subst (λ a. BeginsWith (current_block new a) superblock_entry) (ap first_address old_front ∙ sym c.at ∙ sym (ap first_address new_front)) c.device.first;
+    files = c.device.files;
+    links = split.links back (Some anchor_address) ok.thread.links;
+    slots = c.slots;
+    tail = c.last;
+    still = unloaded_gstate [] x q y back c.delta c.none;
+    is_chain = expanded_chain;
+    marked = λ m h k. (headed (HasMark m) q.content.slots (kept_marked m k), tt);
+    named = ap first_slot_name new_front ∙ ap (option_map (λ s. s.name)) (ap (λ z. slice_get z 0) c.kept ∙ take_first x.content.slots) ∙ ap first_slot_name (sym old_front);
+    blocks = split.blocks;
+    free = c.free;
+  }
+
+  pub expand : IsSameWritable disk (x ∷ back) new (q ∷ y ∷ back)
+  expand = record {
+    same = root_moved disk new [] x (q ∷ []) y back (address_blocks y.at) number ok none expanded;
+    writable = writable_from disk new (q ∷ y ∷ back) c.device.geometry (within_q, (within_same disk x y c.slots within.0, within.1)) (empties_same [] (q ∷ []) x y back number expanded_chain c.last fits.no_empty_pair);
+  }
+    where
+      within : Each (IsWithin disk.profile disk.block_size disk.page) (x ∷ back)
+      within = each_within disk (x ∷ back) fits
+
+      small : (sum_by slot_size (take 1 x.content.slots) ≤ pair_capacity disk.block_size disk.page) × (length (take 1 x.content.slots) ≤ slots_limit)
+      small = take_fits disk.block_size disk.page x.content.slots within.0.pair.size within.0.pair.count
+
+      within_q : IsWithin disk.profile disk.block_size disk.page q
+      within_q = record {
+        pair = record {
+          size = subst (λ z. sum_by slot_size z ≤ pair_capacity disk.block_size disk.page) (sym c.kept) small.0;
+          count = subst (λ (z : List Slot). length z ≤ slots_limit) (sym c.kept) small.1;
+        };
+        slots = subst (All (IsWritableSlot disk.profile disk.block_size disk.page)) (sym c.kept)
+            (All-from_recursion (IsWritableSlot disk.profile disk.block_size disk.page) (take 1 x.content.slots)
+            (take_each (IsWritableSlot disk.profile disk.block_size disk.page) x.content.slots (recursion_from_All (IsWritableSlot disk.profile disk.block_size disk.page) x.content.slots within.0.slots)));
+      }

@@ -3,13 +3,13 @@ use Rattle.std.proofs.Common.{◌≡◌, ◌<◌, ◌≤◌, true, false, List, 
 use Rattle.std.specs.Prelude.{All}
 use Rattle.std.proofs.lemmas.List.Elements.{recursion_from_All}
 use Rattle.lfs_model.specs.format.Disk.{Disk}
-use Rattle.lfs_model.specs.format.Slots.{PairContent, FitsInPair, gstate_xor}
+use Rattle.lfs_model.specs.format.Slots.{Slot, PairContent, zero_gstate, FitsInPair, gstate_xor}
 use Rattle.lfs_model.specs.format.Thread.{Pair, address_blocks, is_hard_tail, pairs_gstate, starts_superblock, pair_count_before_root}
 use Rattle.lfs_model.specs.tree.View.{IsAccepted}
 use Rattle.lfs_model.specs.tree.Profile.{IsWritableSlot, HasNoEmpties, IsWritable}
 use Rattle.lfs_model.specs.layers.Steps.{ends_joined, IsWritableChange}
 use Rattle.lfs_model.proofs.Counts.{Each, each_right}
-use Rattle.lfs_model.proofs.Global.{HasNoMove, gstate_cons, gstate_kept}
+use Rattle.lfs_model.proofs.Global.{HasNoMove, gstate_cons, gstate_kept, gstate_right}
 use Rattle.lfs_model.proofs.Listings.{IsRun}
 use Rattle.lfs_model.proofs.Sites.{Site, thread_at, IsSite}
 use Rattle.lfs_model.proofs.Changes.{chain_now}
@@ -34,10 +34,32 @@ pub record IsRelocated (disk new : Disk) (before : List Pair) (p x q y : Pair) (
   pub tail : q.content.tail ≡ Some (record { hard = true; to = y.at })
   pub same : y.content ≡ x.content
 
+-- On the new disk q is in place of x, with these slots and x's delta. Its hard tail names y, which has all slots of x and its tail,
+-- at blocks that nobody owned.
+pub record IsUnloaded (disk new : Disk) (before : List Pair) (x q y : Pair) (back : List Pair) (slots_kept : List Slot) : Type 0 where
+  pub device : IsDevice disk new (before ++ x ∷ back) (before ++ q ∷ y ∷ back)
+  pub free : AreFree disk (before ++ x ∷ back) (address_blocks y.at) []
+  pub at : q.at ≡ x.at
+  pub kept : q.content.slots ≡ slots_kept
+  pub tail : q.content.tail ≡ Some (record { hard = true; to = y.at })
+  pub delta : q.content.move ≡ x.content.move
+  pub slots : y.content.slots ≡ x.content.slots
+  pub last : y.content.tail ≡ x.content.tail
+  pub none : y.content.move ≡ zero_gstate
+
+-- ---- the global state stays
+
 pub relocated_gstate : (before : List Pair) (p x q y : Pair) (back : List Pair) → q.content.move ≡ p.content.move → y.content ≡ x.content →
     pairs_gstate (before ++ q ∷ y ∷ back) ≡ pairs_gstate (before ++ p ∷ x ∷ back)
 relocated_gstate before p x q y back delta same = gstate_kept before (p ∷ x ∷ []) (q ∷ y ∷ []) back
     (gstate_cons q (y ∷ []) ∙ ap₂ (λ a b. gstate_xor a (pairs_gstate (record { at = y.at; content = b } ∷ []))) delta same ∙ sym (gstate_cons p (x ∷ [])))
+
+pub unloaded_gstate : (before : List Pair) (x q y : Pair) (back : List Pair) → q.content.move ≡ x.content.move → y.content.move ≡ zero_gstate →
+    pairs_gstate (before ++ q ∷ y ∷ back) ≡ pairs_gstate (before ++ x ∷ back)
+unloaded_gstate before x q y back delta none = gstate_kept before (x ∷ []) (q ∷ y ∷ []) back
+    (gstate_cons q (y ∷ []) ∙ ap₂ gstate_xor delta (gstate_cons y [] ∙ gstate_right y.content.move ∙ none) ∙ sym (gstate_cons x []))
+
+-- ---- a pair behind one of its directory
 
 -- a hard tail leads to another pair of the run
 record HasNext (left : List Pair) (p : Pair) (right : List Pair) : Type 0 where

@@ -7,7 +7,7 @@ use Rattle.std.proofs.lemmas.List.Sums.{sum_by-cons}
 use Rattle.std.proofs.lemmas.List.Elements.{All-from_recursion, recursion_from_All}
 use Rattle.lfs_model.specs.declared.limits.Profile.{Profile}
 use Rattle.lfs_model.specs.format.Disk.{Disk, SameGeometry, pair_capacity, slots_limit}
-use Rattle.lfs_model.specs.format.Slots.{Slot, PairContent, zero_gstate, gstate_xor, slot_size, FitsInPair}
+use Rattle.lfs_model.specs.format.Slots.{Slot, PairContent, slot_size, FitsInPair}
 use Rattle.lfs_model.specs.format.Content.{content_at, current_block}
 use Rattle.lfs_model.specs.format.Thread.{Pair, anchor_address, AreLinked, address_blocks, from_first_slots, first_address, has_slots, is_hard_tail, starts_superblock, starts_or, has_no_entry, may_continue, has_superblock, pair_count_before_root, pairs_gstate, pairs_from_root}
 use Rattle.lfs_model.specs.tree.View.{BeginsWith, superblock_entry, IsSuperblockFirst, SuperblockFirstIfAny, HasStruct, IsTreeEntry, first_slot_name, IsAccepted}
@@ -15,12 +15,12 @@ use Rattle.lfs_model.specs.tree.Profile.{IsWritableSlot, HasNoEmpties, IsWritabl
 use Rattle.lfs_model.specs.layers.Steps.{SameFileBlocks}
 use Rattle.lfs_model.specs.tree.Shown.{all_slots_not_moved}
 use Rattle.lfs_model.proofs.Counts.{Each}
-use Rattle.lfs_model.proofs.Global.{HasNoMove, gstate_cons, gstate_kept, gstate_right}
+use Rattle.lfs_model.proofs.Global.{HasNoMove}
 use Rattle.lfs_model.proofs.Superblocks.{Mark, StructMark, HasMark, IsChain, pairs_behind, hold_from_rules, meets_starting, starts, from_held}
 use Rattle.lfs_model.proofs.Changes.{links_changed}
-use Rattle.lfs_model.proofs.Splices.{IsDevice, AreFree, IsShape, split_shape, move_shape}
+use Rattle.lfs_model.proofs.Splices.{AreFree, IsShape, split_shape, move_shape}
 use Rattle.lfs_model.proofs.Writable.{IsWithin}
-use Rattle.lfs_model.proofs.Relocated.{IsRelocated, relocated_gstate, each_within, within_same}
+use Rattle.lfs_model.proofs.Relocated.{IsRelocated, IsUnloaded, relocated_gstate, unloaded_gstate, each_within, within_same}
 use Rattle.lfs_model.proofs.RootMoved.{pairs_count, IsRootMoved, IsSameImage, root_moved}
 
 -- ---- the writing profile
@@ -174,24 +174,6 @@ module _ (disk new : Disk) (front : List Pair) (p x q y : Pair) (back : List Pai
 
 -- ---- the root leaves the superblock's pair
 
--- On the new disk q is in place of x, the thread's first pair. It keeps the superblock, and its hard tail names y, which has all
--- slots and the tail of x, at blocks that nobody owned.
-pub record IsExpanded (disk new : Disk) (x q y : Pair) (back : List Pair) : Type 0 where
-  pub device : IsDevice disk new (x ∷ back) (q ∷ y ∷ back)
-  pub free : AreFree disk (x ∷ back) (address_blocks y.at) []
-  pub at : q.at ≡ x.at
-  pub kept : q.content.slots ≡ take 1 x.content.slots
-  pub tail : q.content.tail ≡ Some (record { hard = true; to = y.at })
-  pub delta : q.content.move ≡ x.content.move
-  pub slots : y.content.slots ≡ x.content.slots
-  pub last : y.content.tail ≡ x.content.tail
-  pub none : y.content.move ≡ zero_gstate
-
-pub unloaded_gstate : (before : List Pair) (x q y : Pair) (back : List Pair) → q.content.move ≡ x.content.move → y.content.move ≡ zero_gstate →
-    pairs_gstate (before ++ q ∷ y ∷ back) ≡ pairs_gstate (before ++ x ∷ back)
-unloaded_gstate before x q y back delta none = gstate_kept before (x ∷ []) (q ∷ y ∷ []) back
-    (gstate_cons q (y ∷ []) ∙ ap₂ gstate_xor delta (gstate_cons y [] ∙ gstate_right y.content.move ∙ none) ∙ sym (gstate_cons x []))
-
 take_marked : (P : Slot → Type 0) (slots : List Slot) → IsSuperblockFirst P slots → IsSuperblockFirst P (take 1 slots)
 take_marked P [] h = absurd h
 take_marked P (s ∷ slots) h = (h.0, h.1, All-from_recursion IsTreeEntry [] tt)
@@ -218,7 +200,7 @@ take_each P [] h = tt
 take_each P (s ∷ slots) h = (h.0, tt)
 
 module _ (disk new : Disk) (x q y : Pair) (back : List Pair) (ok : IsAccepted disk (x ∷ back)) (fits : IsWritable disk (x ∷ back))
-    (none : HasNoMove (pairs_gstate (x ∷ back))) (number : pair_count_before_root (x ∷ back) ≡ 0) (c : IsExpanded disk new x q y back) where
+    (none : HasNoMove (pairs_gstate (x ∷ back))) (number : pair_count_before_root (x ∷ back) ≡ 0) (c : IsUnloaded disk new [] x q y back (take 1 x.content.slots)) where
   abbrev bytes : List ℕ
   bytes = ok.superblock.0
 

@@ -1,15 +1,22 @@
 -- What the moves of a worn pair make of an image, wherever the pair is. The steps that move pairs cite these laws. RootSteps has the
 -- one for the superblock's pair.
-use Rattle.std.proofs.Common.{ℕ, ◌≡◌, ◌≢◌, ◌⊎◌, inl, inr, ◌+◌, ◌<◌, ◌≤◌, Bool, true, false, cond, ◌&&◌, List, [], ◌∷◌, ◌++◌, length, take, drop, refl, sym, ap, subst, ◌∙◌, arith, append_assoc, length-take, take-append-drop}
+use Rattle.std.proofs.Common.{ℕ, zero, suc, nat_eq, eqb-true, ap₂, Some, ◌≡◌, ◌≢◌, ◌⊎◌, inl, inr, ◌+◌, ◌<◌, ◌≤◌, Bool, true, false, cond, ◌&&◌, List, [], ◌∷◌, ◌++◌, length, take, drop, refl, sym, ap, subst, ◌∙◌, arith, append_assoc, length-take, take-append-drop}
+use Rattle.std.specs.Prelude.{Contains}
 use Rattle.std.proofs.lemmas.Bool.{cases_lt}
-use Rattle.lfs_model.specs.format.Disk.{Disk}
-use Rattle.lfs_model.specs.format.Slots.{Slot, PairContent}
-use Rattle.lfs_model.specs.format.Content.{current_block}
-use Rattle.lfs_model.specs.format.Thread.{Pair, from_first_slots, first_address, has_slots, has_no_entry, has_superblock, may_continue, is_hard_tail, starts_superblock, pairs_gstate, pair_count_before_root}
+use Rattle.std.proofs.lemmas.List.Elements.{All-from_recursion, recursion_from_All}
+use Rattle.lfs_model.specs.format.Disk.{Disk, block_count}
+use Rattle.lfs_model.specs.format.Slots.{Slot, PairContent, zero_gstate}
+use Rattle.lfs_model.specs.format.Content.{content_at, current_block}
+use Rattle.lfs_model.specs.format.Thread.{Pair, address_blocks, from_first_slots, first_address, has_slots, has_no_entry, has_superblock, may_continue, is_hard_tail, starts_superblock, pairs_gstate, pair_count_before_root}
 use Rattle.lfs_model.specs.tree.View.{BeginsWith, superblock_entry, IsAccepted}
 use Rattle.lfs_model.specs.tree.Profile.{IsWritable}
+use Rattle.lfs_model.specs.tree.Shown.{used_blocks}
+use Rattle.lfs_model.specs.session.Moved.{is_worn, AreUnused, LeavesEighth, pair_joined_to, pair_behind, IsPairMoved, IsPairUnloaded, IsRootUnloaded}
 use Rattle.lfs_model.specs.layers.Steps.{ends_joined, IsWritableChange}
+use Rattle.lfs_model.proofs.Counts.{Each, each_append, each_left, each_right, number_count, count_append, count_here, once_from_distinct, distinct_from_once}
+use Rattle.lfs_model.proofs.BlockSets.{number_count-Contains, Contains-number_count}
 use Rattle.lfs_model.proofs.Global.{HasNoMove}
+use Rattle.lfs_model.proofs.Splices.{IsDevice, AreFree}
 use Rattle.lfs_model.proofs.Superblocks.{IsChain, FromSlots, InFront, Behind, from_front, meets_from, meets_first}
 use Rattle.lfs_model.proofs.Relocated.{IsRelocated, IsUnloaded, relocated_gstate, unloaded_gstate, relocate}
 use Rattle.lfs_model.proofs.RootSteps.{IsSameWritable, relocate_root}
@@ -143,3 +150,124 @@ pair_unloads disk new front p x q y back ok fits none c soft some = from_change 
     go : (ds : List Pair) → drop n front ≡ ds → IsWritableChange disk (front ++ p ∷ x ∷ back) new (front ++ p ∷ q ∷ y ∷ back) (λ t. t) (λ d. d)
     go [] e = done p [] (ap (λ a. a ++ p ∷ []) e)
     go (d ∷ ds) e = done d (ds ++ p ∷ []) (ap (λ a. a ++ p ∷ []) e)
+
+-- ---- by the definitions
+
+-- two different blocks of the device that nobody uses
+pub free_unused : (disk : Disk) (ps : List Pair) (at : ℕ × ℕ) → IsAccepted disk ps → AreUnused disk ps at → at.0 ≢ at.1 → at.0 < block_count disk → at.1 < block_count disk → AreFree disk ps (address_blocks at) []
+free_unused disk ps at ok unused apart low high = record {
+  distinct = distinct_from_once ((address_blocks at ++ []) ++ used_blocks disk ps) (λ b.
+      let a1 = count_append b (address_blocks at ++ []) (used_blocks disk ps) in
+      let a2 = count_append b (address_blocks at) [] in
+      let o = once_from_distinct (used_blocks disk ps) ok.owned_once b in
+      let k = few b (nat_eq b at.0) (nat_eq b at.1) refl refl in
+      omega arith);
+  in_range = All-from_recursion (λ b. b < block_count disk) (address_blocks at) (low, (high, tt));
+}
+  where
+    none : Each (λ b. Contains (used_blocks disk ps) b → ⊥) (address_blocks at)
+    none = recursion_from_All (λ b. Contains (used_blocks disk ps) b → ⊥) (address_blocks at) unused
+
+    not_used : (b : ℕ) → (Contains (used_blocks disk ps) b → ⊥) → number_count b (used_blocks disk ps) ≡ 0
+    not_used b n = go (number_count b (used_blocks disk ps)) refl
+      where
+        go : (k : ℕ) → number_count b (used_blocks disk ps) ≡ k → k ≡ 0
+        go zero e = refl
+        go (suc k) e = absurd (n (Contains-number_count (used_blocks disk ps) b (omega (arith, e))))
+
+    few : (b : ℕ) (s t : Bool) → nat_eq b at.0 ≡ s → nat_eq b at.1 ≡ t → number_count b (address_blocks at) + number_count b (used_blocks disk ps) ≤ 1
+    few b true true e f = absurd (apart (sym (eqb-true b at.0 e) ∙ eqb-true b at.1 f))
+    few b true false e f =
+        let c = ap₂ (λ x y. cond x 1 0 + (cond y 1 0 + 0)) e f in
+        let n = subst (λ z. number_count z (used_blocks disk ps) ≡ 0) (sym (eqb-true b at.0 e)) (not_used at.0 none.0) in
+        omega (arith, c, n)
+    few b false true e f =
+        let c = ap₂ (λ x y. cond x 1 0 + (cond y 1 0 + 0)) e f in
+        let n = subst (λ z. number_count z (used_blocks disk ps) ≡ 0) (sym (eqb-true b at.1 f)) (not_used at.1 none.1.0) in
+        omega (arith, c, n)
+    few b false false e f =
+        let c = ap₂ (λ x y. cond x 1 0 + (cond y 1 0 + 0)) e f in
+        let o = once_from_distinct (used_blocks disk ps) ok.owned_once b in
+        omega (arith, c, o)
+
+-- and blocks that are free aren't used
+unused_free : (disk : Disk) (ps : List Pair) (at : ℕ × ℕ) → AreFree disk ps (address_blocks at) [] → AreUnused disk ps at
+unused_free disk ps at free = All-from_recursion (λ b. Contains (used_blocks disk ps) b → ⊥) (address_blocks at) (
+  no at.0 (let e = count_here at.0 (at.1 ∷ []) in omega arith),
+  (no at.1 (let e = count_here at.1 [] in let f = count_append at.1 (at.0 ∷ []) (at.1 ∷ []) in omega arith), tt),
+)
+  where
+    no : (b : ℕ) → 1 ≤ number_count b (address_blocks at) → Contains (used_blocks disk ps) b → ⊥
+    no b some has =
+        let k = number_count-Contains (used_blocks disk ps) b has in
+        let o = once_from_distinct ((address_blocks at ++ []) ++ used_blocks disk ps) free.distinct b in
+        let a1 = count_append b (address_blocks at ++ []) (used_blocks disk ps) in
+        let a2 = count_append b (address_blocks at) [] in
+        absurd (omega arith)
+
+joined_is : (x q : Pair) (to : ℕ × ℕ) (slots : List Slot) → q.at ≡ x.at → q.content.slots ≡ slots → q.content.tail ≡ Some (record { hard = true; to = to }) → q.content.move ≡ x.content.move → q ≡ pair_joined_to to slots x
+joined_is x q to slots at same tail delta = λ j. record { at = at j; content = record { slots = same j; tail = tail j; move = delta j } }
+
+behind_is : (x y : Pair) → y.content.slots ≡ x.content.slots → y.content.tail ≡ x.content.tail → y.content.move ≡ zero_gstate → y ≡ pair_behind y.at x
+behind_is x y same tail none = λ j. record { at = y.at; content = record { slots = same j; tail = tail j; move = none j } }
+
+pub moved_by_step : (disk new : Disk) (front : List Pair) (p x q y : Pair) (back : List Pair) → IsRelocated disk new front p x q y back → is_worn disk x ≡ true → IsPairMoved disk (front ++ p ∷ x ∷ back) (front ++ q ∷ y ∷ back)
+moved_by_step disk new front p x q y back c due = record {
+  front = front;
+  before = p;
+  worn = x;
+  back = back;
+  to = y.at;
+  was = refl;
+  joined = c.hard;
+  is = ap₂ (λ a b. front ++ a ∷ b ∷ back) (joined_is p q y.at p.content.slots c.at c.slots c.tail c.delta) (λ j. record { at = y.at; content = c.same j });
+  unused = unused_free disk (front ++ p ∷ x ∷ back) y.at c.free;
+  due = due;
+}
+
+pub unloaded_by_step : (disk new : Disk) (front : List Pair) (p x q y : Pair) (back : List Pair) → IsUnloaded disk new (front ++ p ∷ []) x q y back [] → is_hard_tail p.content.tail ≡ false → has_slots x.content.slots ≡ true →
+    LeavesEighth new (front ++ p ∷ q ∷ y ∷ back) → is_worn disk x ≡ true → IsPairUnloaded disk (front ++ p ∷ x ∷ back) new (front ++ p ∷ q ∷ y ∷ back)
+unloaded_by_step disk new front p x q y back c soft some room due = record {
+  front = front;
+  before = p;
+  worn = x;
+  back = back;
+  to = y.at;
+  was = refl;
+  first = soft;
+  some = some;
+  is = ap₂ (λ a b. front ++ p ∷ a ∷ b ∷ back) (joined_is x q y.at [] c.at c.kept c.tail c.delta) (behind_is x y c.slots c.last c.none);
+  unused = subst (λ z. AreUnused disk z y.at) (append_assoc front (p ∷ []) (x ∷ back)) (unused_free disk ((front ++ p ∷ []) ++ x ∷ back) y.at c.free);
+  room = room;
+  due = due;
+}
+
+pub root_by_step : (disk new : Disk) (x q y : Pair) (back : List Pair) → IsUnloaded disk new [] x q y back (take 1 x.content.slots) → pair_count_before_root (x ∷ back) ≡ 0 → LeavesEighth new (q ∷ y ∷ back) → is_worn disk x ≡ true →
+    IsRootUnloaded disk (x ∷ back) new (q ∷ y ∷ back)
+root_by_step disk new x q y back c number room due = record {
+  worn = x;
+  back = back;
+  to = y.at;
+  was = refl;
+  root = number;
+  is = ap₂ (λ a b. a ∷ b ∷ back) (joined_is x q y.at (take 1 x.content.slots) c.at c.kept c.tail c.delta) (behind_is x y c.slots c.last c.none);
+  unused = unused_free disk (x ∷ back) y.at c.free;
+  room = room;
+  due = due;
+}
+
+-- the device without the old pair, where a new one stands before it
+pub device_moved : (disk new : Disk) (ps before : List Pair) (q y x : Pair) (back : List Pair) → IsDevice disk new ps (before ++ q ∷ y ∷ x ∷ back) → IsDevice disk new ps (before ++ q ∷ y ∷ back)
+device_moved disk new ps before q y x back d = record {
+  geometry = d.geometry;
+  contents = All-from_recursion (λ r. content_at new r.at ≡ Some r.content) (before ++ q ∷ y ∷ back) (each_append (λ r. content_at new r.at ≡ Some r.content) before (q ∷ y ∷ back)
+      (each_left (λ r. content_at new r.at ≡ Some r.content) before (q ∷ y ∷ x ∷ back) all) (behind.0, (behind.1.0, behind.1.1.1)));
+  first = d.first;
+  files = d.files;
+}
+  where
+    all : Each (λ r. content_at new r.at ≡ Some r.content) (before ++ q ∷ y ∷ x ∷ back)
+    all = recursion_from_All (λ (r : Pair). content_at new r.at ≡ Some r.content) (before ++ q ∷ y ∷ x ∷ back) d.contents
+
+    behind : Each (λ r. content_at new r.at ≡ Some r.content) (q ∷ y ∷ x ∷ back)
+    behind = each_right (λ r. content_at new r.at ≡ Some r.content) before (q ∷ y ∷ x ∷ back) all

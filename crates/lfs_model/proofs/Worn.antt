@@ -1,16 +1,22 @@
 -- What the moves of a worn pair make of an image, wherever the pair is. The steps that move pairs cite these laws. RootSteps has the
 -- one for the superblock's pair.
-use Rattle.std.proofs.Common.{ℕ, zero, suc, nat_eq, eqb-true, ap₂, Some, ◌≡◌, ◌≢◌, ◌⊎◌, inl, inr, ◌+◌, ◌<◌, ◌≤◌, Bool, true, false, cond, ◌&&◌, List, [], ◌∷◌, ◌++◌, length, take, drop, refl, sym, ap, subst, ◌∙◌, arith, append_assoc, length-take, take-append-drop}
+use Rattle.std.proofs.Common.{ℕ, Option, Some, None, option_map, zero, suc, nat_eq, eqb-true, ap₂, ◌≡◌, ◌≢◌, ◌⊎◌, inl, inr, ◌+◌, ◌<◌, ◌≤◌, Bool, true, false, cond, ◌&&◌, List, [], ◌∷◌, ◌++◌, length, take, drop, refl, sym, ap, subst, ◌∙◌, arith, append_assoc, length-take, take-append-drop}
 use Rattle.std.specs.Prelude.{Contains}
 use Rattle.std.proofs.lemmas.Bool.{cases_lt}
 use Rattle.std.proofs.lemmas.List.Elements.{All-from_recursion, recursion_from_All}
 use Rattle.lfs_model.specs.format.Disk.{Disk, block_count}
-use Rattle.lfs_model.specs.format.Slots.{Slot, PairContent, zero_gstate}
+use Rattle.lfs_model.specs.format.Slots.{Slot, Struct, Inline, Ctz, Branch, PairContent, zero_gstate}
 use Rattle.lfs_model.specs.format.Content.{content_at, current_block}
 use Rattle.lfs_model.specs.format.Thread.{Pair, address_blocks, from_first_slots, first_address, has_slots, has_no_entry, has_superblock, may_continue, is_hard_tail, starts_superblock, pairs_gstate, pair_count_before_root}
 use Rattle.lfs_model.specs.tree.View.{BeginsWith, superblock_entry, IsAccepted}
 use Rattle.lfs_model.specs.tree.Profile.{IsWritable}
-use Rattle.lfs_model.specs.tree.Shown.{used_blocks}
+use Rattle.lfs_model.specs.tree.Shown.{all_entries, struct_list_bytes, used_blocks}
+use Rattle.lfs_model.specs.tree.Tree.{EntryMap, struct_node}
+use Rattle.lfs_model.specs.session.TreeEdits.{is_file}
+use Rattle.lfs_model.specs.session.Operations.{Operation}
+use Rattle.lfs_model.specs.session.Session.{Session}
+use Rattle.lfs_model.specs.session.SlotEdits.{slot_of}
+use Rattle.lfs_model.specs.layers.Keeping.{KeepsStructs}
 use Rattle.lfs_model.specs.session.Moved.{is_worn, AreUnused, LeavesEighth, pair_joined_to, pair_behind, IsPairMoved, IsPairUnloaded, IsRootUnloaded}
 use Rattle.lfs_model.specs.layers.Steps.{ends_joined, IsWritableChange}
 use Rattle.lfs_model.proofs.Counts.{Each, each_append, each_left, each_right, number_count, count_append, count_here, once_from_distinct, distinct_from_once}
@@ -19,6 +25,8 @@ use Rattle.lfs_model.proofs.Global.{HasNoMove}
 use Rattle.lfs_model.proofs.Splices.{IsDevice, AreFree}
 use Rattle.lfs_model.proofs.Superblocks.{IsChain, FromSlots, InFront, Behind, from_front, meets_from, meets_first}
 use Rattle.lfs_model.proofs.Relocated.{IsRelocated, IsUnloaded, relocated_gstate, unloaded_gstate, relocate}
+use Rattle.lfs_model.proofs.KeptStructs.{struct_stays}
+use Rattle.lfs_model.proofs.RootMoved.{IsSameImage}
 use Rattle.lfs_model.proofs.RootSteps.{IsSameWritable, relocate_root}
 use Rattle.lfs_model.proofs.Unloaded.{unload}
 
@@ -271,3 +279,23 @@ device_moved disk new ps before q y x back d = record {
 
     behind : Each (λ r. content_at new r.at ≡ Some r.content) (q ∷ y ∷ x ∷ back)
     behind = each_right (λ r. content_at new r.at ≡ Some r.content) before (q ∷ y ∷ x ∷ back) all
+
+-- ---- structs of files
+
+-- whether a slot stands for a file is told by its struct
+file_told : (c d : ℕ → ℕ → List ℕ) (E F : EntryMap) (o p : Option Slot) → option_map (λ u. u.struct) p ≡ option_map (λ u. u.struct) o → is_file (option_map (λ u. struct_node c E u.attributes u.struct) o) ≡ true →
+    is_file (option_map (λ u. struct_node d F u.attributes u.struct) p) ≡ true
+file_told c d E F None p e f = absurd (cc)
+file_told c d E F (Some u) None e f = absurd (cc)
+file_told c d E F (Some u) (Some v) e f = let k : v.struct ≡ u.struct = cc in subst (λ t. is_file (Some (struct_node d F v.attributes t)) ≡ true) (sym k) (go u.struct f)
+  where
+    go : (t : Struct) → is_file (Some (struct_node c E u.attributes t)) ≡ true → is_file (Some (struct_node d F v.attributes t)) ≡ true
+    go (Inline bytes) g = refl
+    go (Ctz head size) g = refl
+    go (Branch to) g = absurd (cc)
+
+-- the files that an operation isn't about keep their structs through the move after it
+pub structs_moved : (disk : Disk) (ps : List Pair) (s : Session) (op : Operation) (mid : Disk) (between : List Pair) (new : Disk) (qs : List Pair) → KeepsStructs disk ps s op between → IsSameImage mid between new qs → KeepsStructs disk ps s op qs
+structs_moved disk ps s op mid between new qs h k q file off elsewhere =
+    let same = h q file off elsewhere in
+    struct_stays mid between qs q (file_told (struct_list_bytes disk) (struct_list_bytes mid) (all_entries ps) (all_entries between) (slot_of ps q) (slot_of between q) same file) (k.stays q) ∙ same

@@ -1,12 +1,11 @@
 -- What a call leaves: the map, the device and its errors. `sets` and `later` are the map before and after, `old` and `new` are the
 -- device.
 use Rattle.std.specs.Prelude.{ℕ, ◌≤◌, ◌+◌, List, Result, OnOk}
-use Rattle.lfs_device.specs.DeviceCalls.{ReadsOnly}
+use Rattle.lfs_device.specs.DeviceCalls.{ReadsOnly, ReportsIoOrNoMemory, ReportsNoErrorButIo}
 use Rattle.lfs_device.specs.declared.device.BlockDevice.{Ghosts}
 use Rattle.lfs_device.specs.declared.error.Error.{Error}
 use Rattle.lfs_model.specs.layers.BlockSets.{BlockStates}
 use Rattle.lfs_model.specs.session.History.{read_count}
-use Rattle.lfs_file.specs.FileCalls.{ReportsNoErrorButIo, ReportsIoOrNoMemory}
 use Rattle.lfs_file.specs.ContentsCalls.{CallKeepsTakenBlocksExceptUnwritten, CallKeepsUsedBytes}
 use Rattle.lfs_file.specs.Hand.{KeepsUsedBlocks}
 use Rattle.lfs_file.specs.TakenBlocks.{ChangesOnlyFree}

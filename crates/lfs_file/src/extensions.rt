@@ -3,7 +3,7 @@
 ghost use Rattle.std.specs.Prelude.{◌≡◌, ◌≤◌, ◌<◌, ◌+◌, ◌++◌, ◌^◌, ℕ, length, OnOk};
 ghost use Rattle.lfs_model.specs.layers.BlockSets.{in_flight_count, used_count};
 ghost use Rattle.lfs_model.specs.format.SkipLists.{block_count_for};
-ghost use Rattle.lfs_file.specs.FileCalls.{ReportsIoOrNoMemory};
+ghost use Rattle.lfs_device.specs.DeviceCalls.{ReportsIoOrNoMemory};
 ghost use Rattle.lfs_file.specs.Growing.{IsOnDisk, kept_blocks, unwritten_block, growing_bytes, growing_size};
 ghost use Rattle.lfs_file.specs.BlocksApart.{HasBlocksTaken};
 ghost use Rattle.lfs_file.specs.ContentsCalls.{CallKeepsTakenBlocksExceptUnwritten};

@@ -5,7 +5,7 @@ ghost use Rattle.std.specs.Bool.{OnFalse, OnTrue};
 ghost use Rattle.lfs_model.specs.layers.BlockSets.{used_count};
 ghost use Rattle.lfs_model.specs.format.SkipLists.{block_count_for};
 ghost use Rattle.lfs_model.specs.session.Writers.{written_contents};
-ghost use Rattle.lfs_file.specs.FileCalls.{ReportsIoOrNoMemory};
+ghost use Rattle.lfs_device.specs.DeviceCalls.{ReportsIoOrNoMemory};
 ghost use Rattle.lfs_file.specs.Growing.{fit_unwritten, growing_size};
 ghost use Rattle.lfs_file.specs.ContentsCalls.{CallKeepsUsedBytes};
 ghost use Rattle.lfs_file.specs.Hand.{KeepsUsedBlocks};

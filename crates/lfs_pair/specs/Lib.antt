@@ -5,3 +5,5 @@ pub mod Commits
 pub mod HalfCut
 pub mod FreshPair
 pub mod Split
+pub mod Fetching
+pub mod Endings

@@ -10,17 +10,7 @@ use Rattle.lfs_file.specs.ContentsCalls.{CallKeepsTakenBlocksExceptUnwritten, Ca
 use Rattle.lfs_file.specs.Hand.{KeepsUsedBlocks}
 use Rattle.lfs_file.specs.TakenBlocks.{ChangesOnlyFree}
 
--- The device was only read, and the only error is `Io`.
-pub record OnlyReadsOrIo {D X : Type 0} (g : Ghosts D) (old new : D) (result : Result X Error) : Type 0 where
-  pub device : ReadsOnly g old new
-  pub reports : ReportsNoErrorButIo g old new result
-
--- the same, and `NoMemory` may come too
-pub record OnlyReadsOrNoMemory {D X : Type 0} (g : Ghosts D) (old new : D) (result : Result X Error) : Type 0 where
-  pub device : ReadsOnly g old new
-  pub reports : ReportsIoOrNoMemory g old new result
-
--- the same of the only error `Io`, and a call that succeeds takes at most so many reads
+-- The device was only read, the only error is `Io`, and a call that succeeds takes at most so many reads
 pub record ReadsAtMost {D X : Type 0} (g : Ghosts D) (old new : D) (most : ℕ) (result : Result X Error) : Type 0 where
   pub device : ReadsOnly g old new
   pub reports : ReportsNoErrorButIo g old new result

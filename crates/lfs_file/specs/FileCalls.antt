@@ -11,4 +11,3 @@ pub record OnlyReadsOrCorrupt {D X : Type 0} (g : Ghosts D) (old new : D) (resul
   pub device : ReadsOnly g old new
   pub faults : ReportsFaults g old new result
   pub errors : IfErr result (λ e. (e ≡ Io) ⊎ (e ≡ Corrupt))
-

@@ -2,7 +2,7 @@ ghost use Rattle.std.specs.Prelude.{◌≡◌, ◌⊎◌, ◌<◌, ◌≤◌, �
 ghost use Rattle.std.specs.Bool.{OnFalse, OnTrue};
 ghost use Rattle.lfs_model.specs.format.Blocks.{block_bytes};
 ghost use Rattle.lfs_model.specs.layers.Cache.{cache_limit, cached_bytes, cache_with_block, cache_without_block};
-ghost use Rattle.lfs_device.specs.DeviceCalls.{ReadsOnly, ReportsFaults};
+ghost use Rattle.lfs_device.specs.DeviceCalls.{OnlyReadsOrIo, OnlyReadsOrNoMemory, ReadsOnly, ReportsFaults};
 ghost use Rattle.lfs_model.specs.session.History.{read_count};
 ghost use Rattle.lfs_blocks.specs.BlockReads.{ReadsBlockUnlessCached, ReadsOnceUnlessCached};
 
@@ -61,9 +61,7 @@ impl Cache {
         ensures err { OnErr result (self.new ≡ self.old) }
         ensures few { length self.new ≤ cache_limit }
         ensures calls { ReadsBlockUnlessCached D.BlockDevice (cached_bytes self.old block) block device.old device.new result }
-        ensures device { ReadsOnly D.BlockDevice device.old device.new }
-        ensures faults { ReportsFaults D.BlockDevice device.old device.new result }
-        ensures errors { IfErr result (λ e. (e ≡ Error.Io) ⊎ (e ≡ Error.NoMemory)) }
+        ensures reading { OnlyReadsOrNoMemory D.BlockDevice device.old device.new result }
     {
         if self.promote(block) {
             return Ok(());
@@ -92,9 +90,7 @@ impl Cache {
         ensures bytes { OnOk result (buf.new ≡ slice_range (block_bytes (D.blocks device.old) block) offset (offset + length buf.old)) }
         ensures cached { (self.new ≡ self.old) ⊎ (self.new ≡ cache_with_block self.old block (block_bytes (D.blocks device.old) block)) }
         ensures few { ReadsOnceUnlessCached D.BlockDevice (cached_bytes self.old block) device.old device.new }
-        ensures device { ReadsOnly D.BlockDevice device.old device.new }
-        ensures faults { ReportsFaults D.BlockDevice device.old device.new result }
-        ensures errors { IfErr result (λ e. e ≡ Error.Io) }
+        ensures reading { OnlyReadsOrIo D.BlockDevice device.old device.new result }
     {
         if let Some(bytes) = self.lend(block) {
             copy_range(bytes, offset, buf);

@@ -1,6 +1,7 @@
 -- What a call of a device with a fault does in the device below.
-use Rattle.std.specs.Prelude.{◌≡◌, ℕ, Bool, true, false, Option, Some, None, ◌∷◌, List, [], take}
+use Rattle.std.specs.Prelude.{◌≡◌, ℕ, Bool, true, false, Option, Some, None, ◌∷◌, List, [], take, Result, OnOk}
 use Rattle.lfs_device.specs.declared.device.BlockDevice.{Ghosts}
+use Rattle.lfs_device.specs.declared.error.Error.{Error}
 use Rattle.lfs_device.specs.declared.fault.FaultExtent.{FaultExtent}
 use Rattle.lfs_device.specs.declared.fault.FaultExtent.TheVariants.{Nothing, FirstBytes, Whole}
 use Rattle.lfs_model.specs.session.History.{DeviceCall, call_event, fault_count}
@@ -28,6 +29,11 @@ PassesCallOrFails g None call failed old new = PassesCall g call failed old new
 PassesCallOrFails g (Some Nothing) call failed old new = (failed ≡ true) × (new ≡ old)
 PassesCallOrFails g (Some (FirstBytes k)) call failed old new = (failed ≡ true) × LeavesUnlessProgram g call old new
 PassesCallOrFails g (Some Whole) call failed old new = (failed ≡ true) × (AddsNoFault g old new → PassesCall g call false old new)
+
+-- the fact holds where the call is Ok, and where it failed after all of it was done below without a fault
+pub record IfDone {D X : Type 0} (g : Ghosts D) (due : Option FaultExtent) (old new : D) (result : Result X Error) (Fact : Type 0) : Type 0 where
+  pub ok : OnOk result Fact
+  pub whole : due ≡ Some Whole → AddsNoFault g old new → Fact
 
 -- the bytes of a program that are stored
 abbrev pub stored_bytes : FaultExtent → List ℕ → List ℕ

@@ -1,12 +1,12 @@
 -- What a function may promise of the device that it is given: `g` is what a contract sees of the device, `old` and `new` are the
 -- device before and after. Each record joins facts that always come together.
-use Rattle.std.specs.Prelude.{◌≡◌, ◌<◌, ℕ, List, [], ◌∷◌, Result}
-use Rattle.std.specs.Prelude.{IsErrOf}
+use Rattle.std.specs.Prelude.{◌≡◌, ◌<◌, ◌⊎◌, ℕ, true, false, List, [], ◌∷◌, Result, IfErr, IsErrOf, OnOk}
 use Rattle.lfs_device.specs.declared.device.BlockDevice.{Ghosts}
 use Rattle.lfs_device.specs.declared.error.Error.{Error}
-use Rattle.lfs_device.specs.declared.error.Error.TheVariants.{Io}
+use Rattle.lfs_device.specs.declared.error.Error.TheVariants.{Io, NoMemory}
 use Rattle.lfs_model.specs.format.Blocks.{SameExcept, SameExceptThese}
-use Rattle.lfs_model.specs.session.History.{LossLeavesAtWorst, HoldsAtLosses, OnlyReadsSince, StayUnprogrammed, fault_count}
+use Rattle.lfs_model.specs.session.History.{LossLeavesAtWorst, HoldsAtLosses, OnlyReadsSince, StayUnprogrammed, call_event, fault_count}
+use Rattle.lfs_model.specs.session.History.DeviceCall.{Read}
 
 -- The device is only read: its blocks stay, and so does what a loss of power may leave.
 pub record ReadsOnly {D : Type 0} (g : Ghosts D) (old new : D) : Type 0 where
@@ -33,3 +33,31 @@ pub record ChangesOnlyTheseBlocks {D : Type 0} (g : Ghosts D) (bs : List ℕ) (o
 pub record ReportsFaults {D X : Type 0} (g : Ghosts D) (old new : D) (result : Result X Error) : Type 0 where
   pub fault : IsErrOf result Io → fault_count (g.history old) < fault_count (g.history new)
   pub no_fault : (IsErrOf result Io → ⊥) → fault_count (g.history new) ≡ fault_count (g.history old)
+
+-- `Io` comes with a fault of the device, success without one, and no other error comes.
+pub record ReportsNoErrorButIo {D X : Type 0} (g : Ghosts D) (old new : D) (result : Result X Error) : Type 0 where
+  pub faults : ReportsFaults g old new result
+  pub errors : IfErr result (λ e. e ≡ Io)
+
+-- the same of a call that takes memory: `NoMemory` comes without a fault
+pub record ReportsIoOrNoMemory {D X : Type 0} (g : Ghosts D) (old new : D) (result : Result X Error) : Type 0 where
+  pub faults : ReportsFaults g old new result
+  pub errors : IfErr result (λ e. (e ≡ Io) ⊎ (e ≡ NoMemory))
+
+-- The device is only read. `Io` comes with a fault of the device, success without one, and no other error comes.
+pub record OnlyReadsOrIo {D X : Type 0} (g : Ghosts D) (old new : D) (result : Result X Error) : Type 0 where
+  pub device : ReadsOnly g old new
+  pub faults : ReportsFaults g old new result
+  pub errors : IfErr result (λ e. e ≡ Io)
+
+-- the same of a call that takes memory: `NoMemory` comes without a fault
+pub record OnlyReadsOrNoMemory {D X : Type 0} (g : Ghosts D) (old new : D) (result : Result X Error) : Type 0 where
+  pub device : ReadsOnly g old new
+  pub faults : ReportsFaults g old new result
+  pub errors : IfErr result (λ e. (e ≡ Io) ⊎ (e ≡ NoMemory))
+
+-- There is one read, which fails where the result is `Io`. There is none where memory wasn't granted.
+pub record ReadsOnce {D X : Type 0} (g : Ghosts D) (b off len : ℕ) (old new : D) (result : Result X Error) : Type 0 where
+  pub ok : OnOk result (g.history new ≡ call_event (Read b off len) (g.blocks old) (g.blocks old) false ∷ g.history old)
+  pub io : IsErrOf result Io → g.history new ≡ call_event (Read b off len) (g.blocks old) (g.blocks old) true ∷ g.history old
+  pub no_memory : IsErrOf result NoMemory → g.history new ≡ g.history old

@@ -1,5 +1,6 @@
 pub mod ByteLists
 pub mod Bytes
+pub mod BlockCalls
 pub mod DeviceCalls
 pub mod CallsBelow
 pub mod Erased

@@ -1,8 +1,11 @@
--- What stays where a part of a block is programmed.
-use Rattle.std.specs.Prelude.{◌≡◌, ◌≢◌, ◌≤◌, ◌<◌, ℕ, true, List}
+-- What a call that a fault cuts short asks of a block, and what it leaves.
+use Rattle.std.specs.Prelude.{◌≡◌, ◌≢◌, ◌≤◌, ◌<◌, ℕ, ◌+◌, ◌%◌, true, List, Result, is_err}
 use Rattle.lfs_device.specs.declared.device.BlockDevice.{Ghosts}
+use Rattle.lfs_device.specs.declared.error.Error.{Error}
+use Rattle.lfs_device.specs.declared.geometry.Geometry.{Geometry}
 use Rattle.lfs_model.specs.format.Blocks.{SameExcept, SameOutside, block_bytes}
-use Rattle.lfs_model.specs.session.History.{CallEvent, fault_count, is_unprogrammed_byte}
+use Rattle.lfs_model.specs.session.History.{CallEvent, fault_count, is_unprogrammed_byte, unprogrammed_after, AreUnprogrammed}
+use Rattle.lfs_model.specs.session.History.DeviceCall.{Erase}
 
 -- outside the part, bytes that were unprogrammed still are
 pub record StayUnprogrammedOutside (b low high : ℕ) (old new : List CallEvent) : Type 0 where
@@ -17,3 +20,17 @@ pub record ChangesOnlyPartOfBlock {D : Type 0} (g : Ghosts D) (b low high : ℕ)
   pub geometry : g.geometry new ≡ g.geometry old
   pub faults : fault_count (g.history old) ≤ fault_count (g.history new)
   pub keeps : StayUnprogrammedOutside b low high (g.history old) (g.history new)
+
+-- only this block changes, and the number of faults doesn't get less; what is unprogrammed after the erase is so below
+pub record ChangesOnlyErasedBlock {D : Type 0} (g : Ghosts D) (b : ℕ) (old new : D) (result : Result Unit Error) : Type 0 where
+  pub others : SameExcept b (g.blocks old) (g.blocks new)
+  pub geometry : g.geometry new ≡ g.geometry old
+  pub faults : fault_count (g.history old) ≤ fault_count (g.history new)
+  pub keeps : (other k : ℕ) → unprogrammed_after (Erase b) (is_err result) other k (is_unprogrammed_byte (g.history old) other k) ≡ true → is_unprogrammed_byte (g.history new) other k ≡ true
+
+-- a page of the block begins at the offset, and each of its bytes is unprogrammed
+pub record IsUnprogrammedPage (geometry : Geometry) (history : List CallEvent) (b off : ℕ) : Type 0 where
+  pub in_device : b < geometry.block_count
+  pub in_block : off + geometry.page ≤ geometry.block_size
+  pub begins : off % geometry.page ≡ 0
+  pub unprogrammed : AreUnprogrammed history b off (off + geometry.page)

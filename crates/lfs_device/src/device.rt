@@ -1,10 +1,11 @@
-ghost use Rattle.std.specs.Prelude.{◌≡◌, true, false, ◌≤◌, ◌<◌, ℕ, ◌+◌, ◌%◌, List, ◌∷◌, length, slice_range, is_err, IfErr, IsErrOf, OnOk, OnErr, Ok};
-ghost use Rattle.lfs_model.specs.format.Blocks.{Blocks, HasBlockSizes, SameExcept, SameOutside, block_bytes, programmed};
-ghost use Rattle.lfs_model.specs.session.History.{CallEvent, call_event, AreUnprogrammed, LeftByLatest};
-ghost use Rattle.lfs_model.specs.session.History.DeviceCall.{Read, Program, Erase, Blank};
+ghost use Rattle.std.specs.Prelude.{◌≡◌, ◌<◌, ◌+◌, List, ◌∷◌, length, slice_range, is_err, IfErr, OnOk};
+ghost use Rattle.lfs_model.specs.format.Blocks.{Blocks, HasBlockSizes, SameExcept, block_bytes};
+ghost use Rattle.lfs_model.specs.session.History.{CallEvent, call_event, LeftByLatest};
+ghost use Rattle.lfs_model.specs.session.History.DeviceCall.{Read, Program, Erase};
 ghost use Rattle.lfs_model.specs.crash.Conformance.{CallsConform};
 ghost use Rattle.lfs_device.specs.declared.geometry.Geometry.{Geometry};
 ghost use Rattle.lfs_device.specs.Bytes.{HoldBytes};
+ghost use Rattle.lfs_device.specs.BlockCalls.{AsksIfBlank, CanProgram, IsWithinBlock, Programs};
 
 use crate::{Error, Geometry};
 
@@ -37,8 +38,7 @@ pub trait BlockDevice {
     ///
     /// Errors: `Io` where the device failed. The buffer may then hold any bytes.
     fn read(&mut self, block: u32, off: u32, buf: &mut [u8]) -> Result<(), Error>
-        requires in_device { block < (geometry self.old).block_count }
-        requires in_block { off + length buf.old ≤ (geometry self.old).block_size }
+        requires within { IsWithinBlock (geometry self.old) block off (length buf.old) }
         ensures bytes { OnOk result (buf.new ≡ slice_range (block_bytes (blocks self.old) block) off (off + length buf.old)) }
         ensures same { blocks self.new ≡ blocks self.old }
         ensures geometry { geometry self.new ≡ geometry self.old }
@@ -51,14 +51,8 @@ pub trait BlockDevice {
     /// Errors: `Io` where the device failed. These pages may then hold any bytes, and count as
     /// programmed.
     fn prog(&mut self, block: u32, off: u32, bytes: &[u8]) -> Result<(), Error>
-        requires in_device { block < (geometry self.old).block_count }
-        requires in_block { off + length bytes.now ≤ (geometry self.old).block_size }
-        requires begins { off % (geometry self.old).page ≡ 0 }
-        requires ends { (off + length bytes.now) % (geometry self.old).page ≡ 0 }
-        requires unprogrammed { AreUnprogrammed (history self.old) block off (off + length bytes.now) }
-        ensures ok { OnOk result (blocks self.new ≡ programmed (blocks self.old) block off bytes.now) }
-        ensures err { OnErr result (SameOutside off (off + length bytes.now) (block_bytes (blocks self.old) block) (block_bytes (blocks self.new) block)) }
-        ensures others { SameExcept block (blocks self.old) (blocks self.new) }
+        requires can { CanProgram (geometry self.old) (history self.old) block off (length bytes.now) }
+        ensures programs { Programs block off bytes.now (blocks self.old) (blocks self.new) result }
         ensures geometry { geometry self.new ≡ geometry self.old }
         ensures history { history self.new ≡ call_event (Program block off bytes.now) (blocks self.old) (blocks self.new) (is_err result) ∷ history self.old }
         ensures error { IfErr result (λ e. e ≡ Error.Io) };
@@ -81,13 +75,10 @@ pub trait BlockDevice {
     ///
     /// Errors: `Io` where the device failed.
     fn is_unprogrammed(&mut self, block: u32, off: u32, len: u32) -> Result<bool, Error>
-        requires in_device { block < (geometry self.old).block_count }
-        requires in_block { off + len ≤ (geometry self.old).block_size }
+        requires within { IsWithinBlock (geometry self.old) block off len }
         ensures same { blocks self.new ≡ blocks self.old }
         ensures geometry { geometry self.new ≡ geometry self.old }
-        ensures yes { result ≡ Ok true → history self.new ≡ call_event (Blank block off len) (blocks self.old) (blocks self.new) false ∷ history self.old }
-        ensures no { result ≡ Ok false → history self.new ≡ history self.old }
-        ensures failed { IsErrOf result Error.Io → history self.new ≡ call_event (Blank block off len) (blocks self.old) (blocks self.new) true ∷ history self.old }
+        ensures asks { AsksIfBlank block off len (blocks self.old) (blocks self.new) (history self.old) (history self.new) result }
         ensures error { IfErr result (λ e. e ≡ Error.Io) }
     {
         let _ = (block, off, len);

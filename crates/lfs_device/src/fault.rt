@@ -1,9 +1,10 @@
-ghost use Rattle.std.specs.Prelude.{◌≡◌, ◌≤◌, ◌<◌, ◌+◌, ◌-◌, ◌%◌, ◌^◌, ◌||◌, ℕ, true, false, min, [], length, slice_range, is_err, IfSome, OnOk, OnErr, Some};
-ghost use Rattle.lfs_model.specs.format.Blocks.{SameExcept, SameOutside, block_bytes, programmed};
-ghost use Rattle.lfs_model.specs.session.History.{read_count, program_count, erase_count, fault_count, is_unprogrammed_byte, AreUnprogrammed, LeftByLatest};
+ghost use Rattle.std.specs.Prelude.{◌≡◌, ◌≤◌, ◌<◌, ◌+◌, ◌-◌, ◌^◌, ◌||◌, ℕ, true, false, min, [], length, slice_range, is_err, IfSome, OnOk, Some};
+ghost use Rattle.lfs_model.specs.format.Blocks.{SameExcept, block_bytes, programmed};
+ghost use Rattle.lfs_model.specs.session.History.{read_count, program_count, erase_count, fault_count, is_unprogrammed_byte, LeftByLatest};
 ghost use Rattle.lfs_model.specs.session.History.DeviceCall.{Read, Program, Erase};
 ghost use Rattle.lfs_model.specs.crash.Conformance.{CallsConform};
 ghost use Rattle.lfs_model.specs.crash.Premises.{MeetsPremises};
+ghost use Rattle.lfs_device.specs.BlockCalls.{CanProgram, IsWithinBlock, Programs};
 ghost use Rattle.lfs_device.specs.Fault.{call_count, extent_if_due, failing_extent, have_due_failed, is_partial, unplanned_faults};
 ghost use Rattle.lfs_device.specs.DevicePremises.{DevicesMeetPremises};
 ghost use Rattle.lfs_device.specs.CallsBelow.{AddsNoFault, PassesCallOrFails, stored_bytes};
@@ -226,8 +227,7 @@ impl<D: BlockDevice> BlockDevice for FaultDevice<D> {
     }
 
     fn read(&mut self, block: u32, off: u32, buf: &mut [u8]) -> Result<(), Error>
-        requires in_device { block < (D.geometry (inner_device self.old)).block_count }
-        requires in_block { off + length buf.old ≤ (D.geometry (inner_device self.old)).block_size }
+        requires within { IsWithinBlock (D.geometry (inner_device self.old)) block off (length buf.old) }
         ensures carried { PassesCallOrFails ⟦<D as BlockDevice>⟧ (extent_if_due (planned_fault self.old) (Read block off (length buf.old)) (fault_history self.old))
             (Read block off (length buf.old)) (is_err result) (inner_device self.old) (inner_device self.new) }
         ensures whole { extent_if_due (planned_fault self.old) (Read block off (length buf.old)) (fault_history self.old) ≡ Some FaultExtent.Whole
@@ -247,19 +247,13 @@ impl<D: BlockDevice> BlockDevice for FaultDevice<D> {
     }
 
     fn prog(&mut self, block: u32, off: u32, bytes: &[u8]) -> Result<(), Error>
-        requires in_device { block < (D.geometry (inner_device self.old)).block_count }
-        requires in_block { off + length bytes.now ≤ (D.geometry (inner_device self.old)).block_size }
-        requires begins { off % (D.geometry (inner_device self.old)).page ≡ 0 }
-        requires ends { (off + length bytes.now) % (D.geometry (inner_device self.old)).page ≡ 0 }
-        requires unprogrammed { AreUnprogrammed (fault_history self.old) block off (off + length bytes.now) }
+        requires can { CanProgram (D.geometry (inner_device self.old)) (fault_history self.old) block off (length bytes.now) }
         ensures carried { PassesCallOrFails ⟦<D as BlockDevice>⟧ (extent_if_due (planned_fault self.old) (Program block off bytes.now) (fault_history self.old))
             (Program block off bytes.now) (is_err result) (inner_device self.old) (inner_device self.new) }
         ensures stored { IfSome (extent_if_due (planned_fault self.old) (Program block off bytes.now) (fault_history self.old))
             (λ extent. AddsNoFault ⟦<D as BlockDevice>⟧ (inner_device self.old) (inner_device self.new)
             → inner_blocks self.new ≡ programmed (inner_blocks self.old) block off (stored_bytes extent bytes.now)) }
-        ensures ok { OnOk result (inner_blocks self.new ≡ programmed (inner_blocks self.old) block off bytes.now) }
-        ensures err { OnErr result (SameOutside off (off + length bytes.now) (block_bytes (inner_blocks self.old) block) (block_bytes (inner_blocks self.new) block)) }
-        ensures others { SameExcept block (inner_blocks self.old) (inner_blocks self.new) }
+        ensures programs { Programs block off bytes.now (inner_blocks self.old) (inner_blocks self.new) result }
         ensures noted { AddsCallToHistory (Program block off bytes.now) self.old self.new result }
     {
         let counts = matches!(self.fault.which, CountedCalls::Any | CountedCalls::Program);

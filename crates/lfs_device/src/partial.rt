@@ -1,10 +1,11 @@
-ghost use Rattle.std.specs.Prelude.{◌≡◌, ◌≤◌, ◌<◌, ◌+◌, ◌%◌, ℕ, true, length, take, slice_range, is_err, IfSome, IfErr, OnOk, OnErr, Some};
-ghost use Rattle.lfs_model.specs.format.Blocks.{SameExcept, block_bytes, programmed};
-ghost use Rattle.lfs_model.specs.session.History.{fault_count, is_unprogrammed_byte, unprogrammed_after, AreUnprogrammed};
+ghost use Rattle.std.specs.Prelude.{◌≡◌, ◌≤◌, ◌<◌, ◌+◌, length, take, slice_range, is_err, IfSome, IfErr, OnOk, OnErr};
+ghost use Rattle.lfs_model.specs.format.Blocks.{block_bytes, programmed};
+ghost use Rattle.lfs_model.specs.session.History.{fault_count};
 ghost use Rattle.lfs_model.specs.session.History.DeviceCall.{Read, Program, Erase};
 ghost use Rattle.lfs_device.specs.DeviceCalls.{ReadsOnly};
-ghost use Rattle.lfs_device.specs.CallsBelow.{AddsNoFault, PassesCallOrFails, stored_bytes};
-ghost use Rattle.lfs_device.specs.Partial.{ChangesOnlyPartOfBlock};
+ghost use Rattle.lfs_device.specs.BlockCalls.{CanProgram, IsWithinBlock};
+ghost use Rattle.lfs_device.specs.CallsBelow.{AddsNoFault, IfDone, PassesCallOrFails, stored_bytes};
+ghost use Rattle.lfs_device.specs.Partial.{ChangesOnlyErasedBlock, ChangesOnlyPartOfBlock, IsUnprogrammedPage};
 
 use crate::fault::FaultExtent;
 use crate::{BlockDevice, Error};
@@ -17,12 +18,9 @@ pub(crate) fn read_as_planned<D: BlockDevice>(
     off: u32,
     buf: &mut [u8],
 ) -> Result<(), Error>
-    requires in_device { block < (D.geometry device.old).block_count }
-    requires in_block { off + length buf.old ≤ (D.geometry device.old).block_size }
+    requires within { IsWithinBlock (D.geometry device.old) block off (length buf.old) }
     ensures carried { PassesCallOrFails ⟦<D as BlockDevice>⟧ due (Read block off (length buf.old)) (is_err result) device.old device.new }
-    ensures whole { due ≡ Some FaultExtent.Whole → AddsNoFault ⟦<D as BlockDevice>⟧ device.old device.new
-        → buf.new ≡ slice_range (block_bytes (D.blocks device.old) block) off (off + length buf.old) }
-    ensures bytes { OnOk result (buf.new ≡ slice_range (block_bytes (D.blocks device.old) block) off (off + length buf.old)) }
+    ensures bytes { IfDone D.BlockDevice due device.old device.new result (buf.new ≡ slice_range (block_bytes (D.blocks device.old) block) off (off + length buf.old)) }
     ensures device { ReadsOnly D.BlockDevice device.old device.new }
     ensures error { IfErr result (λ e. e ≡ Error.Io) }
     ensures faults { fault_count (D.history device.old) ≤ fault_count (D.history device.new) }
@@ -45,11 +43,7 @@ pub(crate) fn program_as_planned<D: BlockDevice>(
     off: u32,
     bytes: &[u8],
 ) -> Result<(), Error>
-    requires in_device { block < (D.geometry device.old).block_count }
-    requires in_block { off + length bytes.now ≤ (D.geometry device.old).block_size }
-    requires begins { off % (D.geometry device.old).page ≡ 0 }
-    requires ends { (off + length bytes.now) % (D.geometry device.old).page ≡ 0 }
-    requires unprogrammed { AreUnprogrammed (D.history device.old) block off (off + length bytes.now) }
+    requires can { CanProgram (D.geometry device.old) (D.history device.old) block off (length bytes.now) }
     ensures carried { PassesCallOrFails ⟦<D as BlockDevice>⟧ due (Program block off bytes.now) (is_err result) device.old device.new }
     ensures stored { IfSome due (λ extent. AddsNoFault ⟦<D as BlockDevice>⟧ device.old device.new
         → D.blocks device.new ≡ programmed (D.blocks device.old) block off (stored_bytes extent bytes.now)) }
@@ -79,11 +73,8 @@ pub(crate) fn erase_as_planned<D: BlockDevice>(
 ) -> Result<(), Error>
     requires { block < (D.geometry device.old).block_count }
     ensures carried { PassesCallOrFails ⟦<D as BlockDevice>⟧ due (Erase block) (is_err result) device.old device.new }
-    ensures others { SameExcept block (D.blocks device.old) (D.blocks device.new) }
-    ensures geometry { D.geometry device.new ≡ D.geometry device.old }
+    ensures block { ChangesOnlyErasedBlock D.BlockDevice block device.old device.new result }
     ensures error { IfErr result (λ e. e ≡ Error.Io) }
-    ensures faults { fault_count (D.history device.old) ≤ fault_count (D.history device.new) }
-    ensures keeps { (b k : ℕ) → unprogrammed_after (Erase block) (is_err result) b k (is_unprogrammed_byte (D.history device.old) b k) ≡ true → is_unprogrammed_byte (D.history device.new) b k ≡ true }
 {
     match due {
         None => device.erase(block),
@@ -104,11 +95,7 @@ pub(crate) fn program_first_bytes<D: BlockDevice>(
     bytes: &[u8],
     k: u32,
 ) -> Result<(), Error>
-    requires in_device { block < (D.geometry device.old).block_count }
-    requires in_block { off + length bytes.now ≤ (D.geometry device.old).block_size }
-    requires begins { off % (D.geometry device.old).page ≡ 0 }
-    requires ends { (off + length bytes.now) % (D.geometry device.old).page ≡ 0 }
-    requires unprogrammed { AreUnprogrammed (D.history device.old) block off (off + length bytes.now) }
+    requires can { CanProgram (D.geometry device.old) (D.history device.old) block off (length bytes.now) }
     ensures ok { OnOk result (D.blocks device.new ≡ programmed (D.blocks device.old) block off (take k bytes.now)) }
     ensures part { ChangesOnlyPartOfBlock D.BlockDevice block off (off + length bytes.now) device.old device.new }
     ensures err { OnErr result (fault_count (D.history device.old) < fault_count (D.history device.new)) }
@@ -130,11 +117,8 @@ fn program_page_part<D: BlockDevice>(
     off: u32,
     bytes: &[u8],
 ) -> Result<(), Error>
-    requires in_device { block < (D.geometry device.old).block_count }
     requires in_page { length bytes.now ≤ (D.geometry device.old).page }
-    requires in_block { off + (D.geometry device.old).page ≤ (D.geometry device.old).block_size }
-    requires begins { off % (D.geometry device.old).page ≡ 0 }
-    requires unprogrammed { AreUnprogrammed (D.history device.old) block off (off + (D.geometry device.old).page) }
+    requires page { IsUnprogrammedPage (D.geometry device.old) (D.history device.old) block off }
     ensures ok { OnOk result (D.blocks device.new ≡ programmed (D.blocks device.old) block off bytes.now) }
     ensures part { ChangesOnlyPartOfBlock D.BlockDevice block off (off + (D.geometry device.old).page) device.old device.new }
     ensures err { OnErr result (fault_count (D.history device.old) < fault_count (D.history device.new)) }

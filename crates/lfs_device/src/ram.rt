@@ -1,6 +1,6 @@
-ghost use Rattle.std.specs.Prelude.{◌≡◌, ◌≤◌, ◌<◌, ◌+◌, ◌*◌, ◌%◌, [], ◌∷◌, false, true, length, replicate, slice_range, IsOk, IfOk, OnErr, MatchResult};
+ghost use Rattle.std.specs.Prelude.{◌≡◌, ◌≤◌, ◌<◌, ◌+◌, ◌*◌, [], ◌∷◌, false, true, length, replicate, slice_range, IsOk, IfOk, OnErr, MatchResult};
 ghost use Rattle.lfs_model.specs.format.Blocks.{SameExcept, block_bytes, cut, overwritten_at, programmed};
-ghost use Rattle.lfs_model.specs.session.History.{call_event, fault_count, AreUnprogrammed, LeftByLatest};
+ghost use Rattle.lfs_model.specs.session.History.{call_event, fault_count, LeftByLatest};
 ghost use Rattle.lfs_model.specs.session.History.DeviceCall.{Read, Program, Erase, Blank};
 ghost use Rattle.lfs_model.specs.crash.Conformance.{CallsConform};
 ghost use Rattle.lfs_model.specs.crash.Premises.{MeetsPremises};
@@ -188,7 +188,8 @@ fn fill_erased(all: &mut Vec<u8>, at: usize, len: usize, erased: Erased)
 impl BlockDevice for RamDevice {
     ghost use Rattle.lfs_model.proofs.Cuts.{HasBlockSizes-cut};
     ghost use Rattle.lfs_device.specs.ByteLists.{HasBytes-cut};
-    ghost use Rattle.lfs_device.specs.RamDevice.{ram_geometry, ram_bytes, ram_blocks, erase_effect, ram_history};
+    ghost use Rattle.lfs_device.specs.BlockCalls.{CanProgram, IsWithinBlock};
+    ghost use Rattle.lfs_device.specs.RamDevice.{KeepsSettings, ram_geometry, ram_bytes, ram_blocks, erase_effect, ram_history};
 
     ghost geometry = { ram_geometry };
 
@@ -209,13 +210,11 @@ impl BlockDevice for RamDevice {
     }
 
     fn read(&mut self, block: u32, off: u32, buf: &mut [u8]) -> Result<(), Error>
-        requires in_device { block < (ram_geometry self.old).block_count }
-        requires in_block { off + length buf.old ≤ (ram_geometry self.old).block_size }
+        requires within { IsWithinBlock (ram_geometry self.old) block off (length buf.old) }
         ensures ok { IsOk result }
         ensures bytes { buf.new ≡ slice_range (block_bytes (ram_blocks self.old) block) off (off + length buf.old) }
         ensures same { ram_blocks self.new ≡ ram_blocks self.old }
-        ensures geometry { ram_geometry self.new ≡ ram_geometry self.old }
-        ensures erased { erase_effect self.new ≡ erase_effect self.old }
+        ensures settings { KeepsSettings self.old self.new }
         ensures history { ram_history self.new ≡ call_event (Read block off (length buf.old)) (ram_blocks self.old) (ram_blocks self.new) false ∷ ram_history self.old }
     {
         let start = self.byte_index(block, off);
@@ -225,16 +224,11 @@ impl BlockDevice for RamDevice {
     }
 
     fn prog(&mut self, block: u32, off: u32, bytes: &[u8]) -> Result<(), Error>
-        requires in_device { block < (ram_geometry self.old).block_count }
-        requires in_block { off + length bytes.now ≤ (ram_geometry self.old).block_size }
-        requires begins { off % (ram_geometry self.old).page ≡ 0 }
-        requires ends { (off + length bytes.now) % (ram_geometry self.old).page ≡ 0 }
-        requires unprogrammed { AreUnprogrammed (ram_history self.old) block off (off + length bytes.now) }
+        requires can { CanProgram (ram_geometry self.old) (ram_history self.old) block off (length bytes.now) }
         ensures ok { IsOk result }
         ensures bytes { ram_blocks self.new ≡ programmed (ram_blocks self.old) block off bytes.now }
         ensures others { SameExcept block (ram_blocks self.old) (ram_blocks self.new) }
-        ensures geometry { ram_geometry self.new ≡ ram_geometry self.old }
-        ensures erased { erase_effect self.new ≡ erase_effect self.old }
+        ensures settings { KeepsSettings self.old self.new }
         ensures history { ram_history self.new ≡ call_event (Program block off bytes.now) (ram_blocks self.old) (ram_blocks self.new) false ∷ ram_history self.old }
     {
         let trace = Trace::with_ghost_history(self, &(block, off, bytes));
@@ -249,8 +243,7 @@ impl BlockDevice for RamDevice {
         ensures ok { IsOk result }
         ensures bytes { block_bytes (ram_blocks self.new) block ≡ erased_bytes (erase_effect self.old) (block_bytes (ram_blocks self.old) block) }
         ensures others { SameExcept block (ram_blocks self.old) (ram_blocks self.new) }
-        ensures geometry { ram_geometry self.new ≡ ram_geometry self.old }
-        ensures erased { erase_effect self.new ≡ erase_effect self.old }
+        ensures settings { KeepsSettings self.old self.new }
         ensures history { ram_history self.new ≡ call_event (Erase block) (ram_blocks self.old) (ram_blocks self.new) false ∷ ram_history self.old }
     {
         let trace = Trace::with_ghost_history(self, &block);
@@ -262,12 +255,10 @@ impl BlockDevice for RamDevice {
     }
 
     fn is_unprogrammed(&mut self, block: u32, off: u32, len: u32) -> Result<bool, Error>
-        requires in_device { block < (ram_geometry self.old).block_count }
-        requires in_block { off + len ≤ (ram_geometry self.old).block_size }
+        requires within { IsWithinBlock (ram_geometry self.old) block off len }
         ensures ok { IsOk result }
         ensures same { ram_blocks self.new ≡ ram_blocks self.old }
-        ensures geometry { ram_geometry self.new ≡ ram_geometry self.old }
-        ensures erased { erase_effect self.new ≡ erase_effect self.old }
+        ensures settings { KeepsSettings self.old self.new }
         ensures yes { result ≡ Ok true → ram_history self.new ≡ call_event (Blank block off len) (ram_blocks self.old) (ram_blocks self.new) false ∷ ram_history self.old }
         ensures no { result ≡ Ok false → ram_history self.new ≡ ram_history self.old }
     {

@@ -1,8 +1,7 @@
-ghost use Rattle.std.specs.Prelude.{◌≡◌, ◌⊎◌, ◌≤◌, ◌<◌, ◌+◌, ◌∷◌, true, false, slice_range, IfOk, IfErr, OnOk, IsErrOf};
+ghost use Rattle.std.specs.Prelude.{◌≡◌, ◌⊎◌, ◌<◌, ◌+◌, slice_range, IfOk, IfErr};
 ghost use Rattle.lfs_model.specs.format.Blocks.{block_bytes};
-ghost use Rattle.lfs_device.specs.DeviceCalls.{ReadsOnly, ReportsFaults};
-ghost use Rattle.lfs_model.specs.session.History.{call_event};
-ghost use Rattle.lfs_model.specs.session.History.DeviceCall.{Read};
+ghost use Rattle.lfs_device.specs.BlockCalls.{IsWithinBlock};
+ghost use Rattle.lfs_device.specs.DeviceCalls.{ReadsOnce, ReadsOnly, ReportsFaults};
 
 use crate::{BlockDevice, Error};
 use std::alloc::Global;
@@ -18,17 +17,14 @@ pub fn read_part<D: BlockDevice>(
     off: u32,
     len: u32,
 ) -> Result<Vec<u8>, Error>
-    requires in_device { block < (D.geometry device.old).block_count }
-    requires in_block { off + len ≤ (D.geometry device.old).block_size }
+    requires within { IsWithinBlock (D.geometry device.old) block off len }
     ensures bytes { IfOk result (λ bytes. bytes.items ≡ slice_range (block_bytes (D.blocks device.old) block) off (off + len)) }
     ensures device { ReadsOnly D.BlockDevice device.old device.new }
     ensures faults { ReportsFaults D.BlockDevice device.old device.new result }
     ensures errors { IfErr result (λ e. (e ≡ Error.Io) ⊎ (e ≡ Error.NoMemory)) }
 
     // There is one read, unless memory wasn't granted.
-    ensures ok { OnOk result (D.history device.new ≡ call_event (Read block off len) (D.blocks device.old) (D.blocks device.old) false ∷ D.history device.old) }
-    ensures io { IsErrOf result Error.Io → D.history device.new ≡ call_event (Read block off len) (D.blocks device.old) (D.blocks device.old) true ∷ D.history device.old }
-    ensures no_memory { IsErrOf result Error.NoMemory → D.history device.new ≡ D.history device.old }
+    ensures once { ReadsOnce D.BlockDevice block off len device.old device.new result }
 {
     let mut bytes = Vec::from_elem(alloc, 0u8, len as usize)?;
     device.read(block, off, &mut bytes)?;
@@ -51,9 +47,7 @@ pub fn read_block<D: BlockDevice>(
     ensures errors { IfErr result (λ e. (e ≡ Error.Io) ⊎ (e ≡ Error.NoMemory)) }
 
     // There is one read, unless memory wasn't granted.
-    ensures ok { OnOk result (D.history device.new ≡ call_event (Read block 0 (D.geometry device.old).block_size) (D.blocks device.old) (D.blocks device.old) false ∷ D.history device.old) }
-    ensures io { IsErrOf result Error.Io → D.history device.new ≡ call_event (Read block 0 (D.geometry device.old).block_size) (D.blocks device.old) (D.blocks device.old) true ∷ D.history device.old }
-    ensures no_memory { IsErrOf result Error.NoMemory → D.history device.new ≡ D.history device.old }
+    ensures once { ReadsOnce D.BlockDevice block 0 (D.geometry device.old).block_size device.old device.new result }
 {
     let block_size = device.geometry().block_size;
     read_part(alloc, device, block, 0, block_size)

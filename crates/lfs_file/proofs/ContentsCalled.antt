@@ -1,6 +1,6 @@
 -- What calls of a device one behind the other say of its faults and of what they leave alone.
 use Rattle.std.proofs.Common.{ℕ, ◌≡◌, Bool, List, ◌∷◌, Result, Ok, Err, refl, sym, subst, ◌∙◌, arith}
-use Rattle.lfs_device.specs.DeviceCalls.{ReadsOnly, ChangesOnlyTheseBlocks, ReportsFaults}
+use Rattle.lfs_device.specs.DeviceCalls.{ChangesOnlyTheseBlocks, ReadsOnly, ReportsFaults, ReportsIoOrNoMemory}
 use Rattle.lfs_device.specs.declared.device.BlockDevice.{Ghosts}
 use Rattle.lfs_device.specs.declared.error.Error.{Error}
 use Rattle.lfs_model.specs.format.Blocks.{Blocks}
@@ -10,7 +10,6 @@ use Rattle.lfs_model.specs.session.History.DeviceCall.{Read}
 use Rattle.lfs_model.proofs.Histories.{LossLeavesAtWorst-read, HoldsAtLosses-read_count, OnlyReadsSince-trans, began, goes_on, is_unprogrammed_byte-read_count}
 use Rattle.lfs_file.specs.Growing.{GrowingList, unwritten_block}
 use Rattle.lfs_file.specs.BlocksApart.{IsTakenWritten, HasBlocksTaken, KeepsTakenBytes}
-use Rattle.lfs_file.specs.FileCalls.{ReportsIoOrNoMemory}
 use Rattle.lfs_file.specs.Effects.{WritesUnusedBlocks}
 use Rattle.lfs_file.specs.ContentsCalls.{CallKeepsTakenBlocksExceptUnwritten, CallKeepsUsedBytes}
 use Rattle.lfs_file.specs.Hand.{KeepsUsedBlocks, KeepsUsedBytes}

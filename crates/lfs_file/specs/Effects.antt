@@ -1,27 +1,16 @@
 -- What a call leaves: the map, the device and its errors. `sets` and `later` are the map before and after, `old` and `new` are the
 -- device.
 use Rattle.std.specs.Prelude.{ℕ, ◌≤◌, ◌+◌, List, Result, OnOk}
-use Rattle.lfs_device.specs.DeviceCalls.{ReadsOnly}
+use Rattle.lfs_device.specs.DeviceCalls.{ReadsOnly, ReportsIoOrNoMemory, ReportsNoErrorButIo}
 use Rattle.lfs_device.specs.declared.device.BlockDevice.{Ghosts}
 use Rattle.lfs_device.specs.declared.error.Error.{Error}
 use Rattle.lfs_model.specs.layers.BlockSets.{BlockStates}
 use Rattle.lfs_model.specs.session.History.{read_count}
-use Rattle.lfs_file.specs.FileCalls.{ReportsNoErrorButIo, ReportsIoOrNoMemory}
 use Rattle.lfs_file.specs.ContentsCalls.{CallKeepsTakenBlocksExceptUnwritten, CallKeepsUsedBytes}
 use Rattle.lfs_file.specs.Hand.{KeepsUsedBlocks}
 use Rattle.lfs_file.specs.TakenBlocks.{ChangesOnlyFree}
 
--- The device was only read, and the only error is `Io`.
-pub record OnlyReadsOrIo {D X : Type 0} (g : Ghosts D) (old new : D) (result : Result X Error) : Type 0 where
-  pub device : ReadsOnly g old new
-  pub reports : ReportsNoErrorButIo g old new result
-
--- the same, and `NoMemory` may come too
-pub record OnlyReadsOrNoMemory {D X : Type 0} (g : Ghosts D) (old new : D) (result : Result X Error) : Type 0 where
-  pub device : ReadsOnly g old new
-  pub reports : ReportsIoOrNoMemory g old new result
-
--- the same of the only error `Io`, and a call that succeeds takes at most so many reads
+-- The device was only read, the only error is `Io`, and a call that succeeds takes at most so many reads
 pub record ReadsAtMost {D X : Type 0} (g : Ghosts D) (old new : D) (most : ℕ) (result : Result X Error) : Type 0 where
   pub device : ReadsOnly g old new
   pub reports : ReportsNoErrorButIo g old new result

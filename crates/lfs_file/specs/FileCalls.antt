@@ -3,7 +3,7 @@ use Rattle.std.specs.Prelude.{◌≡◌, ◌⊎◌, Result, IfErr}
 use Rattle.lfs_device.specs.DeviceCalls.{ReadsOnly, ReportsFaults}
 use Rattle.lfs_device.specs.declared.device.BlockDevice.{Ghosts}
 use Rattle.lfs_device.specs.declared.error.Error.{Error}
-use Rattle.lfs_device.specs.declared.error.Error.TheVariants.{Corrupt, Io, NoMemory}
+use Rattle.lfs_device.specs.declared.error.Error.TheVariants.{Corrupt, Io}
 
 -- The device was only read. `Io` comes with a fault of the device, and any other result without one. The only other error is
 -- `Corrupt`.
@@ -11,13 +11,3 @@ pub record OnlyReadsOrCorrupt {D X : Type 0} (g : Ghosts D) (old new : D) (resul
   pub device : ReadsOnly g old new
   pub faults : ReportsFaults g old new result
   pub errors : IfErr result (λ e. (e ≡ Io) ⊎ (e ≡ Corrupt))
-
--- `Io` comes with a fault of the device, success without one, and no other error comes.
-pub record ReportsNoErrorButIo {D X : Type 0} (g : Ghosts D) (old new : D) (result : Result X Error) : Type 0 where
-  pub faults : ReportsFaults g old new result
-  pub errors : IfErr result (λ e. e ≡ Io)
-
--- the same of a call that takes memory: `NoMemory` comes without a fault
-pub record ReportsIoOrNoMemory {D X : Type 0} (g : Ghosts D) (old new : D) (result : Result X Error) : Type 0 where
-  pub faults : ReportsFaults g old new result
-  pub errors : IfErr result (λ e. (e ≡ Io) ⊎ (e ≡ NoMemory))

@@ -2,9 +2,11 @@ pub mod Appended
 pub mod BaseCopies
 pub mod BaseRoom
 pub mod Bases
+pub mod BlockCalls
 pub mod BlockOwners
 pub mod BlocksApart
 pub mod FileCalls
+pub mod CallPremises
 pub mod Contents
 pub mod ContentsCalls
 pub mod Counts

@@ -1,14 +1,15 @@
 ghost use Rattle.std.specs.Prelude.{[], ◌∷◌, ◌≡◌, ◌≤◌, ◌<◌, ◌+◌, ◌-◌, ◌*◌, ◌%◌, ◌^◌, ◌++◌, ℕ, List, length, take, drop, OnOk, slice_index};
 ghost use Rattle.byteorder.specs.Endian.{little_bytes};
 ghost use Rattle.lfs_file.specs.Appended.{IsBlockAppended};
-ghost use Rattle.lfs_file.specs.FileCalls.{ReportsNoErrorButIo};
+ghost use Rattle.lfs_device.specs.DeviceCalls.{ChangesOnlyThisBlock, ReadsOnly, ReportsNoErrorButIo};
 ghost use Rattle.lfs_file.specs.Counts.{WritesOnce};
 ghost use Rattle.lfs_file.specs.Extending.{IsDeviceBlockOutsideFullBlocksOfList};
 ghost use Rattle.lfs_file.specs.Front.{KeepsFullBlocks, ReadsUnknownPointers};
 ghost use Rattle.lfs_file.specs.Known.{ArePointersKnown, OnlyBelowKnown, AreKnownBlocks, ArePointedKnown};
-ghost use Rattle.lfs_device.specs.DeviceCalls.{ChangesOnlyThisBlock, ReadsOnly};
 ghost use Rattle.lfs_model.specs.format.Blocks.{block_bytes};
 ghost use Rattle.lfs_model.specs.format.SkipLists.{AreListBlocks, blocks_to_head, pointer_count, word_at};
+ghost use Rattle.lfs_file.specs.CallPremises.{CanPutPointers, CanWriteBlock};
+ghost use Rattle.lfs_file.specs.BlockCalls.{IsAppendedWith, PutsPointers, WritesOneBlock};
 
 use crate::known::KnownBlocks;
 use crate::read::pointer_count_at;
@@ -91,11 +92,8 @@ fn write_pointers<D: BlockDevice>(
     front: &mut FullBlocks,
     buf: &mut [u8],
 ) -> Result<(), Error>
-    requires chain { AreListBlocks (D.blocks dev.old) front.old.count front.old.head }
-    requires known { AreKnownBlocks (blocks_to_head (D.blocks dev.old) front.old.count front.old.head) front.old.known }
-    requires room { 1024 ≤ length buf.old }
-    ensures pointers { OnOk result ((k : ℕ) → k < pointer_count front.old.count → word_at buf.new (4 * k) ≡ slice_index (blocks_to_head (D.blocks dev.old) front.old.count front.old.head) (front.old.count - 2 ^ k)) }
-    ensures rest { drop (4 * pointer_count front.old.count) buf.new ≡ drop (4 * pointer_count front.old.count) buf.old }
+    requires { CanPutPointers (D.blocks dev.old) front.old (length buf.old) }
+    ensures puts { PutsPointers (D.blocks dev.old) front.old buf.old buf.new result }
     ensures front { KeepsFullBlocks (blocks_to_head (D.blocks dev.old) front.old.count front.old.head) front.old front.new }
     ensures few { OnOk result (ReadsUnknownPointers front.old front.new (D.history dev.old) (D.history dev.new)) }
     ensures device { ReadsOnly D.BlockDevice dev.old dev.new }
@@ -123,19 +121,11 @@ pub(crate) fn write_block<D: BlockDevice>(
     buf: &mut [u8],
     end: u32,
 ) -> Result<(), Error>
-    requires follows { IsDeviceBlockOutsideFullBlocksOfList D.BlockDevice dev.old front.old.count front.old.head block }
-    requires known { AreKnownBlocks (blocks_to_head (D.blocks dev.old) front.old.count front.old.head) front.old.known }
-    requires size { length buf.old ≡ (D.geometry dev.old).block_size }
-    requires large { 1024 ≤ length buf.old }
-    requires pages { end % (D.geometry dev.old).page ≡ 0 }
-    requires room { end ≤ (D.geometry dev.old).block_size }
-    requires pointers { 4 * pointer_count front.old.count ≤ end }
-    ensures appended { OnOk result (IsBlockAppended (D.blocks dev.old) (D.blocks dev.new) front.old.count front.old.head block) }
-    ensures bytes { OnOk result (take (end - 4 * pointer_count front.old.count) (drop (4 * pointer_count front.old.count) (block_bytes (D.blocks dev.new) block))
-        ≡ take (end - 4 * pointer_count front.old.count) (drop (4 * pointer_count front.old.count) buf.old)) }
+    requires { CanWriteBlock D.BlockDevice dev.old front.old block end (length buf.old) }
+    ensures block { OnOk result (IsAppendedWith (D.blocks dev.old) (D.blocks dev.new) front.old.count front.old.head block
+        (end - 4 * pointer_count front.old.count) (take (end - 4 * pointer_count front.old.count) (drop (4 * pointer_count front.old.count) buf.old))) }
     ensures front { KeepsFullBlocks (blocks_to_head (D.blocks dev.old) front.old.count front.old.head) front.old front.new }
-    ensures writes { OnOk result (WritesOnce 0 1 (D.history dev.old) (D.history dev.new)) }
-    ensures few { OnOk result (ReadsUnknownPointers front.old front.new (D.history dev.old) (D.history dev.new)) }
+    ensures calls { OnOk result (WritesOneBlock front.old front.new (D.history dev.old) (D.history dev.new)) }
     ensures device { ChangesOnlyThisBlock D.BlockDevice block dev.old dev.new }
     ensures io { ReportsNoErrorButIo D.BlockDevice dev.old dev.new result }
 {

@@ -1,12 +1,11 @@
 // Copies of the bytes of a base that follow those in hand.
 
 ghost use Rattle.std.specs.Prelude.{◌≡◌, ◌≤◌, ◌<◌, ◌+◌, ◌-◌, length, max, drop, IfOk, OnOk};
-ghost use Rattle.lfs_device.specs.DeviceCalls.{ReadsOnly};
+ghost use Rattle.lfs_device.specs.DeviceCalls.{OnlyReadsOrIo, ReadsOnly, ReportsIoOrNoMemory};
 ghost use Rattle.lfs_model.specs.session.History.{read_count};
 ghost use Rattle.lfs_model.specs.format.SkipLists.{AreListBlocks, blocks_to_head};
 ghost use Rattle.lfs_file.specs.BaseCopies.{CanAppendBase, HasBlockBytes};
-ghost use Rattle.lfs_file.specs.FileCalls.{ReportsIoOrNoMemory};
-ghost use Rattle.lfs_file.specs.Effects.{OnlyReadsOrIo, WritesFreeAndPending};
+ghost use Rattle.lfs_file.specs.Effects.{WritesFreeAndPending};
 ghost use Rattle.lfs_file.specs.Extensions.{IsExtended};
 ghost use Rattle.lfs_file.specs.Growing.{unwritten_block, growing_size};
 ghost use Rattle.lfs_file.specs.Hand.{bytes_over_base};

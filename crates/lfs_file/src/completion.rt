@@ -2,7 +2,7 @@
 
 ghost use Rattle.std.specs.Prelude.{ℕ, IfOk};
 ghost use Rattle.lfs_model.specs.layers.BlockSets.{IsInFlight};
-ghost use Rattle.lfs_file.specs.FileCalls.{ReportsIoOrNoMemory};
+ghost use Rattle.lfs_device.specs.DeviceCalls.{ReportsIoOrNoMemory};
 ghost use Rattle.lfs_file.specs.ContentsCalls.{CallKeepsUsedBytes};
 ghost use Rattle.lfs_file.specs.Contents.{CanFinishContents, HaveForm, contents_bytes, form_after_finish, contents_form};
 ghost use Rattle.lfs_file.specs.Hand.{KeepsUsedBlocks};

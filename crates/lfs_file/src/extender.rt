@@ -1,7 +1,7 @@
 ghost use Rattle.std.specs.Prelude.{◌≡◌, ◌≤◌, ◌<◌, ◌+◌, ◌-◌, ◌*◌, ◌^◌, ◌++◌, ◌∷◌, [], length, take, drop, replicate, OnOk, IfOk, IfErr};
 ghost use Rattle.std.specs.Bool.{OnFalse, OnTrue};
 ghost use Rattle.lfs_file.specs.Appended.{IsBlockAppended};
-ghost use Rattle.lfs_file.specs.FileCalls.{ReportsNoErrorButIo, ReportsIoOrNoMemory};
+ghost use Rattle.lfs_device.specs.DeviceCalls.{ChangesOnlyTheseBlocks, ChangesOnlyThisBlock, ReadsOnly, ReportsIoOrNoMemory, ReportsNoErrorButIo};
 ghost use Rattle.lfs_file.specs.Counts.{WritesOnce};
 ghost use Rattle.lfs_file.specs.Extended.{ListHasBytes};
 ghost use Rattle.lfs_file.specs.Extending.{CanFinishGrowingList, IsDeviceBlockOutsideFullBlocksOfList, CanPushBytesToList, CanResumeList, IsBufferOf, HasPushedBytes, IsResumedList, IsEmptyList};
@@ -10,10 +10,11 @@ ghost use Rattle.lfs_file.specs.Fields.{IsExtender, growing_view};
 ghost use Rattle.lfs_file.specs.Finished.{IsListOf};
 ghost use Rattle.lfs_file.specs.Growing.{IsAllBuffered, HasUnwrittenAmong, growing_blocks, fit_unwritten, growing_bytes, growing_size, appended_count, block_for_next, unwritten_block};
 ghost use Rattle.lfs_file.specs.Known.{AreKnownBlocks};
-ghost use Rattle.lfs_device.specs.DeviceCalls.{ChangesOnlyThisBlock, ChangesOnlyTheseBlocks, ReadsOnly};
 ghost use Rattle.lfs_model.specs.format.Blocks.{block_bytes, overwritten_at};
 ghost use Rattle.lfs_model.specs.session.Writers.{written_contents as with_bytes};
 ghost use Rattle.lfs_model.specs.format.SkipLists.{blocks_to_head, block_count_for, pointer_count};
+ghost use Rattle.lfs_file.specs.CallPremises.{CanFillBlock, CanWriteLastBlock};
+ghost use Rattle.lfs_file.specs.BlockCalls.{FillsOneBlock, FinishCalls, HasFilledBlock, IsAppendedWith};
 
 use crate::block::{FullBlocks, write_block};
 use crate::read::{find_block_at, pointer_count_at, read_into_range};
@@ -288,19 +289,10 @@ impl Extender {
         bytes: &[u8],
         block: u32,
     ) -> Result<usize, Error>
-        requires follows { IsDeviceBlockOutsideFullBlocksOfList D.BlockDevice dev.old self.old.full self.old.head block }
-        requires known { AreKnownBlocks (blocks_to_head (D.blocks dev.old) self.old.full self.old.head) self.old.known }
-        requires geometry { D.geometry dev.old ≡ self.old.geometry }
-        requires some { 1 ≤ length bytes.now }
-        requires room { growing_size self.old + length bytes.now < 2 ^ 31 }
-        ensures count { IfOk result (λ n. (1 ≤ n) × (n ≤ length bytes.now)) }
-        ensures few { OnOk result (FillsFew self.old self.new (D.history dev.old) (D.history dev.new)) }
-        ensures filled { IfOk result (λ n. ListHasBytes self.old.geometry (D.blocks dev.new) self.new
-            (growing_bytes (D.blocks dev.old) self.old ++ take n bytes.now) (growing_size self.old + n)
-            (blocks_to_head (D.blocks dev.old) self.old.full self.old.head ++ block ∷ [])
-            (blocks_to_head (D.blocks dev.old) self.old.full self.old.head ++ block ∷ [])) }
+        requires { CanFillBlock D.BlockDevice dev.old self.old block (length bytes.now) }
+        ensures filled { IfOk result (λ n. HasFilledBlock (D.blocks dev.old) (D.blocks dev.new) self.old self.new block n bytes.now) }
+        ensures calls { OnOk result (FillsOneBlock self.old self.new (D.history dev.old) (D.history dev.new)) }
         ensures waits { OnOk result (HasUnwrittenAmong (block ∷ []) self.new) }
-        ensures writes { OnOk result (WritesOnce self.old.full self.new.full (D.history dev.old) (D.history dev.new)) }
         ensures device { ChangesOnlyThisBlock D.BlockDevice block dev.old dev.new }
         ensures io { ReportsNoErrorButIo D.BlockDevice dev.old dev.new result }
     {
@@ -359,11 +351,8 @@ impl Extender {
 
     // Pads the current block to whole pages, and writes it.
     fn write_last_block<D: BlockDevice>(&mut self, dev: &mut D, block: u32) -> Result<(), Error>
-        requires follows { IsDeviceBlockOutsideFullBlocksOfList D.BlockDevice dev.old self.old.full self.old.head block }
-        requires known { AreKnownBlocks (blocks_to_head (D.blocks dev.old) self.old.full self.old.head) self.old.known }
-        requires geometry { D.geometry dev.old ≡ self.old.geometry }
-        ensures appended { OnOk result (IsBlockAppended (D.blocks dev.old) (D.blocks dev.new) self.old.full self.old.head block) }
-        ensures bytes { OnOk result (take (length self.old.rest) (drop (4 * pointer_count self.old.full) (block_bytes (D.blocks dev.new) block)) ≡ self.old.rest) }
+        requires { CanWriteLastBlock D.BlockDevice dev.old self.old block }
+        ensures block { OnOk result (IsAppendedWith (D.blocks dev.old) (D.blocks dev.new) self.old.full self.old.head block (length self.old.rest) self.old.rest) }
         ensures writes { OnOk result (WritesOnce 0 1 (D.history dev.old) (D.history dev.new)) }
         ensures few { OnOk result (WritesLastFew self.old (D.history dev.old) (D.history dev.new)) }
         ensures device { ChangesOnlyThisBlock D.BlockDevice block dev.old dev.new }
@@ -389,9 +378,7 @@ impl Extender {
         requires { CanFinishGrowingList D.BlockDevice dev.old self }
         ensures finished { IfOk result (λ r. IsListOf (D.blocks dev.new) self.geometry.block_size r.0 r.1 (growing_bytes (D.blocks dev.old) self) (growing_blocks (D.blocks dev.old) self)) }
         ensures size { IfOk result (λ r. r.1 ≡ growing_size self) }
-        ensures no_call { unwritten_block self ≡ [] → (D.history dev.new ≡ D.history dev.old) × (D.blocks dev.new ≡ D.blocks dev.old) }
-        ensures writes { OnOk result (WritesOnce 0 (length (unwritten_block self)) (D.history dev.old) (D.history dev.new)) }
-        ensures few { OnOk result (WritesLastFew self (D.history dev.old) (D.history dev.new)) }
+        ensures calls { FinishCalls self (D.blocks dev.old) (D.blocks dev.new) (D.history dev.old) (D.history dev.new) result }
         ensures device { ChangesOnlyTheseBlocks D.BlockDevice (unwritten_block self) dev.old dev.new }
         ensures io { ReportsNoErrorButIo D.BlockDevice dev.old dev.new result }
     {

@@ -3,12 +3,13 @@
 ghost use Rattle.std.specs.Prelude.{◌≡◌, ◌≤◌, ◌<◌, ◌+◌, ◌++◌, ◌^◌, ℕ, length, OnOk};
 ghost use Rattle.lfs_model.specs.layers.BlockSets.{in_flight_count, used_count};
 ghost use Rattle.lfs_model.specs.format.SkipLists.{block_count_for};
-ghost use Rattle.lfs_file.specs.FileCalls.{ReportsIoOrNoMemory};
+ghost use Rattle.lfs_device.specs.DeviceCalls.{ReportsIoOrNoMemory};
 ghost use Rattle.lfs_file.specs.Growing.{IsOnDisk, kept_blocks, unwritten_block, growing_bytes, growing_size};
 ghost use Rattle.lfs_file.specs.BlocksApart.{HasBlocksTaken};
 ghost use Rattle.lfs_file.specs.ContentsCalls.{CallKeepsTakenBlocksExceptUnwritten};
 ghost use Rattle.lfs_file.specs.Extensions.{IsExtended};
 ghost use Rattle.lfs_file.specs.TakenBlocks.{ChangesOnlyFree};
+ghost use Rattle.lfs_file.specs.CallPremises.{CanExtendList};
 
 use crate::Extender;
 use crate::taken_blocks::take_blocks;
@@ -30,13 +31,7 @@ pub(crate) fn extend_list<D: BlockDevice>(
     list: &mut Extender,
     bytes: &[u8],
 ) -> Result<(), Error>
-    requires growing { IsOnDisk (D.blocks dev.old) list.old }
-    requires geometry { D.geometry dev.old ≡ list.old.geometry }
-    requires some { 1 ≤ length bytes.now }
-    requires small { growing_size list.old + length bytes.now < 2 ^ 31 }
-    requires marked { HasBlocksTaken map.old (D.blocks dev.old) list.old }
-    requires room { used_count map.old + in_flight_count map.old + block_count_for list.old.geometry.block_size (growing_size list.old + length bytes.now)
-        ≤ length map.old + length (kept_blocks (D.blocks dev.old) list.old) }
+    requires { CanExtendList map.old (D.blocks dev.old) (D.geometry dev.old) list.old (length bytes.now) }
     ensures extended { OnOk result (IsExtended map.old (D.blocks dev.old) list.old
         (growing_bytes (D.blocks dev.old) list.old ++ bytes.now) (growing_size list.old + length bytes.now) map.new (D.blocks dev.new) list.new) }
     // No block that was used or in flight changes, except the list's pending one.

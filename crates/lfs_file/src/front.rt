@@ -3,6 +3,7 @@ ghost use Rattle.lfs_file.specs.FileCalls.{OnlyReadsOrCorrupt};
 ghost use Rattle.lfs_file.specs.Finished.{IsListOf};
 ghost use Rattle.lfs_model.specs.session.History.{read_count};
 ghost use Rattle.lfs_model.specs.format.SkipLists.{IsSkipList, blocks_to_head, block_count_for, list_bytes};
+ghost use Rattle.lfs_file.specs.CallPremises.{IsFrontSize};
 
 use crate::read::find_block_at;
 use crate::{blocks_for, place};
@@ -21,8 +22,7 @@ pub fn head_of_front<D: BlockDevice>(
     size: u32,
     keep: u32,
 ) -> Result<u32, Error>
-    requires some { 1 ≤ keep }
-    requires within { keep ≤ size }
+    requires { IsFrontSize keep size }
     ensures front { IsSkipList (D.blocks dev.old) (D.geometry dev.old).block_size head size →
         IfOk result (λ h. IsListOf (D.blocks dev.old) (D.geometry dev.old).block_size h keep
         (take keep (list_bytes (D.blocks dev.old) (D.geometry dev.old).block_size head size))

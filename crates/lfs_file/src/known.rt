@@ -6,6 +6,8 @@ ghost use Rattle.lfs_model.specs.session.History.{CallEvent, read_count};
 ghost use Rattle.lfs_model.specs.format.SkipLists.{AreListBlocks, IsSkipList, blocks_to_head, block_count_for, list_bytes, word_at};
 ghost use Rattle.lfs_file.specs.FileCalls.{OnlyReadsOrCorrupt};
 ghost use Rattle.lfs_file.specs.Known.{OnlyBelowKnown, AreKnownBlocks, FindsFew, IsKnownIndex, ReadsKnownList, no_known_blocks, index_row as row_seen};
+ghost use Rattle.lfs_file.specs.CallPremises.{HasBlockBefore, IsPointerTo};
+ghost use Rattle.lfs_file.specs.BlockCalls.{FindsKnownBlock, ReadsUnlessKnown};
 
 use crate::part::BlockPart;
 use crate::read::{pointer_count_at, read_block_before, read_block_pointer, read_into_range};
@@ -90,8 +92,7 @@ impl KnownBlocks {
         index: u32,
     ) -> Result<u32, Error>
         requires { index ≤ last }
-        ensures found { AreListBlocks (D.blocks dev.old) (last + 1) head → AreKnownBlocks (blocks_to_head (D.blocks dev.old) (last + 1) head) self.old → IfOk result (λ b. b ≡ slice_index (blocks_to_head (D.blocks dev.old) (last + 1) head) index) }
-        ensures known { AreListBlocks (D.blocks dev.old) (last + 1) head → AreKnownBlocks (blocks_to_head (D.blocks dev.old) (last + 1) head) self.old → AreKnownBlocks (blocks_to_head (D.blocks dev.old) (last + 1) head) self.new }
+        ensures found { FindsKnownBlock (D.blocks dev.old) last head index self.old self.new result }
         ensures in_range { IfOk result (λ b. b < (D.geometry dev.old).block_count) }
         ensures corrupt { IsErrOf result Error.Corrupt → AreListBlocks (D.blocks dev.old) (last + 1) head → ¬ AreKnownBlocks (blocks_to_head (D.blocks dev.old) (last + 1) head) self.old }
         ensures reading { OnlyReadsOrCorrupt D.BlockDevice dev.old dev.new result }
@@ -120,14 +121,12 @@ impl KnownBlocks {
         k: u32,
         index: u32,
     ) -> Result<u32, Error>
-        requires pointer { k ≤ 32 }
-        requires index { index < 2 ^ 32 - 1 }
+        requires { IsPointerTo k index }
         ensures found { (all : List ℕ) → AreKnownBlocks all self.old → index < length all → word_at (block_bytes (D.blocks dev.old) block) (4 * k) ≡ slice_index all index → IfOk result (λ b. b ≡ slice_index all index) × AreKnownBlocks all self.new }
         ensures below { (count : ℕ) → index < count → OnlyBelowKnown count self.old → OnlyBelowKnown count self.new }
         ensures corrupt { IsErrOf result Error.Corrupt → (D.geometry dev.old).block_count ≤ block }
         ensures reading { OnlyReadsOrCorrupt D.BlockDevice dev.old dev.new result }
-        ensures few { read_count (D.history dev.new) ≤ read_count (D.history dev.old) + 1 }
-        ensures known { IsKnownIndex self.old index → (self.new ≡ self.old) × (read_count (D.history dev.new) ≡ read_count (D.history dev.old)) }
+        ensures calls { ReadsUnlessKnown self.old self.new index (D.history dev.old) (D.history dev.new) }
     {
         let row = index_row(index);
         if self.indices[row] == index {
@@ -146,8 +145,7 @@ impl KnownBlocks {
         block: u32,
         index: u32,
     ) -> Result<u32, Error>
-        requires some { 0 < index }
-        requires in_device { block < (D.geometry dev.old).block_count }
+        requires { HasBlockBefore (D.geometry dev.old).block_count block index }
         ensures found { (all : List ℕ) → AreKnownBlocks all self.now → index < length all → word_at (block_bytes (D.blocks dev.old) block) 0 ≡ slice_index all (index - 1) → IfOk result (λ b. b ≡ slice_index all (index - 1)) }
         ensures in_range { IfOk result (λ b. b < (D.geometry dev.old).block_count) }
         ensures corrupt { (all : List ℕ) → IsErrOf result Error.Corrupt → AreKnownBlocks all self.now → index < length all → word_at (block_bytes (D.blocks dev.old) block) 0 ≡ slice_index all (index - 1) → (D.geometry dev.old).block_count ≤ slice_index all (index - 1) }

@@ -1,7 +1,7 @@
 // Cuts of finished lists.
 
 ghost use Rattle.std.specs.Prelude.{◌≡◌, ◌≤◌, take, IfOk};
-ghost use Rattle.lfs_file.specs.Effects.{OnlyReadsOrIo};
+ghost use Rattle.lfs_device.specs.DeviceCalls.{OnlyReadsOrIo};
 ghost use Rattle.lfs_file.specs.Hand.{FinishedListOnDisk, KeepsUsedBlocks, stored_list_bytes};
 ghost use Rattle.lfs_file.specs.HandWrites.{IsFinishedOf};
 ghost use Rattle.lfs_file.specs.BlockOwners.{IsFrontOf};

@@ -1,9 +1,8 @@
 // Lists that are begun over finished ones.
 
 ghost use Rattle.std.specs.Prelude.{◌≡◌, ◌≤◌, IfOk};
-ghost use Rattle.lfs_device.specs.DeviceCalls.{ReadsOnly};
+ghost use Rattle.lfs_device.specs.DeviceCalls.{ReadsOnly, ReportsIoOrNoMemory};
 ghost use Rattle.lfs_model.specs.layers.BlockSets.{BlockStates};
-ghost use Rattle.lfs_file.specs.FileCalls.{ReportsIoOrNoMemory};
 ghost use Rattle.lfs_file.specs.Bases.{IsListOrEmpty};
 ghost use Rattle.lfs_file.specs.Hand.{FinishedListOnDisk, stored_list_bytes};
 ghost use Rattle.lfs_file.specs.HandWrites.{IsUnfinishedTo};

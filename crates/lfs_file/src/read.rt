@@ -1,6 +1,6 @@
 ghost use Rattle.std.specs.Prelude.{◌≡◌, ◌≤◌, ◌<◌, ◌+◌, ◌*◌, ◌^◌, ℕ, ◌-◌, ◌++◌, min, length, take, drop, OnOk, IfOk, IfErr, IsErrOf, slice_index, slice_range};
 ghost use Rattle.lfs_model.specs.format.Blocks.{block_bytes};
-ghost use Rattle.lfs_device.specs.DeviceCalls.{ReadsOnly, ReportsFaults};
+ghost use Rattle.lfs_device.specs.DeviceCalls.{OnlyReadsOrIo, ReadsOnly, ReportsFaults};
 ghost use Rattle.lfs_model.specs.session.History.{read_count};
 ghost use Rattle.lfs_file.specs.FileCalls.{OnlyReadsOrCorrupt};
 ghost use Rattle.lfs_file.specs.Known.{WalksFew};
@@ -109,9 +109,7 @@ pub(crate) fn read_into_range<D: BlockDevice>(
     requires in_block { off + len ≤ (D.geometry dev.old).block_size }
     requires in_buffer { start + len ≤ length buf.old }
     ensures bytes { OnOk result (buf.new ≡ take start buf.old ++ (take len (drop off (block_bytes (D.blocks dev.old) block)) ++ drop (start + len) buf.old)) }
-    ensures device { ReadsOnly D.BlockDevice dev.old dev.new }
-    ensures faults { ReportsFaults D.BlockDevice dev.old dev.new result }
-    ensures errors { IfErr result (λ e. e ≡ Error.Io) }
+    ensures reading { OnlyReadsOrIo D.BlockDevice dev.old dev.new result }
     ensures few { read_count (D.history dev.new) ≡ read_count (D.history dev.old) + 1 }
 {
     dev.read(block, off, &mut buf[start..start + len as usize])?;

@@ -2,7 +2,7 @@
 
 ghost use Rattle.std.specs.Prelude.{◌≡◌, ◌≤◌, ◌<◌, ◌∷◌, [], length, drop, OnOk};
 ghost use Rattle.lfs_model.specs.format.SkipLists.{AreListBlocks, blocks_to_head};
-ghost use Rattle.lfs_file.specs.Effects.{OnlyReadsOrIo};
+ghost use Rattle.lfs_device.specs.DeviceCalls.{OnlyReadsOrIo};
 ghost use Rattle.lfs_file.specs.Hand.{KeepsUsedBlocks};
 ghost use Rattle.lfs_file.specs.Releases.{ReleasesInFlight};
 

@@ -3,7 +3,8 @@
 ghost use Rattle.std.specs.Prelude.{◌≡◌, ◌≤◌, ◌<◌, ◌+◌, ◌-◌, min, slice_index, IfOk};
 ghost use Rattle.lfs_model.specs.session.History.{read_count};
 ghost use Rattle.lfs_model.specs.format.SkipLists.{AreListBlocks, blocks_to_head};
-ghost use Rattle.lfs_file.specs.Effects.{OnlyReadsOrIo, ReadsAtMost};
+ghost use Rattle.lfs_device.specs.DeviceCalls.{OnlyReadsOrIo};
+ghost use Rattle.lfs_file.specs.Effects.{ReadsAtMost};
 ghost use Rattle.lfs_file.specs.SharedBlocks.{IsSharedCount, unshared_count};
 
 use crate::head_before_block;

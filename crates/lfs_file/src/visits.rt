@@ -6,6 +6,8 @@ ghost use Rattle.lfs_file.specs.FileCalls.{OnlyReadsOrCorrupt};
 ghost use Rattle.lfs_file.specs.Right.{LaterPointersName, ArePointersCopied};
 ghost use Rattle.lfs_file.specs.Way.{HasNotedPointers, ReadsUnlessNoted};
 ghost use Rattle.lfs_model.specs.session.History.{read_count};
+ghost use Rattle.lfs_file.specs.CallPremises.{CanCheckBlock};
+ghost use Rattle.lfs_file.specs.BlockCalls.{ChecksBlock, IsListReadOnce};
 
 use crate::blocks_for;
 use crate::way::{WalkedBlocks, copy_pointers, find_first_block, word_of_slice};
@@ -41,14 +43,10 @@ fn check_and_step<D: BlockDevice>(
     way: &WalkedBlocks,
     words: &mut [u8],
 ) -> Result<u32, Error>
-    requires some { 0 < index }
-    requires order { index ≤ last }
-    requires room { length words.old ≡ 128 }
-    requires way { HasNotedPointers (D.blocks dev.old) last 0 way.now }
+    requires { CanCheckBlock (D.blocks dev.old) last index words.old way.now }
     ensures word { IfOk result (λ word. word ≡ word_at (block_bytes (D.blocks dev.old) block) 0) }
     ensures noted { OnOk result (ArePointersCopied (D.blocks dev.old) block index words.old words.new) }
-    ensures right { OnOk result ((block < (D.geometry dev.old).block_count) × LaterPointersName words.old block index last) }
-    ensures corrupt { IsErrOf result Error.Corrupt → block < (D.geometry dev.old).block_count → ¬ LaterPointersName words.old block index last }
+    ensures checks { ChecksBlock (D.geometry dev.old).block_count block last index words.old result }
     ensures reading { OnlyReadsOrCorrupt D.BlockDevice dev.old dev.new result }
     ensures reads { ReadsUnlessNoted way.now last index block (D.history dev.old) (D.history dev.new) }
 {
@@ -78,13 +76,12 @@ pub fn walk<D: BlockDevice, F: FnMut(u32)>(
     visit: &mut F,
 ) -> Result<(), Error>
     requires { F.IsAlwaysCallable visit.old }
-    ensures well_formed { OnOk result (IsSkipList (D.blocks dev.old) (D.geometry dev.old).block_size head size) }
+    ensures listed { OnOk result (IsListReadOnce (D.blocks dev.old) (D.geometry dev.old).block_size head size (D.history dev.old) (D.history dev.new)) }
     ensures corrupt { IsErrOf result Error.Corrupt → ¬ IsSkipList (D.blocks dev.old) (D.geometry dev.old).block_size head size }
     ensures visited { OnOk result (FoldsTo (λ p x q. F.step p x tt q) visit.old
         (reverse (blocks_to_head (D.blocks dev.old) (block_count_for (D.geometry dev.old).block_size size) head)) visit.new) }
     ensures callable { F.IsAlwaysCallable visit.new }
     ensures reading { OnlyReadsOrCorrupt D.BlockDevice dev.old dev.new result }
-    ensures few { OnOk result (read_count (D.history dev.new) < read_count (D.history dev.old) + block_count_for (D.geometry dev.old).block_size size) }
 {
     let geometry = dev.geometry();
     if size == 0 || size > 0x7fff_ffff {

@@ -7,6 +7,7 @@ ghost use Rattle.lfs_model.specs.format.SkipLists.{AreListBlocks, blocks_to_head
 ghost use Rattle.lfs_file.specs.FileCalls.{OnlyReadsOrCorrupt};
 ghost use Rattle.lfs_file.specs.Right.{ArePointersCopied};
 ghost use Rattle.lfs_file.specs.Way.{HasNotedPointers, IsIndexVisited, HasNotedWalk, ReadsUnlessNoted, visit_count};
+ghost use Rattle.lfs_file.specs.CallPremises.{CanCopyPointers};
 
 use crate::read::{pointer_count_at, read_into_range};
 use byteorder::{ByteOrder, LittleEndian};
@@ -93,11 +94,7 @@ pub(crate) fn copy_pointers<D: BlockDevice>(
     way: &WalkedBlocks,
     words: &mut [u8],
 ) -> Result<(), Error>
-    requires some { 0 < index }
-    requires order { index ≤ last }
-    requires in_device { block < (D.geometry dev.old).block_count }
-    requires room { length words.old ≡ 128 }
-    requires way { HasNotedPointers (D.blocks dev.old) last 0 way.now }
+    requires { CanCopyPointers (D.blocks dev.old) (D.geometry dev.old).block_count block last index words.old way.now }
     ensures noted { OnOk result (ArePointersCopied (D.blocks dev.old) block index words.old words.new) }
     ensures device { ReadsOnly D.BlockDevice dev.old dev.new }
     ensures faults { ReportsFaults D.BlockDevice dev.old dev.new result }

@@ -5,13 +5,14 @@ ghost use Rattle.std.specs.Bool.{OnFalse, OnTrue};
 ghost use Rattle.lfs_model.specs.layers.BlockSets.{used_count};
 ghost use Rattle.lfs_model.specs.format.SkipLists.{block_count_for};
 ghost use Rattle.lfs_model.specs.session.Writers.{written_contents};
-ghost use Rattle.lfs_file.specs.FileCalls.{ReportsIoOrNoMemory};
+ghost use Rattle.lfs_device.specs.DeviceCalls.{ReportsIoOrNoMemory};
 ghost use Rattle.lfs_file.specs.Growing.{fit_unwritten, growing_size};
 ghost use Rattle.lfs_file.specs.ContentsCalls.{CallKeepsUsedBytes};
 ghost use Rattle.lfs_file.specs.Hand.{KeepsUsedBlocks};
 ghost use Rattle.lfs_file.specs.BaseRoom.{in_flight_limit};
 ghost use Rattle.lfs_file.specs.HandWrites.{UnfinishedListOnDisk, IsWrittenTo, unfinished_bytes, unfinished_length};
 ghost use Rattle.lfs_file.specs.BlockOwners.{KeepsStoredBlocks};
+ghost use Rattle.lfs_file.specs.CallPremises.{CanAppendToUnfinished, CanFillAndWrite};
 
 use crate::Extender;
 use crate::extensions::extend_list;
@@ -57,11 +58,7 @@ pub(crate) fn append_to_unfinished<D: BlockDevice>(
     hand: &mut PendingList,
     bytes: &[u8],
 ) -> Result<(), Error>
-    requires begun { UnfinishedListOnDisk map.old (D.blocks dev.old) (D.geometry dev.old) hand.old }
-    requires some { 1 ≤ length bytes.now }
-    requires small { growing_size hand.old.list + length bytes.now < 2 ^ 31 }
-    requires room { used_count map.old + block_count_for (D.geometry dev.old).block_size (growing_size hand.old.list + length bytes.now)
-        + in_flight_limit (D.geometry dev.old).block_size hand.old.base ≤ length map.old }
+    requires { CanAppendToUnfinished map.old (D.blocks dev.old) (D.geometry dev.old) hand.old (length bytes.now) }
     ensures written { OnOk result (IsWrittenTo map.new (D.blocks dev.new) (D.geometry dev.old) hand.new (growing_size hand.old.list + length bytes.now)
         (written_contents (unfinished_bytes (D.blocks dev.old) hand.old) (growing_size hand.old.list) bytes.now)) }
     ensures base { KeepsStoredBlocks (D.geometry dev.old).block_size (D.blocks dev.old) hand.old.base (D.blocks dev.new) hand.new.base }
@@ -88,11 +85,7 @@ pub(crate) fn fill_and_write<D: BlockDevice>(
     place: u32,
     bytes: &[u8],
 ) -> Result<(), Error>
-    requires begun { UnfinishedListOnDisk map.old (D.blocks dev.old) (D.geometry dev.old) hand.old }
-    requires at { growing_size hand.old.list ≡ min place (unfinished_length hand.old) }
-    requires some { 1 ≤ length bytes.now }
-    requires small { place + length bytes.now < 2 ^ 31 }
-    requires room { used_count map.old + block_count_for (D.geometry dev.old).block_size (place + length bytes.now) + in_flight_limit (D.geometry dev.old).block_size hand.old.base ≤ length map.old }
+    requires { CanFillAndWrite map.old (D.blocks dev.old) (D.geometry dev.old) hand.old place (length bytes.now) }
     ensures written { OnOk result (IsWrittenTo map.new (D.blocks dev.new) (D.geometry dev.old) hand.new (place + length bytes.now)
         (written_contents (unfinished_bytes (D.blocks dev.old) hand.old) place bytes.now)) }
     ensures base { KeepsStoredBlocks (D.geometry dev.old).block_size (D.blocks dev.old) hand.old.base (D.blocks dev.new) hand.new.base }

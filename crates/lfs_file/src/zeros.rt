@@ -4,13 +4,14 @@ ghost use Rattle.std.specs.Prelude.{◌≡◌, ◌≤◌, ◌<◌, ◌+◌, ◌^
 ghost use Rattle.lfs_model.specs.layers.BlockSets.{used_count};
 ghost use Rattle.lfs_model.specs.format.SkipLists.{block_count_for};
 ghost use Rattle.lfs_model.specs.session.Writers.{written_contents};
-ghost use Rattle.lfs_file.specs.FileCalls.{ReportsIoOrNoMemory};
+ghost use Rattle.lfs_device.specs.DeviceCalls.{ReportsIoOrNoMemory};
 ghost use Rattle.lfs_file.specs.Growing.{growing_size};
 ghost use Rattle.lfs_file.specs.ContentsCalls.{CallKeepsUsedBytes};
 ghost use Rattle.lfs_file.specs.Hand.{KeepsUsedBlocks};
 ghost use Rattle.lfs_file.specs.BaseRoom.{in_flight_limit};
 ghost use Rattle.lfs_file.specs.HandWrites.{UnfinishedListOnDisk, EndsInZeros, unfinished_bytes};
 ghost use Rattle.lfs_file.specs.BlockOwners.{KeepsStoredBlocks};
+ghost use Rattle.lfs_file.specs.CallPremises.{CanWriteZeros};
 
 use crate::writes::{PendingList, append_to_unfinished};
 use lfs_blocks::BlockMap;
@@ -30,10 +31,7 @@ pub(crate) fn write_zeros<D: BlockDevice>(
     hand: &mut PendingList,
     count: u32,
 ) -> Result<(), Error>
-    requires begun { UnfinishedListOnDisk map.old (D.blocks dev.old) (D.geometry dev.old) hand.old }
-    requires small { growing_size hand.old.list + count < 2 ^ 31 }
-    requires room { used_count map.old + block_count_for (D.geometry dev.old).block_size (growing_size hand.old.list + count)
-        + in_flight_limit (D.geometry dev.old).block_size hand.old.base ≤ length map.old }
+    requires { CanWriteZeros map.old (D.blocks dev.old) (D.geometry dev.old) hand.old count }
     ensures zeroed { OnOk result (EndsInZeros map.new (D.blocks dev.new) (D.geometry dev.old) hand.new count (growing_size hand.old.list + count)
         (written_contents (unfinished_bytes (D.blocks dev.old) hand.old) (growing_size hand.old.list) (replicate count 0))) }
     ensures base { KeepsStoredBlocks (D.geometry dev.old).block_size (D.blocks dev.old) hand.old.base (D.blocks dev.new) hand.new.base }

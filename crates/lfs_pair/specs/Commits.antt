@@ -75,6 +75,27 @@ pub record HeaderSaysActive (disk : Disk) (pair : Pair) : Type 0 where
   pub holds : current_block disk (header_address pair) ≡ Some (disk_block disk pair.active)
   pub revision_is : pair.revision ≡ block_revision (disk_block disk pair.active)
 
+-- The premises of a commit to a pair whose active block has these bytes.
+pub record CanCommitBytes (disk : Disk) (history : List CallEvent) (pair : Pair) (changes : List PairChange) (bytes : List ℕ) : Type 0 where
+  pub can : CanCommit disk history pair changes
+  pub block : bytes ≡ block_bytes disk.blocks pair.active
+
+-- The premises of an append: those of a commit, the content that the changes make, and a buffer as long as a block.
+pub record CanAppendContent (disk : Disk) (history : List CallEvent) (pair : Pair) (changes : List PairChange) (c : RawContent) (len : ℕ) : Type 0 where
+  pub can : CanCommit disk history pair changes
+  pub logged : IsWellFormed c
+  pub made : changed_pair disk (header_address pair) changes ≡ Some c
+  pub buf : len ≡ disk.block_size
+
+-- The premises of a compaction: the disk has the pair, the content can be written anew, and the buffer is as long as a block.
+pub record CanCompact (disk : Disk) (pair : Pair) (c : RawContent) (len : ℕ) : Type 0 where
+  pub address : AddressIsOnDisk disk (header_address pair)
+  pub active : HeaderSaysActive disk pair
+  pub buf : len ≡ disk.block_size
+  pub logged : IsWellFormed c
+  pub names : AreNamed c.slots
+  pub fits : RawContentFits disk.block_size disk.page c
+
 -- the pair at the address has that content, and its active block was written since the last fetch
 pub record PairHas (disk : Disk) (history : List CallEvent) (at : ℕ × ℕ) (pair : Pair) (held : RawContent) : Type 0 where
   pub is_pair : IsAsHeader disk history pair held

@@ -5,7 +5,7 @@ use Rattle.lfs_device.specs.declared.error.Error.TheVariants.{Io, NoMemory}
 use Rattle.lfs_model.specs.format.Blocks.{Blocks, block_bytes}
 use Rattle.lfs_model.specs.format.Disk.{Disk, disk_block}
 use Rattle.lfs_model.specs.session.History.{DeviceCall, Read, Program, Erase, Blank, AllCallsSince, CallEvent, erase_count, program_count}
-use Rattle.lfs_model.specs.layers.LoggedContent.{AreNamed}
+use Rattle.lfs_model.specs.layers.LoggedContent.{AreNamed, IsWellFormed}
 use Rattle.lfs_model.specs.format.Content.{RawContent, has_commit, empty_raw_content}
 use Rattle.lfs_model.specs.layers.Changes.{PairChange, changed_content_of}
 use Rattle.lfs_model.specs.layers.WrittenContent.{RawContentFits}
@@ -20,6 +20,14 @@ pub record CanWriteFresh (disk : Disk) (at : ℕ × ℕ) (changes : List PairCha
   pub changed : changed_content_of empty_raw_content changes ≡ Some new
   pub names : AreNamed new.slots
   pub fits : RawContentFits disk.block_size disk.page new
+
+-- The premises for a content: two blocks of the disk, a content that can be written anew, and a buffer as long as a block.
+pub record CanWriteFreshContent (disk : Disk) (at : ℕ × ℕ) (c : RawContent) (len : ℕ) : Type 0 where
+  pub address : AddressIsOnDisk disk at
+  pub buf : len ≡ disk.block_size
+  pub logged : IsWellFormed c
+  pub names : AreNamed c.slots
+  pub fits : RawContentFits disk.block_size disk.page c
 
 -- an erase that succeeds leaves no log
 abbrev pub LeavesNoLog : DeviceCall → Bool → Blocks → Type 0

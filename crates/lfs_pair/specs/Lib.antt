@@ -6,3 +6,5 @@ pub mod HalfCut
 pub mod FreshPair
 pub mod Split
 pub mod Copies
+pub mod Fetching
+pub mod Endings

@@ -1,5 +1,5 @@
 -- The header of a pair, and what it says of the disk.
-use Rattle.std.specs.Prelude.{ℕ, ◌≡◌, ◌==◌, ◌%◌, ◌&&◌, ◌||◌, not, Bool, true, false, if◌then◌else◌, List, length, Some, is_some}
+use Rattle.std.specs.Prelude.{ℕ, ◌≡◌, ◌≢◌, ◌<◌, ◌==◌, ◌%◌, ◌&&◌, ◌||◌, not, Bool, true, false, if◌then◌else◌, List, length, Some, is_some}
 use Rattle.std.specs.Option.{option_map}
 use Rattle.lfs_model.specs.format.Disk.{Disk, disk_block}
 use Rattle.lfs_model.specs.session.History.{CallEvent, AreUnprogrammed}
@@ -14,6 +14,12 @@ use Rattle.lfs_pair.specs.declared.pair.Pair.{Pair}
 -- the address of a header's pair
 abbrev pub header_address : Pair → ℕ × ℕ
 header_address pair = array_address pair.blocks
+
+-- two different blocks of a device with so many
+pub record AreTwoBlocks (count : ℕ) (at : ℕ × ℕ) : Type 0 where
+  pub apart : at.0 ≢ at.1
+  pub first : at.0 < count
+  pub second : at.1 < count
 
 -- the block of a pair that isn't active
 abbrev pub inactive_of : ℕ × ℕ → ℕ → ℕ

@@ -1,6 +1,6 @@
 -- What a split does to a pair.
-use Rattle.std.specs.Prelude.{ℕ, ◌≡◌, ◌≢◌, ◌⊎◌, ◌+◌, ◌<◌, ◌%◌, ◌^◌, true, List, length, take, drop, Some}
-use Rattle.lfs_model.specs.format.Blocks.{Blocks, SameExceptThese}
+use Rattle.std.specs.Prelude.{ℕ, ◌≡◌, ◌≢◌, ◌⊎◌, ◌+◌, ◌<◌, ◌%◌, ◌^◌, true, List, length, take, drop, Some, [], ◌∷◌}
+use Rattle.lfs_model.specs.format.Blocks.{Blocks, SameExceptThese, block_bytes}
 use Rattle.lfs_model.specs.format.Disk.{Disk, disk_block}
 use Rattle.lfs_model.specs.session.History.{CallEvent, StayUnprogrammed}
 use Rattle.lfs_model.specs.format.Slots.{zero_gstate}
@@ -30,6 +30,11 @@ pub record CanSplitPair (disk : Disk) (history : List CallEvent) (pair : Pair) (
   pub fresh_is : AddressIsOnDisk disk fresh
   pub apart : AreApart (header_address pair) fresh
   pub cut : CanSplit disk.block_size disk.page commit.new.slots
+
+-- The premises of a split of a pair whose active block has these bytes.
+pub record CanSplitBytes (disk : Disk) (history : List CallEvent) (pair : Pair) (fresh : ℕ × ℕ) (changes : List PairChange) (bytes : List ℕ) : Type 0 where
+  pub can : CanSplitPair disk history pair fresh changes
+  pub block : bytes ≡ block_bytes disk.blocks pair.active
 
 -- the old pair's new content: the first slots, a hard tail to the fresh pair, and the delta of the global state
 abbrev pub split_front : RawContent → ℕ → ℕ × ℕ → RawContent

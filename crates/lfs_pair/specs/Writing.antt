@@ -1,8 +1,9 @@
 -- What a commit makes of a block, and what a stop during it leaves.
-use Rattle.std.specs.Prelude.{ℕ, ◌≡◌, ◌≤◌, ◌⊎◌, ◌+◌, ◌%◌, ◌++◌, Bool, true, List, [], ◌∷◌, take, IfErr, Result, Some, unwrap_or}
+use Rattle.std.specs.Prelude.{ℕ, ◌≡◌, ◌≤◌, ◌<◌, ◌⊎◌, ◌+◌, ◌%◌, ◌++◌, Bool, true, List, [], ◌∷◌, take, IfErr, Result, Some, unwrap_or}
 use Rattle.lfs_device.specs.declared.device.BlockDevice.{Ghosts}
 use Rattle.lfs_device.specs.declared.error.Error.{Error}
 use Rattle.lfs_device.specs.declared.error.Error.TheVariants.{Io}
+use Rattle.lfs_device.specs.declared.geometry.Geometry.{Geometry}
 use Rattle.lfs_device.specs.DeviceCalls.{ChangesOnlyThisBlock, ChangesOnlyTheseBlocks, ReportsFaults}
 use Rattle.lfs_model.specs.format.Blocks.{Blocks, block_bytes, SameExcept}
 use Rattle.lfs_model.specs.format.Disk.{Disk, disk_block}
@@ -10,13 +11,33 @@ use Rattle.lfs_model.specs.session.History.{AreUnprogrammed, Blank, CallEvent, c
 use Rattle.lfs_model.specs.format.Tag.{abstract_type}
 use Rattle.lfs_model.specs.format.Log.{LogEntry, chain_of, block_revision, block_entries}
 use Rattle.lfs_model.specs.format.Content.{RawContent, has_commit, content_after, empty_raw_content}
-use Rattle.lfs_model.specs.layers.WrittenContent.{content_entries}
+use Rattle.lfs_model.specs.layers.WrittenContent.{RawContentFits, content_entries}
+use Rattle.lfs_model.specs.layers.LoggedContent.{AreNamed, IsWellFormed}
 use Rattle.lfs_model.specs.crash.Stops.{SameLog, HasNoLog}
-use Rattle.lfs_tag.specs.Builder.{PartialCommit, earlier_commits, padded_end_of}
+use Rattle.lfs_tag.specs.Builder.{IsCommitOffset, PartialCommit, earlier_commits, padded_end_of}
 
 -- a commit that is built, with more entries
 abbrev pub commit_with_more : List LogEntry → PartialCommit → PartialCommit
 commit_with_more es b = record b { entries = b.entries ++ es }
+
+-- A built commit can be programmed at an offset of a block: it has room there, it goes on the block's log, and the block is
+-- unprogrammed from there on.
+pub record CanProgramCommit (geometry : Geometry) (blocks : Blocks) (history : List CallEvent) (builder : PartialCommit) (b at : ℕ) : Type 0 where
+  pub in_device : b < geometry.block_count
+  pub begins : at % geometry.page ≡ 0
+  pub page : builder.page ≡ geometry.page
+  pub room : padded_end_of builder ≤ builder.room
+  pub ends : at + padded_end_of builder ≤ geometry.block_size
+  pub goes : IsCommitOffset builder.revision builder.previous (block_bytes blocks b) at
+  pub unprogrammed : AreUnprogrammed history b at geometry.block_size
+
+-- a content can be written into a block as its first commit, by a buffer as long as a block
+pub record CanWriteAnew (geometry : Geometry) (b : ℕ) (c : RawContent) (len : ℕ) : Type 0 where
+  pub in_device : b < geometry.block_count
+  pub buf : len ≡ geometry.block_size
+  pub logged : IsWellFormed c
+  pub names : AreNamed c.slots
+  pub fits : RawContentFits geometry.block_size geometry.page c
 
 -- A block's log ends at this place, which is a page boundary, with this last tag. Nothing is programmed after it.
 pub record EndsBeforeUnprogrammed (disk : Disk) (history : List CallEvent) (block end last : ℕ) : Type 0 where

@@ -1,18 +1,16 @@
 // Commits of changes to a pair.
 
-ghost use Rattle.std.specs.Prelude.{◌≡◌, true, false, IfErr, OnErr, OnOk, Some, length};
+ghost use Rattle.std.specs.Prelude.{◌≡◌, true, false, IfErr, OnErr, OnOk, length};
 ghost use Rattle.lfs_device.specs.DeviceDisk.{disk_of_blocks};
-ghost use Rattle.lfs_model.specs.format.Blocks.{block_bytes};
-ghost use Rattle.lfs_device.specs.DeviceCalls.{ReportsFaults};
+ghost use Rattle.lfs_device.specs.DeviceCalls.{ReportsFaults, ReportsNoErrorButIo};
 ghost use Rattle.lfs_model.specs.session.History.{AllCallsSince, HoldsAtLosses};
 ghost use Rattle.lfs_model.specs.crash.Stops.{ErasesCleanly, LeftByLoss};
-ghost use Rattle.lfs_model.specs.layers.WrittenContent.{RawContentFits};
-ghost use Rattle.lfs_model.specs.layers.LoggedContent.{AreNamed, IsWellFormed};
 ghost use Rattle.lfs_tag.specs.ContentView.{content_view};
 ghost use Rattle.lfs_model.specs.format.Content.{RawContent};
 ghost use Rattle.lfs_pair.specs.Pair.{IsAsHeader, header_address};
 ghost use Rattle.lfs_pair.specs.ChangeView.{changes_view};
-ghost use Rattle.lfs_pair.specs.Commits.{changed_pair, AppendsChanges, CanCommit, CommitsChanges, CompactsToContent, CommitFailsKeepingHeader, CannotAppend, IsEndBlank, RefusesCommit, AddressIsOnDisk, HeaderSaysActive, LossLeavesChanged, LossLeavesNew};
+ghost use Rattle.lfs_pair.specs.Commits.{AddressIsOnDisk, CanAppendContent, CanCommit, CanCommitBytes, CanCompact, CompactsToContent, CommitFailsKeepingHeader, IsEndBlank, LossLeavesChanged, LossLeavesNew};
+ghost use Rattle.lfs_pair.specs.Endings.{AppendEnds, CommitEnds};
 ghost use Rattle.lfs_pair.specs.Writing.{AsksAboutBlankBytes, ChangesOnlyBlocksWithinReadLimit, WritesOnlyTheseBlocks};
 ghost use Rattle.lfs_model.specs.format.Thread.{address_blocks};
 
@@ -64,9 +62,7 @@ pub fn commit<D: BlockDevice>(
 ) -> Result<Outcome, Error>
     requires { CanCommit (disk_of_blocks (D.geometry dev.old) (D.blocks dev.old)) (D.history dev.old) pair.old (changes_view changes.now) }
 
-    ensures done { result ≡ Ok Outcome.Done
-        → CommitsChanges (disk_of_blocks (D.geometry dev.old) (D.blocks dev.old)) (D.history dev.old) (changes_view changes.now) pair.old (disk_of_blocks (D.geometry dev.new) (D.blocks dev.new)) (D.history dev.new) pair.new }
-    ensures full { result ≡ Ok Outcome.Full → RefusesCommit D.BlockDevice (changes_view changes.now) dev.old dev.new pair.old pair.new }
+    ensures ends { CommitEnds D.BlockDevice (changes_view changes.now) dev.old dev.new pair.old pair.new result }
     ensures error { IfErr result (λ e. CommitFailsKeepingHeader D.BlockDevice dev.old dev.new pair.old pair.new e) }
     ensures device { ChangesOnlyBlocksWithinReadLimit D.BlockDevice 2 (address_blocks (header_address pair.old)) dev.old dev.new }
     ensures faults { ReportsFaults D.BlockDevice dev.old dev.new result }
@@ -90,12 +86,9 @@ pub fn commit_bytes<'a, 'b: 'a, D: BlockDevice>(
     block: &'a [u8],
     changes: &[Change<'b>],
 ) -> Result<Outcome, Error>
-    requires can { CanCommit (disk_of_blocks (D.geometry dev.old) (D.blocks dev.old)) (D.history dev.old) pair.old (changes_view changes.now) }
-    requires block { block.now ≡ block_bytes (D.blocks dev.old) pair.old.active }
+    requires { CanCommitBytes (disk_of_blocks (D.geometry dev.old) (D.blocks dev.old)) (D.history dev.old) pair.old (changes_view changes.now) block.now }
 
-    ensures done { result ≡ Ok Outcome.Done
-        → CommitsChanges (disk_of_blocks (D.geometry dev.old) (D.blocks dev.old)) (D.history dev.old) (changes_view changes.now) pair.old (disk_of_blocks (D.geometry dev.new) (D.blocks dev.new)) (D.history dev.new) pair.new }
-    ensures full { result ≡ Ok Outcome.Full → RefusesCommit D.BlockDevice (changes_view changes.now) dev.old dev.new pair.old pair.new }
+    ensures ends { CommitEnds D.BlockDevice (changes_view changes.now) dev.old dev.new pair.old pair.new result }
     ensures error { IfErr result (λ e. CommitFailsKeepingHeader D.BlockDevice dev.old dev.new pair.old pair.new e) }
     ensures device { ChangesOnlyBlocksWithinReadLimit D.BlockDevice 1 (address_blocks (header_address pair.old)) dev.old dev.new }
     ensures faults { ReportsFaults D.BlockDevice dev.old dev.new result }
@@ -124,8 +117,7 @@ fn is_end_blank<D: BlockDevice>(dev: &mut D, pair: &Pair) -> Result<bool, Error>
     ensures yes { result ≡ Ok true → IsEndBlank (D.geometry dev.old) (D.history dev.old) (D.history dev.new) pair.now }
     ensures no { result ≡ Ok false → (pair.now.is_fetched ≡ true) × (D.history dev.new ≡ D.history dev.old) }
     ensures asks { AsksAboutBlankBytes D.BlockDevice dev.old dev.new }
-    ensures errors { IfErr result (λ e. e ≡ Error.Io) }
-    ensures faults { ReportsFaults D.BlockDevice dev.old dev.new result }
+    ensures reports { ReportsNoErrorButIo D.BlockDevice dev.old dev.new result }
 {
     if !pair.is_fetched {
         return Ok(true);
@@ -148,14 +140,9 @@ fn append_changes<D: BlockDevice>(
     content: &Content<'_>,
     buf: &mut [u8],
 ) -> Result<bool, Error>
-    requires can { CanCommit (disk_of_blocks (D.geometry dev.old) (D.blocks dev.old)) (D.history dev.old) pair.old (changes_view changes.now) }
-    requires logged { IsWellFormed (content_view content.now) }
-    requires made { changed_pair (disk_of_blocks (D.geometry dev.old) (D.blocks dev.old)) (header_address pair.old) (changes_view changes.now) ≡ Some (content_view content.now) }
-    requires buf { length buf.old ≡ (D.geometry dev.old).block_size }
+    requires { CanAppendContent (disk_of_blocks (D.geometry dev.old) (D.blocks dev.old)) (D.history dev.old) pair.old (changes_view changes.now) (content_view content.now) (length buf.old) }
 
-    ensures done { result ≡ Ok true → AppendsChanges (disk_of_blocks (D.geometry dev.old) (D.blocks dev.old)) (D.history dev.old) pair.old (changes_view changes.now) (content_view content.now)
-        (disk_of_blocks (D.geometry dev.new) (D.blocks dev.new)) (D.history dev.new) pair.new }
-    ensures no_room { result ≡ Ok false → CannotAppend D.BlockDevice (changes_view changes.now) dev.old dev.new pair.old pair.new }
+    ensures ends { AppendEnds D.BlockDevice (changes_view changes.now) (content_view content.now) dev.old dev.new pair.old pair.new result }
     ensures buf { length buf.new ≡ length buf.old }
     ensures err_pair { OnErr result (pair.new ≡ pair.old) }
     ensures writes { WritesOnlyTheseBlocks D.BlockDevice 1 (address_blocks (header_address pair.old)) dev.old dev.new result }
@@ -184,12 +171,7 @@ pub(crate) fn compact<D: BlockDevice>(
     content: &Content<'_>,
     buf: &mut [u8],
 ) -> Result<(), Error>
-    requires address { AddressIsOnDisk (disk_of_blocks (D.geometry dev.old) (D.blocks dev.old)) (header_address pair.old) }
-    requires active { HeaderSaysActive (disk_of_blocks (D.geometry dev.old) (D.blocks dev.old)) pair.old }
-    requires buf { length buf.old ≡ (D.geometry dev.old).block_size }
-    requires logged { IsWellFormed (content_view content.now) }
-    requires names { AreNamed (content_view content.now).slots }
-    requires fits { RawContentFits (D.geometry dev.old).block_size (D.geometry dev.old).page (content_view content.now) }
+    requires { CanCompact (disk_of_blocks (D.geometry dev.old) (D.blocks dev.old)) pair.old (content_view content.now) (length buf.old) }
 
     ensures buf { length buf.new ≡ length buf.old }
     ensures done { OnOk result (CompactsToContent (disk_of_blocks (D.geometry dev.old) (D.blocks dev.old)) (D.history dev.old) pair.old (content_view content.now)

@@ -1,14 +1,15 @@
 // The header of a pair, read from the device.
 
-ghost use Rattle.std.specs.Prelude.{◌≡◌, ◌≢◌, ◌+◌, ◌≤◌, ◌<◌, ◌⊎◌, true, IfOk, IfErr, None, OnOk};
+ghost use Rattle.std.specs.Prelude.{◌≡◌, ◌+◌, ◌<◌, true, IfOk, IfErr};
 ghost use Rattle.lfs_model.specs.format.Blocks.{block_bytes};
 ghost use Rattle.lfs_device.specs.DeviceDisk.{disk_of_blocks};
-ghost use Rattle.lfs_device.specs.DeviceCalls.{ReadsOnly, ReportsFaults};
+ghost use Rattle.lfs_device.specs.DeviceCalls.{ReadsOnly, ReportsFaults, ReportsNoErrorButIo};
 ghost use Rattle.lfs_model.specs.session.History.{read_count};
 ghost use Rattle.lfs_model.specs.format.Slots.{array_address};
-ghost use Rattle.lfs_model.specs.format.Log.{chain_of, block_entries, block_revision};
-ghost use Rattle.lfs_model.specs.format.Content.{raw_content, content_after, empty_raw_content, RawContent};
-ghost use Rattle.lfs_pair.specs.Pair.{HeaderDescribesLog, FetchFindsPair, fetch_reads, later_block_first};
+ghost use Rattle.lfs_model.specs.format.Log.{block_revision};
+ghost use Rattle.lfs_model.specs.format.Content.{RawContent};
+ghost use Rattle.lfs_pair.specs.Pair.{AreTwoBlocks, FetchFindsPair, HeaderDescribesLog, later_block_first};
+ghost use Rattle.lfs_pair.specs.Fetching.{FetchFails, FetchReads, HeaderFails, IsHeadOf, ReadsTwice};
 
 use crate::block_logs::ActiveBlockCandidate;
 use crate::pair::Pair;
@@ -25,15 +26,12 @@ fn fetched_header(
     head: ActiveBlockCandidate,
     bytes: &[u8],
 ) -> Result<Pair, Error>
-    requires end { head.end ≡ (chain_of bytes.now).end }
-    requires last { head.last ≡ (chain_of bytes.now).last }
-    requires revision { head.revision ≡ block_revision bytes.now }
+    requires { IsHeadOf bytes.now head }
     ensures describes { IfOk result (λ pair. (held : RawContent) × HeaderDescribesLog bytes.now pair held) }
     ensures blocks { IfOk result (λ pair. pair.blocks ≡ blocks) }
     ensures active { IfOk result (λ pair. pair.active ≡ active) }
     ensures fetched { IfOk result (λ pair. pair.is_fetched ≡ true) }
-    ensures corrupt { result ≡ Err Error.Corrupt → content_after empty_raw_content (block_entries bytes.now) ≡ None }
-    ensures errors { IfErr result (λ e. (e ≡ Error.Corrupt) ⊎ (e ≡ Error.NoMemory)) }
+    ensures fails { HeaderFails bytes.now result }
 {
     let log = Log::with_known_end(bytes, head.end, head.last);
     let summary = Summary::read(alloc, &log)?;
@@ -71,11 +69,9 @@ fn later_first<D: BlockDevice>(dev: &mut D, blocks: [u32; 2]) -> Result<[u32; 2]
     requires first { (array_address blocks).0 < (D.geometry dev.old).block_count }
     requires second { (array_address blocks).1 < (D.geometry dev.old).block_count }
     ensures later { IfOk result (λ later. array_address later ≡ later_block_first (disk_of_blocks (D.geometry dev.old) (D.blocks dev.old)) (array_address blocks)) }
-    ensures errors { IfErr result (λ e. e ≡ Error.Io) }
-    ensures faults { ReportsFaults D.BlockDevice dev.old dev.new result }
+    ensures reports { ReportsNoErrorButIo D.BlockDevice dev.old dev.new result }
     ensures device { ReadsOnly D.BlockDevice dev.old dev.new }
-    ensures reads { read_count (D.history dev.new) ≤ read_count (D.history dev.old) + 2 }
-    ensures both { OnOk result (read_count (D.history dev.new) ≡ read_count (D.history dev.old) + 2) }
+    ensures twice { ReadsTwice (D.history dev.old) (D.history dev.new) result }
 {
     let [first, second] = blocks;
     let first_revision = read_revision(dev, first)?;
@@ -98,16 +94,11 @@ fn later_first<D: BlockDevice>(dev: &mut D, blocks: [u32; 2]) -> Result<[u32; 2]
 /// malformed. `Io` where a read failed. `NoMemory` where memory for the blocks and the slots isn't
 /// granted.
 pub fn fetch<D: BlockDevice>(alloc: Global, dev: &mut D, blocks: [u32; 2]) -> Result<Pair, Error>
-    requires apart { (array_address blocks).0 ≢ (array_address blocks).1 }
-    requires first { (array_address blocks).0 < (D.geometry dev.old).block_count }
-    requires second { (array_address blocks).1 < (D.geometry dev.old).block_count }
+    requires { AreTwoBlocks (D.geometry dev.old).block_count (array_address blocks) }
     ensures ok { IfOk result (λ pair. FetchFindsPair (disk_of_blocks (D.geometry dev.old) (D.blocks dev.old)) (D.history dev.new) (array_address blocks) pair) }
-    ensures corrupt { result ≡ Err Error.Corrupt → raw_content (disk_of_blocks (D.geometry dev.old) (D.blocks dev.old)) (array_address blocks) ≡ None }
-    ensures errors { IfErr result (λ e. (e ≡ Error.Corrupt) ⊎ (e ≡ Error.NoMemory) ⊎ (e ≡ Error.Io)) }
-    ensures faults { ReportsFaults D.BlockDevice dev.old dev.new result }
+    ensures fails { FetchFails D.BlockDevice (array_address blocks) dev.old dev.new result }
     ensures device { ReadsOnly D.BlockDevice dev.old dev.new }
-    ensures reads { OnOk result (read_count (D.history dev.new) ≡ read_count (D.history dev.old) + fetch_reads (disk_of_blocks (D.geometry dev.old) (D.blocks dev.old)) (array_address blocks)) }
-    ensures few { read_count (D.history dev.new) ≤ read_count (D.history dev.old) + 4 }
+    ensures reads { FetchReads (disk_of_blocks (D.geometry dev.old) (D.blocks dev.old)) (array_address blocks) (D.history dev.old) (D.history dev.new) result }
 {
     let [later, other] = later_first(dev, blocks)?;
     let bytes = read_block(alloc, dev, later)?;

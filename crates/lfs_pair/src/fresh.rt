@@ -5,14 +5,12 @@ ghost use Rattle.lfs_device.specs.DeviceDisk.{disk_of_blocks};
 ghost use Rattle.lfs_device.specs.DeviceCalls.{ReportsFaults};
 ghost use Rattle.lfs_model.specs.format.Blocks.{block_bytes};
 ghost use Rattle.lfs_model.specs.format.Content.{has_commit};
-ghost use Rattle.lfs_model.specs.layers.LoggedContent.{AreNamed, IsWellFormed};
 ghost use Rattle.lfs_model.specs.format.Slots.{array_address};
-ghost use Rattle.lfs_model.specs.layers.WrittenContent.{RawContentFits};
 ghost use Rattle.lfs_tag.specs.ContentView.{content_view};
 ghost use Rattle.lfs_pair.specs.ChangeView.{changes_view};
-ghost use Rattle.lfs_pair.specs.Commits.{AddressIsOnDisk, PairHas};
+ghost use Rattle.lfs_pair.specs.Commits.{PairHas};
 ghost use Rattle.lfs_pair.specs.Writing.{ChangesOnlyBlocksWithinReadLimit, WritesOnlyThisBlock, WritesOnlyTheseBlocks};
-ghost use Rattle.lfs_pair.specs.FreshPair.{CanWriteFresh, ErasedOneMore, LeavesDeviceUntouchedAtNoMemory, HasFreshContent, IsFreshPair};
+ghost use Rattle.lfs_pair.specs.FreshPair.{CanWriteFresh, CanWriteFreshContent, ErasedOneMore, LeavesDeviceUntouchedAtNoMemory, HasFreshContent, IsFreshPair};
 ghost use Rattle.lfs_model.specs.format.Thread.{address_blocks};
 
 use crate::change::Change;
@@ -56,11 +54,7 @@ pub(crate) fn write_fresh_pair<D: BlockDevice>(
     content: &Content<'_>,
     buf: &mut [u8],
 ) -> Result<Pair, Error>
-    requires address { AddressIsOnDisk (disk_of_blocks (D.geometry dev.old) (D.blocks dev.old)) (array_address blocks) }
-    requires buf { length buf.old ≡ (D.geometry dev.old).block_size }
-    requires logged { IsWellFormed (content_view content.now) }
-    requires names { AreNamed (content_view content.now).slots }
-    requires fits { RawContentFits (D.geometry dev.old).block_size (D.geometry dev.old).page (content_view content.now) }
+    requires { CanWriteFreshContent (disk_of_blocks (D.geometry dev.old) (D.blocks dev.old)) (array_address blocks) (content_view content.now) (length buf.old) }
 
     ensures holds { IfOk result (λ pair. PairHas (disk_of_blocks (D.geometry dev.new) (D.blocks dev.new)) (D.history dev.new) (array_address blocks) pair (content_view content.now)) }
     ensures fresh { IfOk result (λ pair. HasFreshContent revision (content_view content.now) (disk_of_blocks (D.geometry dev.new) (D.blocks dev.new)) (array_address blocks) pair) }

@@ -1,17 +1,15 @@
 // Commits that are written to a block of the device.
 
-ghost use Rattle.std.specs.Prelude.{◌≡◌, ◌<◌, ◌≤◌, ◌+◌, ◌%◌, length, IfOk, IfErr, OnOk};
+ghost use Rattle.std.specs.Prelude.{◌≡◌, ◌<◌, ◌≤◌, ◌+◌, length, IfOk, OnOk};
 ghost use Rattle.lfs_device.specs.DeviceDisk.{disk_of_blocks};
-ghost use Rattle.lfs_device.specs.DeviceCalls.{ReadsOnly, ReportsFaults};
+ghost use Rattle.lfs_device.specs.DeviceCalls.{ReadsOnly, ReportsNoErrorButIo};
 ghost use Rattle.lfs_model.specs.format.Blocks.{block_bytes};
-ghost use Rattle.lfs_model.specs.session.History.{AreUnprogrammed, AllCallsSince, HoldsAtLosses, read_count};
-ghost use Rattle.lfs_model.specs.layers.LoggedContent.{AreNamed, IsWellFormed};
+ghost use Rattle.lfs_model.specs.session.History.{AllCallsSince, HoldsAtLosses, read_count};
 ghost use Rattle.lfs_model.specs.layers.Commit.{encoded_size, four_bytes, commit_end_aligned};
 ghost use Rattle.lfs_model.specs.crash.Stops.{ErasesCleanly, LeftByLoss};
-ghost use Rattle.lfs_model.specs.layers.WrittenContent.{RawContentFits, content_entries};
-ghost use Rattle.lfs_tag.specs.Builder.{IsCommitOffset, padded_end_of};
+ghost use Rattle.lfs_model.specs.layers.WrittenContent.{content_entries};
 ghost use Rattle.lfs_tag.specs.ContentView.{content_view};
-ghost use Rattle.lfs_pair.specs.Writing.{BlockGetsCommit, IsWrittenAnew, EndsBeforeUnprogrammed, LossLeavesCommit, LossLeavesRewritten, DiffersInBlock, ProgramsOnce, WritesOnlyThisBlock};
+ghost use Rattle.lfs_pair.specs.Writing.{BlockGetsCommit, CanProgramCommit, CanWriteAnew, IsWrittenAnew, EndsBeforeUnprogrammed, LossLeavesCommit, LossLeavesRewritten, DiffersInBlock, ProgramsOnce, WritesOnlyThisBlock};
 
 use crate::entries::push_content;
 use lfs_device::{BlockDevice, Error};
@@ -36,8 +34,7 @@ fn read_four_bytes<D: BlockDevice>(
     requires in_block { at ≤ (D.geometry dev.old).block_size }
     ensures bytes { IfOk result (λ next. next ≡ four_bytes (block_bytes (D.blocks dev.old) block) at) }
     ensures device { ReadsOnly D.BlockDevice dev.old dev.new }
-    ensures errors { IfErr result (λ e. e ≡ Error.Io) }
-    ensures faults { ReportsFaults D.BlockDevice dev.old dev.new result }
+    ensures reports { ReportsNoErrorButIo D.BlockDevice dev.old dev.new result }
     ensures few { read_count (D.history dev.new) ≤ read_count (D.history dev.old) + 1 }
 {
     if dev.geometry().block_size - at < 4 {
@@ -55,13 +52,7 @@ pub(crate) fn program_commit_at<D: BlockDevice>(
     at: u32,
     builder: CommitBuilder<'_>,
 ) -> Result<WrittenCommit, Error>
-    requires in_device { block < (D.geometry dev.old).block_count }
-    requires begins { at % (D.geometry dev.old).page ≡ 0 }
-    requires page { builder.page ≡ (D.geometry dev.old).page }
-    requires room { padded_end_of builder ≤ builder.room }
-    requires ends { at + padded_end_of builder ≤ (D.geometry dev.old).block_size }
-    requires goes { IsCommitOffset builder.revision builder.previous (block_bytes (D.blocks dev.old) block) at }
-    requires unprogrammed { AreUnprogrammed (D.history dev.old) block at (D.geometry dev.old).block_size }
+    requires { CanProgramCommit (D.geometry dev.old) (D.blocks dev.old) (D.history dev.old) builder block at }
 
     ensures adds { IfOk result (λ written. BlockGetsCommit builder.entry at written.end (block_bytes (D.blocks dev.old) block) (block_bytes (D.blocks dev.new) block)) }
     ensures written { IfOk result (λ written. EndsBeforeUnprogrammed (disk_of_blocks (D.geometry dev.new) (D.blocks dev.new)) (D.history dev.new) block written.end written.last) }
@@ -89,11 +80,7 @@ pub(crate) fn write_block_anew<D: BlockDevice>(
     content: &Content<'_>,
     buf: &mut [u8],
 ) -> Result<WrittenCommit, Error>
-    requires in_device { block < (D.geometry dev.old).block_count }
-    requires buf { length buf.old ≡ (D.geometry dev.old).block_size }
-    requires logged { IsWellFormed (content_view content.now) }
-    requires names { AreNamed (content_view content.now).slots }
-    requires fits { RawContentFits (D.geometry dev.old).block_size (D.geometry dev.old).page (content_view content.now) }
+    requires { CanWriteAnew (D.geometry dev.old) block (content_view content.now) (length buf.old) }
 
     ensures size { IfOk result (λ written. written.end ≡ commit_end_aligned (D.geometry dev.old).page (4 + encoded_size (content_entries (content_view content.now)))) }
     ensures written { IfOk result (λ written. EndsBeforeUnprogrammed (disk_of_blocks (D.geometry dev.new) (D.blocks dev.new)) (D.history dev.new) block written.end written.last) }

@@ -2,7 +2,6 @@
 
 ghost use Rattle.std.specs.Prelude.{◌≡◌, IfErr, IfOk};
 ghost use Rattle.lfs_device.specs.DeviceDisk.{disk_of_blocks};
-ghost use Rattle.lfs_model.specs.format.Blocks.{block_bytes};
 ghost use Rattle.lfs_device.specs.DeviceCalls.{ReportsFaults};
 ghost use Rattle.lfs_model.specs.session.History.{AllCallsSince, HoldsAtLosses};
 ghost use Rattle.lfs_model.specs.format.Slots.{array_address};
@@ -13,7 +12,7 @@ ghost use Rattle.lfs_pair.specs.Commits.{CommitFailsKeepingHeader};
 ghost use Rattle.lfs_pair.specs.ChangeView.{changes_view};
 ghost use Rattle.lfs_pair.specs.HalfCut.{CanSplit};
 ghost use Rattle.lfs_pair.specs.Writing.{ChangesOnlyBlocksWithinReadLimit};
-ghost use Rattle.lfs_pair.specs.Split.{CanSplitPair, SplitsPair, LossLeavesSplit, IsContentCut};
+ghost use Rattle.lfs_pair.specs.Split.{CanSplitBytes, CanSplitPair, SplitsPair, LossLeavesSplit, IsContentCut};
 ghost use Rattle.lfs_model.specs.format.Thread.{addresses_blocks};
 
 use crate::change::Change;
@@ -78,8 +77,7 @@ pub fn split_bytes<'a, 'b: 'a, D: BlockDevice>(
     block: &'a [u8],
     changes: &[Change<'b>],
 ) -> Result<Pair, Error>
-    requires can { CanSplitPair (disk_of_blocks (D.geometry dev.old) (D.blocks dev.old)) (D.history dev.old) pair.old (array_address fresh) (changes_view changes.now) }
-    requires block { block.now ≡ block_bytes (D.blocks dev.old) pair.old.active }
+    requires { CanSplitBytes (disk_of_blocks (D.geometry dev.old) (D.blocks dev.old)) (D.history dev.old) pair.old (array_address fresh) (changes_view changes.now) block.now }
 
     ensures splits { IfOk result (λ fresh_pair. SplitsPair (disk_of_blocks (D.geometry dev.old) (D.blocks dev.old)) (D.history dev.old) (changes_view changes.now) pair.old (array_address fresh)
         (disk_of_blocks (D.geometry dev.new) (D.blocks dev.new)) (D.history dev.new) pair.new fresh_pair) }

@@ -1,10 +1,10 @@
-use Rattle.std.proofs.Common.{◌≡◌, ◌+◌, ◌-◌, ◌%◌, length, take, ℕ, List, ◌++◌, sym, ap, ◌∙◌, arith, length-append}
+use Rattle.std.proofs.Common.{rules, ◌≡◌, ◌+◌, ◌-◌, ◌%◌, length, take, ℕ, List, ◌++◌, sym, ap, ◌∙◌, arith, length-append}
 use Rattle.std.specs.Prelude.{slice_range}
 use Rattle.std.proofs.lemmas.List.{length-take-le, take_min}
 use Rattle.std.proofs.lemmas.Result.{on_ok_weaker}
 use Rattle.lfs_model.specs.format.Blocks.{Blocks, programmed}
 use Rattle.lfs_model.proofs.Overwrites.{programmed_next}
-use Rattle.lfs_device.proofs.Partials.{ChangesOnlyPartOfBlock-trans, ChangesOnlyPartOfBlock-wider, ChangesOnlyPartOfBlock-program, take-append-slice_range, page_room}
+use Rattle.lfs_device.proofs.Partials.{ChangesOnlyPartOfBlock-trans, ChangesOnlyPartOfBlock-wider, ChangesOnlyPartOfBlock-program, keeps-program, take-append-slice_range, page_room}
 use Rattle.lfs_device.proofs.partial.program_first_bytes.Goals as goal
 
 pub returns-in_err-prog-clause-part : goal.returns-in_err-prog-clause-part
@@ -13,8 +13,8 @@ returns-in_err-prog-clause-part g c =
     let first : length (take whole c.args.bytes.now) ≡ whole = length-take-le whole c.args.bytes.now (omega arith) in
     let shape = g.met.D.BlockDevice.shape c.args.device.now in
     ChangesOnlyPartOfBlock-wider g.D.BlockDevice c.args.off (c.args.off + length c.args.bytes.now)
-    (ChangesOnlyPartOfBlock-program g.D.BlockDevice c.prog.result (omega (arith, shape.count, c.requires.in_device)) (omega (arith, shape.sizes c.args.block c.requires.in_device, c.requires.in_block))
-    c.prog.ensures.ok c.prog.ensures.err c.prog.ensures.others c.prog.ensures.geometry c.prog.ensures.history)
+    (ChangesOnlyPartOfBlock-program g.D.BlockDevice c.prog.result (omega (arith, shape.count, c.requires.can.in_device)) (omega (arith, shape.sizes c.args.block c.requires.can.in_device, c.requires.can.in_block))
+    c.prog.ensures.programs.ok c.prog.ensures.programs.err c.prog.ensures.programs.others c.prog.ensures.geometry c.prog.ensures.history)
     (omega arith) (omega (arith, first))
 
 pub returns-then-whole-stored-clause-part : goal.returns-then-whole-stored-clause-part
@@ -23,8 +23,8 @@ returns-then-whole-stored-clause-part g c =
     let first : length (take whole c.args.bytes.now) ≡ whole = length-take-le whole c.args.bytes.now (omega arith) in
     let shape = g.met.D.BlockDevice.shape c.args.device.now in
     ChangesOnlyPartOfBlock-wider g.D.BlockDevice c.args.off (c.args.off + length c.args.bytes.now)
-    (ChangesOnlyPartOfBlock-program g.D.BlockDevice c.prog.result (omega (arith, shape.count, c.requires.in_device)) (omega (arith, shape.sizes c.args.block c.requires.in_device, c.requires.in_block))
-    c.prog.ensures.ok c.prog.ensures.err c.prog.ensures.others c.prog.ensures.geometry c.prog.ensures.history)
+    (ChangesOnlyPartOfBlock-program g.D.BlockDevice c.prog.result (omega (arith, shape.count, c.requires.can.in_device)) (omega (arith, shape.sizes c.args.block c.requires.can.in_device, c.requires.can.in_block))
+    c.prog.ensures.programs.ok c.prog.ensures.programs.err c.prog.ensures.programs.others c.prog.ensures.geometry c.prog.ensures.history)
     (omega arith) (omega (arith, first))
 
 pub returns-clause-part : goal.returns-clause-part
@@ -34,12 +34,12 @@ returns-clause-part g c =
     let first : length (take whole c.args.bytes.now) ≡ whole = length-take-le whole c.args.bytes.now (omega arith) in
     let known : (g.D.BlockDevice.geometry c.args.device.now).page ≡ page = grind arith in
     let then : (g.D.BlockDevice.geometry c.prog.new.self).page ≡ page = grind arith in
-    let room = page_room c.args.off c.min-stored.result (length c.args.bytes.now) page (rw known at c.requires.begins) (rw known at c.requires.ends) (omega arith) (omega arith) in
+    let room = page_room c.args.off c.min-stored.result (length c.args.bytes.now) page (rw known at c.requires.can.begins) (rw known at c.requires.can.ends) (omega arith) (omega arith) in
     let shape = g.met.D.BlockDevice.shape c.args.device.now in
     ChangesOnlyPartOfBlock-trans g.D.BlockDevice
     (ChangesOnlyPartOfBlock-wider g.D.BlockDevice c.args.off (c.args.off + length c.args.bytes.now)
-    (ChangesOnlyPartOfBlock-program g.D.BlockDevice c.prog.result (omega (arith, shape.count, c.requires.in_device)) (omega (arith, shape.sizes c.args.block c.requires.in_device, c.requires.in_block))
-    c.prog.ensures.ok c.prog.ensures.err c.prog.ensures.others c.prog.ensures.geometry c.prog.ensures.history)
+    (ChangesOnlyPartOfBlock-program g.D.BlockDevice c.prog.result (omega (arith, shape.count, c.requires.can.in_device)) (omega (arith, shape.sizes c.args.block c.requires.can.in_device, c.requires.can.in_block))
+    c.prog.ensures.programs.ok c.prog.ensures.programs.err c.prog.ensures.programs.others c.prog.ensures.geometry c.prog.ensures.history)
     (omega arith) (omega (arith, first)))
     (ChangesOnlyPartOfBlock-wider g.D.BlockDevice c.args.off (c.args.off + length c.args.bytes.now) c.program_page_part.ensures.part (omega arith) (omega (arith, then, room)))
 
@@ -54,7 +54,22 @@ returns-clause-ok g c =
     let size : length (take whole bytes) + length rest ≡ c.min-stored.result = sym (length-append (take whole bytes) rest) ∙ ap length both ∙ length-take-le c.min-stored.result bytes (omega arith) in
     let shape = g.met.D.BlockDevice.shape c.args.device.now in
     on_ok_weaker c.program_page_part.result (λ is. is
-    ∙ ap (λ (d : Blocks). programmed d c.args.block (c.args.off + whole) rest) c.in_ok-prog.ensures.ok
+    ∙ ap (λ (d : Blocks). programmed d c.args.block (c.args.off + whole) rest) c.in_ok-prog.ensures.programs.ok
     ∙ ap (λ n. programmed (programmed old c.args.block c.args.off (take whole bytes)) c.args.block (c.args.off + n) rest) (sym first)
-    ∙ programmed_next old c.args.block c.args.off (take whole bytes) rest (omega (arith, shape.count, c.requires.in_device)) (omega (arith, size, shape.sizes c.args.block c.requires.in_device, c.requires.in_block))
+    ∙ programmed_next old c.args.block c.args.off (take whole bytes) rest (omega (arith, shape.count, c.requires.can.in_device)) (omega (arith, size, shape.sizes c.args.block c.requires.can.in_device, c.requires.can.in_block))
     ∙ ap (λ (l : List ℕ). programmed old c.args.block c.args.off l) (both ∙ ap (λ n. take n bytes) c.min-stored.ensures ∙ take_min c.args.k bytes)) c.program_page_part.ensures.ok
+
+pub program_page_part-requires-clause-page : goal.program_page_part-requires-clause-page
+program_page_part-requires-clause-page g c = record {
+  in_device = search rules;
+  in_block = search rules;
+  begins = search rules;
+  unprogrammed = λ k from to.
+      let page = c.geometry-page.result.page in
+      let whole = c.min-stored.result - c.min-stored.result % page in
+      let first : length (take whole c.args.bytes.now) ≡ whole = length-take-le whole c.args.bytes.now (omega arith) in
+      let known : (g.D.BlockDevice.geometry c.args.device.now).page ≡ page = grind arith in
+      let then : (g.D.BlockDevice.geometry c.prog.new.self).page ≡ page = grind arith in
+      let room = page_room c.args.off c.min-stored.result (length c.args.bytes.now) page (rw known at c.requires.can.begins) (rw known at c.requires.can.ends) (omega arith) (omega arith) in
+      (keeps-program c.prog.ensures.history).above k (omega (arith, first)) (c.requires.can.unprogrammed k (omega arith) (omega (arith, then, room)));
+}

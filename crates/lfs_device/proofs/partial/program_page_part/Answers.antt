@@ -14,14 +14,14 @@ returns-clause-ok g c =
     let bytes = c.args.bytes.now in
     let known = ap (λ (k : Geometry). k.page) c.geometry.ensures in
     let size = ap (λ (k : Geometry). k.block_size) c.geometry.ensures in
-    let room = (g.met.D.BlockDevice.shape c.args.device.now).sizes c.args.block c.requires.in_device in
+    let room = (g.met.D.BlockDevice.shape c.args.device.now).sizes c.args.block c.requires.page.in_device in
     let page : length c.read.new.buf ≡ c.geometry.result.page = grind (arith, common_steps, c.read.auto.buf) in
     let held : c.read.new.buf ≡ take c.geometry.result.page (drop c.args.off block) = c.in_ok-read.ensures.bytes ∙ ap (λ n. take n (drop c.args.off block)) (omega (arith, page)) in
-    c.in_ok-prog.ensures.ok
+    c.in_ok-prog.ensures.programs.ok
     ∙ ap (λ (l : List ℕ). programmed (g.D.BlockDevice.blocks c.read.new.self) c.args.block c.args.off (l ++ drop (length bytes) c.read.new.buf)) c.copy_from_slice.ensures.after
     ∙ ap (λ (l : List ℕ). programmed (g.D.BlockDevice.blocks c.read.new.self) c.args.block c.args.off (bytes ++ drop (length bytes) l)) held
     ∙ ap (λ (d : Blocks). programmed d c.args.block c.args.off (bytes ++ drop (length bytes) (take c.geometry.result.page (drop c.args.off block)))) c.read.ensures.same
-    ∙ ap (slice_set old c.args.block) (overwritten_beginning block c.args.off c.geometry.result.page bytes (omega (arith, known, c.requires.in_page)) (omega (arith, known, room, c.requires.in_block)))
+    ∙ ap (slice_set old c.args.block) (overwritten_beginning block c.args.off c.geometry.result.page bytes (omega (arith, known, c.requires.in_page)) (omega (arith, known, room, c.requires.page.in_block)))
 
 pub returns-clause-part : goal.returns-clause-part
 returns-clause-part g c =
@@ -32,8 +32,8 @@ returns-clause-part g c =
     let front = ap (λ (l : List ℕ). length l) c.copy_from_slice.ensures.after in
     let shape = g.met.D.BlockDevice.shape c.args.device.now in
     let same = c.read.ensures.same in
-    let there : c.args.block < length (g.D.BlockDevice.blocks c.read.new.self) = rw same (omega (arith, shape.count, c.requires.in_device)) in
-    let fits : c.args.off ≤ length (block_bytes (g.D.BlockDevice.blocks c.read.new.self) c.args.block) = rw same (omega (arith, shape.sizes c.args.block c.requires.in_device, c.requires.in_block)) in
+    let there : c.args.block < length (g.D.BlockDevice.blocks c.read.new.self) = rw same (omega (arith, shape.count, c.requires.page.in_device)) in
+    let fits : c.args.off ≤ length (block_bytes (g.D.BlockDevice.blocks c.read.new.self) c.args.block) = rw same (omega (arith, shape.sizes c.args.block c.requires.page.in_device, c.requires.page.in_block)) in
     let read = ChangesOnlyPartOfBlock-read g.D.BlockDevice c.args.block c.args.off (c.args.off + (g.D.BlockDevice.geometry c.args.device.now).page) c.read.ensures.history same c.read.ensures.geometry in
-    let program = ChangesOnlyPartOfBlock-program g.D.BlockDevice c.prog.result there fits c.prog.ensures.ok c.prog.ensures.err c.prog.ensures.others c.prog.ensures.geometry c.prog.ensures.history in
+    let program = ChangesOnlyPartOfBlock-program g.D.BlockDevice c.prog.result there fits c.prog.ensures.programs.ok c.prog.ensures.programs.err c.prog.ensures.programs.others c.prog.ensures.geometry c.prog.ensures.history in
     ChangesOnlyPartOfBlock-trans g.D.BlockDevice read (ChangesOnlyPartOfBlock-wider g.D.BlockDevice c.args.off (c.args.off + (g.D.BlockDevice.geometry c.args.device.now).page) program (omega arith) (omega (arith, known, page, behind, joined, front, c.requires.in_page)))

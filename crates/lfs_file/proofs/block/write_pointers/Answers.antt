@@ -1,4 +1,4 @@
-use Rattle.std.proofs.Common.{ℕ, ◌≡◌, ◌≤◌, ◌<◌, ◌+◌, ◌-◌, ◌*◌, ◌%◌, ◌^◌, List, length, slice_index, refl, sym, ap, ◌∙◌, arith, below_more, subst, add-one}
+use Rattle.std.proofs.Common.{rules, ℕ, ◌≡◌, ◌≤◌, ◌<◌, ◌+◌, ◌-◌, ◌*◌, ◌%◌, ◌^◌, List, length, slice_index, refl, sym, ap, ◌∙◌, arith, below_more, subst, add-one}
 use Rattle.std.specs.Int.{w32, trailing_zeros}
 use Rattle.std.proofs.Math.Nat.{pow-suc, one-le-pow}
 use Rattle.std.proofs.Math.Pow.{pow_mono}
@@ -80,8 +80,11 @@ stride n k some low less =
 pub overflow_sub-index : goal.overflow_sub-index
 overflow_sub-index g c = (let back = stride c.args.front.now.count c.loop-k.k (omega arith) (omega arith) (omega arith) in omega (arith, back.0, back.1.0))
 
-pub block_at_pointer-requires-clause-index : goal.block_at_pointer-requires-clause-index
-block_at_pointer-requires-clause-index g c = (let back = stride c.args.front.now.count c.loop-k.k (omega arith) (omega arith) (omega arith) in omega (arith, back.0, back.1.1))
+pub block_at_pointer-requires : goal.block_at_pointer-requires
+block_at_pointer-requires g c = record {
+  pointer = search rules;
+  index = (let back = stride c.args.front.now.count c.loop-k.k (omega arith) (omega arith) (omega arith) in omega (arith, back.0, back.1.1));
+}
 
 -- what the block that was known or read shows
 module _ (d now : Blocks) (front : FullBlocks) (to k back : ℕ) (chain : AreListBlocks d front.count front.head) (low : front.count < 2 ^ 32) (less : k < trailing_zeros w32 front.count) (some : 0 < front.count) (same : now ≡ d) (steps : back ≡ 2 ^ (k + 1))
@@ -142,7 +145,7 @@ loop-k-preserved g c =
     let is : c.in_ok-to.to ≡ slice_index (blocks_to_head old index head) (index - 2 ^ (k + 1)) = found.0 ∙ ap (λ n. slice_index (blocks_to_head old index head) (index - n)) far.0 in
     let room = c.requires.room in
     let len = inv.len in
-    let one = c.block_at_pointer.ensures.few in
+    let one = c.block_at_pointer.ensures.calls.few in
     record {
       at = is;
       words = words_more c.loop-k.buf c.put_word-in-loop-k.new.buf c.in_ok-to.to (k + 1) (λ i. slice_index (blocks_to_head old index head) (index - 2 ^ i)) c.put_word-in-loop-k.ensures (omega arith) (omega arith) is inv.words;
@@ -158,7 +161,7 @@ loop-k-preserved g c =
       none = λ all.
           let so_far = inv.none all in
           let known = all (k + 1) (omega arith) in
-          let here = c.block_at_pointer.ensures.known (subst (λ n. IsKnownIndex c.loop-k.front.known (index - n)) (sym far.0) (subst (λ (x : KnownBlocks). IsKnownIndex x (index - 2 ^ (k + 1))) (sym so_far.0) known)) in
+          let here = c.block_at_pointer.ensures.calls.known (subst (λ n. IsKnownIndex c.loop-k.front.known (index - n)) (sym far.0) (subst (λ (x : KnownBlocks). IsKnownIndex x (index - 2 ^ (k + 1))) (sym so_far.0) known)) in
           (here.0 ∙ so_far.0, here.1 ∙ so_far.1);
       device = read_on g.D.BlockDevice inv.device c.block_at_pointer.ensures.reading.device;
       quiet = quiet g.D.BlockDevice c.in_ok-to.ensures.reading.faults ∙ inv.quiet;

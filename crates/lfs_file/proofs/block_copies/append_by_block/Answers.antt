@@ -1,4 +1,4 @@
-use Rattle.std.proofs.Common.{ℕ, inl, ◌≡◌, ◌+◌, ◌-◌, ◌<◌, ◌≤◌, get_or, List, ◌++◌, length, min, take, drop, slice_index, refl, sym, ap, ◌∙◌, subst, arith}
+use Rattle.std.proofs.Common.{rules, ℕ, inl, ◌≡◌, ◌+◌, ◌-◌, ◌<◌, ◌≤◌, get_or, List, ◌++◌, length, min, take, drop, slice_index, refl, sym, ap, ◌∙◌, subst, arith}
 use Rattle.std.proofs.lemmas.List.{get_or_read, length-take-le}
 use Rattle.std.proofs.lemmas.Result.{err_from_is_err_and}
 use Rattle.lfs_device.specs.declared.geometry.Geometry.{Geometry}
@@ -151,28 +151,35 @@ returns-in_err-extend_list-clause-writing g c =
       };
     })
 
-pub extend_list-requires-clause-room : goal.extend_list-requires-clause-room
-extend_list-requires-clause-room g c =
-    let inv = c.copying.invariant in
-    let geometry : Geometry = c.args.list.now.geometry in
-    let block_size : ℕ = geometry.block_size in
-    let now = c.copying.list in
-    let n : ℕ = c.in_ok-count.count in
-    let at = c.size-pos.ensures in
-    let test = c.copying-test.true in
-    let len = c.size-in-copying.ensures in
-    let here = sized geometry c.copying.list.geometry now inv.same in
-    let some_read = c.in_ok-count.ensures.read.some in
-    let few = c.in_ok-count.ensures.read.least in
-    let long : length (take n c.read_from_block.new.buf) ≡ n = length-take-le n c.read_from_block.new.buf c.in_ok-count.ensures.read.within in
-    let more = block_count_for-more block_size (growing_size_with block_size now + length (take n c.read_from_block.new.buf)) c.args.base.size (omega arith) in
-    let same = ap (λ (k : Geometry). block_count_for k.block_size (growing_size_with k.block_size now + length (take n c.read_from_block.new.buf))) inv.same in
-    let kept = ap (λ (x : Blocks). length (kept_blocks x now)) c.read_from_block.ensures.reading.device.same in
-    let count = inv.grown.count in
-    let states = inv.map.count in
-    let used = inv.map.used in
-    let room = c.requires.can.room in
-    omega arith
+pub extend_list-requires : goal.extend_list-requires
+extend_list-requires g c = record {
+  growing = search rules;
+  geometry = search rules;
+  some = search rules;
+  small = search rules;
+  marked = search rules;
+  room =
+      let inv = c.copying.invariant in
+      let geometry : Geometry = c.args.list.now.geometry in
+      let block_size : ℕ = geometry.block_size in
+      let now = c.copying.list in
+      let n : ℕ = c.in_ok-count.count in
+      let at = c.size-pos.ensures in
+      let test = c.copying-test.true in
+      let len = c.size-in-copying.ensures in
+      let here = sized geometry c.copying.list.geometry now inv.same in
+      let some_read = c.in_ok-count.ensures.read.some in
+      let few = c.in_ok-count.ensures.read.least in
+      let long : length (take n c.read_from_block.new.buf) ≡ n = length-take-le n c.read_from_block.new.buf c.in_ok-count.ensures.read.within in
+      let more = block_count_for-more block_size (growing_size_with block_size now + length (take n c.read_from_block.new.buf)) c.args.base.size (omega arith) in
+      let same = ap (λ (k : Geometry). block_count_for k.block_size (growing_size_with k.block_size now + length (take n c.read_from_block.new.buf))) inv.same in
+      let kept = ap (λ (x : Blocks). length (kept_blocks x now)) c.read_from_block.ensures.reading.device.same in
+      let count = inv.grown.count in
+      let states = inv.map.count in
+      let used = inv.map.used in
+      let room = c.requires.can.room in
+      omega arith;
+}
 
 pub copying-preserved : goal.copying-preserved
 copying-preserved g c =

@@ -1,5 +1,5 @@
 use Rattle.std.proofs.Common.{rules}
-use Rattle.lfs_file.specs.FileCalls.{ReportsNoErrorButIo}
+use Rattle.lfs_device.specs.DeviceCalls.{ReportsNoErrorButIo}
 use Rattle.lfs_file.proofs.ContentsCalled.{read_once}
 use Rattle.lfs_file.proofs.block_copies.read_from_block.Goals as goal
 

@@ -1,4 +1,4 @@
-use Rattle.std.proofs.Common.{ℕ, ◌≡◌, ◌+◌, List, length, min, refl, sym, ap, ◌∙◌, arith}
+use Rattle.std.proofs.Common.{rules, ℕ, ◌≡◌, ◌+◌, List, length, min, refl, sym, ap, ◌∙◌, arith}
 use Rattle.std.proofs.lemmas.List.{length-take-le}
 use Rattle.std.proofs.lemmas.Result.{err_from_is_err_and}
 use Rattle.lfs_device.specs.declared.geometry.Geometry.{Geometry}
@@ -9,25 +9,31 @@ use Rattle.lfs_file.proofs.ContentsCalled.{quiet, reported_as, writes_well}
 use Rattle.lfs_file.proofs.ContentsMemories.{held_size, no_base_fits, wrote_cut}
 use Rattle.lfs_file.proofs.memory.move_to_list.Goals as goal
 
-pub fill_and_write-requires-clause-begun : goal.fill_and_write-requires-clause-begun
-fill_and_write-requires-clause-begun g c =
-    let d : Blocks = g.D.BlockDevice.blocks c.args.dev.now in
-    let quiet = c.requires.quiet in
-    (c.list_without_base-hand.ensures.begun c.args.map.now d (g.D.BlockDevice.geometry c.args.dev.now)
-    (record { idle = quiet.idle; resting = record { geometry = quiet.resting.geometry ∙ sym ((c.truncate_buffered.ensures.holds d).geometry); held = c.truncate_buffered.ensures.held } })).begun
-
-pub fill_and_write-requires-clause-at : goal.fill_and_write-requires-clause-at
-fill_and_write-requires-clause-at g c =
-    let d : Blocks = g.D.BlockDevice.blocks c.args.dev.now in
-    let quiet = c.requires.quiet in
-    let at = (c.list_without_base-hand.ensures.begun c.args.map.now d (g.D.BlockDevice.geometry c.args.dev.now)
-    (record { idle = quiet.idle; resting = record { geometry = quiet.resting.geometry ∙ sym ((c.truncate_buffered.ensures.holds d).geometry); held = c.truncate_buffered.ensures.held } })).size in
-    let none = c.list_without_base-hand.ensures.base.0 in
-    let size = c.size.ensures in
-    let all = held_size c.args.list quiet.resting.held in
-    let keep = c.min-keep.ensures in
-    let cut = ap length c.truncate_buffered.ensures.rest ∙ length-take-le c.min-keep.result (buffered_bytes c.args.list) (omega arith) in
-    omega arith
+pub fill_and_write-requires : goal.fill_and_write-requires
+fill_and_write-requires g c = record {
+  begun =
+      let d : Blocks = g.D.BlockDevice.blocks c.args.dev.now in
+      let quiet = c.requires.quiet in
+      (c.list_without_base-hand.ensures.begun c.args.map.now d (g.D.BlockDevice.geometry c.args.dev.now)
+      (record { idle = quiet.idle; resting = record { geometry = quiet.resting.geometry ∙ sym ((c.truncate_buffered.ensures.holds d).geometry); held = c.truncate_buffered.ensures.held } })).begun;
+  at =
+      let d : Blocks = g.D.BlockDevice.blocks c.args.dev.now in
+      let quiet = c.requires.quiet in
+      let at = (c.list_without_base-hand.ensures.begun c.args.map.now d (g.D.BlockDevice.geometry c.args.dev.now)
+      (record { idle = quiet.idle; resting = record { geometry = quiet.resting.geometry ∙ sym ((c.truncate_buffered.ensures.holds d).geometry); held = c.truncate_buffered.ensures.held } })).size in
+      let none = c.list_without_base-hand.ensures.base.0 in
+      let size = c.size.ensures in
+      let all = held_size c.args.list quiet.resting.held in
+      let keep = c.min-keep.ensures in
+      let cut = ap length c.truncate_buffered.ensures.rest ∙ length-take-le c.min-keep.result (buffered_bytes c.args.list) (omega arith) in
+      omega arith;
+  some = search rules;
+  small = search rules;
+  room =
+      let now : Geometry = g.D.BlockDevice.geometry c.args.dev.now in
+      let most : ℕ = c.args.place + length c.args.bytes.now in
+      no_base_fits now now c.list_without_base-hand.result.base _ _ _ _ most most refl c.list_without_base-hand.ensures.base.1 (omega arith) refl refl (let room = c.requires.room.room in omega arith);
+}
 
 pub returns-clause-written : goal.returns-clause-written
 returns-clause-written g c =
@@ -44,12 +50,6 @@ returns-clause-written g c =
       size = wrote.size;
       bytes = wrote.bytes ∙ ap (λ (l : List ℕ). written_contents l c.args.place c.args.bytes.now) (at ∙ c.truncate_buffered.ensures.rest) ∙ wrote_cut (buffered_bytes c.args.list) c.args.bytes.now c.args.place c.min-keep.result keep c.requires.behind;
     }
-
-pub fill_and_write-requires-clause-room : goal.fill_and_write-requires-clause-room
-fill_and_write-requires-clause-room g c =
-    let now : Geometry = g.D.BlockDevice.geometry c.args.dev.now in
-    let most : ℕ = c.args.place + length c.args.bytes.now in
-    no_base_fits now now c.list_without_base-hand.result.base _ _ _ _ most most refl c.list_without_base-hand.ensures.base.1 (omega arith) refl refl (let room = c.requires.room.room in omega arith)
 
 pub returns-in_err-fill_and_write-clause-writing : goal.returns-in_err-fill_and_write-clause-writing
 returns-in_err-fill_and_write-clause-writing g c =

@@ -1,4 +1,4 @@
-use Rattle.std.proofs.Common.{ℕ, ◌+◌, ◌-◌, List, refl, ap, ◌∙◌, subst, arith}
+use Rattle.std.proofs.Common.{rules, ℕ, ◌+◌, ◌-◌, List, refl, ap, ◌∙◌, subst, arith}
 use Rattle.std.proofs.lemmas.Result.{err_from_is_err_and}
 use Rattle.lfs_device.specs.declared.geometry.Geometry.{Geometry}
 use Rattle.lfs_model.specs.format.Blocks.{Blocks}
@@ -12,20 +12,21 @@ use Rattle.lfs_file.proofs.ContentsMemories.{lengthened}
 use Rattle.lfs_file.proofs.Spared.{KeepsUsedBlocks-refl}
 use Rattle.lfs_file.proofs.new_sizes.fill_finished.Goals as goal
 
-pub write_zeros-requires-clause-room : goal.write_zeros-requires-clause-room
-write_zeros-requires-clause-room g c =
-    let hand = c.in_ok-begun.begun in
-    let at = (c.in_ok-begun.ensures.begun c.args.map.now c.requires.stored).size in
-    let longer = c.requires.room.longer in
-    part_fits (g.D.BlockDevice.geometry c.args.dev.now) (g.D.BlockDevice.geometry c.begin_over_finished.new.dev) hand.base c.args.stored _ _ _ _ (growing_size hand.list + (c.args.size - c.args.stored.size)) c.args.size
-    c.begin_over_finished.ensures.device.geometry c.in_ok-begun.ensures.base (omega arith) refl refl c.requires.room.room
-
-pub write_zeros-requires-clause-small : goal.write_zeros-requires-clause-small
-write_zeros-requires-clause-small g c =
-    let at = (c.in_ok-begun.ensures.begun c.args.map.now c.requires.stored).size in
-    let longer = c.requires.room.longer in
-    let small = c.requires.room.small in
-    omega arith
+pub write_zeros-requires : goal.write_zeros-requires
+write_zeros-requires g c = record {
+  begun = search rules;
+  small =
+      let at = (c.in_ok-begun.ensures.begun c.args.map.now c.requires.stored).size in
+      let longer = c.requires.room.longer in
+      let small = c.requires.room.small in
+      omega arith;
+  room =
+      let hand = c.in_ok-begun.begun in
+      let at = (c.in_ok-begun.ensures.begun c.args.map.now c.requires.stored).size in
+      let longer = c.requires.room.longer in
+      part_fits (g.D.BlockDevice.geometry c.args.dev.now) (g.D.BlockDevice.geometry c.begin_over_finished.new.dev) hand.base c.args.stored _ _ _ _ (growing_size hand.list + (c.args.size - c.args.stored.size)) c.args.size
+      c.begin_over_finished.ensures.device.geometry c.in_ok-begun.ensures.base (omega arith) refl refl c.requires.room.room;
+}
 
 pub returns-in_err-begun-clause-writing : goal.returns-in_err-begun-clause-writing
 returns-in_err-begun-clause-writing g c =

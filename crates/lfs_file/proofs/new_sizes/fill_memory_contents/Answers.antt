@@ -1,4 +1,4 @@
-use Rattle.std.proofs.Common.{◌≡◌, ◌+◌, ◌-◌, length, replicate, refl, ap, ◌∙◌, arith}
+use Rattle.std.proofs.Common.{rules, ◌≡◌, ◌+◌, ◌-◌, length, replicate, refl, ap, ◌∙◌, arith}
 use Rattle.std.proofs.lemmas.Result.{err_from_is_err_and}
 use Rattle.lfs_device.specs.declared.geometry.Geometry.{Geometry}
 use Rattle.lfs_model.specs.format.Blocks.{Blocks}
@@ -10,27 +10,25 @@ use Rattle.lfs_file.proofs.ContentsCalled.{quiet, reported_as, writes_well}
 use Rattle.lfs_file.proofs.ContentsMemories.{held_size, lengthened, no_base_fits}
 use Rattle.lfs_file.proofs.new_sizes.fill_memory_contents.Goals as goal
 
-pub write_zeros-requires-clause-begun : goal.write_zeros-requires-clause-begun
-write_zeros-requires-clause-begun g c = (c.list_without_base-hand.ensures.begun c.args.map.now (g.D.BlockDevice.blocks c.args.dev.now) (g.D.BlockDevice.geometry c.args.dev.now) c.requires.quiet).begun
-
-pub write_zeros-requires-clause-small : goal.write_zeros-requires-clause-small
-write_zeros-requires-clause-small g c =
-    let at = (c.list_without_base-hand.ensures.begun c.args.map.now (g.D.BlockDevice.blocks c.args.dev.now) (g.D.BlockDevice.geometry c.args.dev.now) c.requires.quiet).size in
-    let all = held_size c.args.list c.requires.quiet.resting.held in
-    let longer = c.requires.room.longer in
-    let small = c.requires.room.small in
-    let size = c.size.ensures in
-    omega arith
-
-pub write_zeros-requires-clause-room : goal.write_zeros-requires-clause-room
-write_zeros-requires-clause-room g c =
-    let now : Geometry = g.D.BlockDevice.geometry c.args.dev.now in
-    let hand = c.list_without_base-hand.result in
-    let at = (c.list_without_base-hand.ensures.begun c.args.map.now (g.D.BlockDevice.blocks c.args.dev.now) now c.requires.quiet).size in
-    let all = held_size c.args.list c.requires.quiet.resting.held in
-    let longer = c.requires.room.longer in
-    let size = c.size.ensures in
-    no_base_fits now now hand.base _ _ _ _ (growing_size hand.list + (c.args.size - c.size.result)) c.args.size refl c.list_without_base-hand.ensures.base.1 (omega arith) refl refl (let room = c.requires.room.room in omega arith)
+pub write_zeros-requires : goal.write_zeros-requires
+write_zeros-requires g c = record {
+  begun = (c.list_without_base-hand.ensures.begun c.args.map.now (g.D.BlockDevice.blocks c.args.dev.now) (g.D.BlockDevice.geometry c.args.dev.now) c.requires.quiet).begun;
+  small =
+      let at = (c.list_without_base-hand.ensures.begun c.args.map.now (g.D.BlockDevice.blocks c.args.dev.now) (g.D.BlockDevice.geometry c.args.dev.now) c.requires.quiet).size in
+      let all = held_size c.args.list c.requires.quiet.resting.held in
+      let longer = c.requires.room.longer in
+      let small = c.requires.room.small in
+      let size = c.size.ensures in
+      omega arith;
+  room =
+      let now : Geometry = g.D.BlockDevice.geometry c.args.dev.now in
+      let hand = c.list_without_base-hand.result in
+      let at = (c.list_without_base-hand.ensures.begun c.args.map.now (g.D.BlockDevice.blocks c.args.dev.now) now c.requires.quiet).size in
+      let all = held_size c.args.list c.requires.quiet.resting.held in
+      let longer = c.requires.room.longer in
+      let size = c.size.ensures in
+      no_base_fits now now hand.base _ _ _ _ (growing_size hand.list + (c.args.size - c.size.result)) c.args.size refl c.list_without_base-hand.ensures.base.1 (omega arith) refl refl (let room = c.requires.room.room in omega arith);
+}
 
 pub returns-clause-filled : goal.returns-clause-filled
 returns-clause-filled g c =

@@ -1,4 +1,4 @@
-use Rattle.std.proofs.Common.{ℕ, ◌≡◌, ◌≢◌, ◌+◌, ◌*◌, ◌-◌, ◌<◌, ◌≤◌, Bool, if◌then◌else◌, max, sym, ap, ◌∙◌, subst, arith}
+use Rattle.std.proofs.Common.{rules, ℕ, ◌≡◌, ◌≢◌, ◌+◌, ◌*◌, ◌-◌, ◌<◌, ◌≤◌, Bool, if◌then◌else◌, max, sym, ap, ◌∙◌, subst, arith}
 use Rattle.lfs_device.specs.declared.geometry.Geometry.{Geometry}
 use Rattle.lfs_model.specs.format.Blocks.{Blocks}
 use Rattle.lfs_model.specs.format.SkipLists.{block_count_for}
@@ -34,13 +34,31 @@ restart_list_at-requires-clause-room g c ne =
     let more = block_count_for-more now.block_size hand.base.size c.args.size (omega arith) in
     omega arith
 
-pub write_zeros-requires-clause-small : goal.write_zeros-requires-clause-small
-write_zeros-requires-clause-small g c =
-    let len : c.max-length.result ≡ unfinished_length c.args.hand = (let s = c.size.ensures in let l = c.max-length.ensures in omega arith) in
-    let longer = c.requires.longer.0 in
-    let small = c.requires.longer.1 in
-    let at = c.in_ok-turned.ensures.turned.size in
-    omega arith
+pub write_zeros-requires : goal.write_zeros-requires
+write_zeros-requires g c = record {
+  begun = search rules;
+  small =
+      let len : c.max-length.result ≡ unfinished_length c.args.hand = (let s = c.size.ensures in let l = c.max-length.ensures in omega arith) in
+      let longer = c.requires.longer.0 in
+      let small = c.requires.longer.1 in
+      let at = c.in_ok-turned.ensures.turned.size in
+      omega arith;
+  room =
+      let hand = c.args.hand in
+      let now : Geometry = g.D.BlockDevice.geometry c.args.dev.now in
+      let len : c.max-length.result ≡ unfinished_length hand = (let s = c.size.ensures in let l = c.max-length.ensures in omega arith) in
+      let longer = c.requires.longer.0 in
+      let turned = c.in_ok-turned.turned in
+      let at = c.in_ok-turned.ensures.turned.size in
+      let over = c.in_ok-turned.ensures.over.over in
+      let keeps = c.in_ok-turned.ensures.writing.map in
+      let most : max (unfinished_length hand) c.args.size ≡ c.args.size = omega arith in
+      let same : block_count_for now.block_size (max (unfinished_length hand) c.args.size) ≡ block_count_for now.block_size c.args.size = ap (block_count_for now.block_size) most in
+      either_fits now (g.D.BlockDevice.geometry c.restart_list_at.new.dev) turned.base hand.base _ _ _ _ (growing_size hand.list) (unfinished_length hand) (unfinished_length hand) c.args.size
+      (growing_size turned.list + (c.args.size - c.max-length.result)) c.restart_list_at.ensures.writing.device.geometry keeps.used keeps.count (omega arith)
+      (λ e. over.same (e ∙ sym len)) (λ ne. over.size (λ e. ne (e ∙ len))) (on_room now.block_size c.args.size (growing_size hand.list) hand.base.size _ _ hand.base.in_flight longer c.requires.room)
+      (λ ne. let room = anew_room now.block_size c.args.size (growing_size hand.list) hand.base.size _ _ hand.base.in_flight longer c.requires.room ne in omega arith);
+}
 
 pub returns-in_err-turned-clause-writing : goal.returns-in_err-turned-clause-writing
 returns-in_err-turned-clause-writing g c =
@@ -49,23 +67,6 @@ returns-in_err-turned-clause-writing g c =
 
 pub returns-clause-writing : goal.returns-clause-writing
 returns-clause-writing g c = writes_on g.D.BlockDevice c.in_ok-turned.ensures.writing c.write_zeros.ensures.map c.write_zeros.ensures.device c.in_ok-write_zeros.ensures.reports
-
-pub write_zeros-requires-clause-room : goal.write_zeros-requires-clause-room
-write_zeros-requires-clause-room g c =
-    let hand = c.args.hand in
-    let now : Geometry = g.D.BlockDevice.geometry c.args.dev.now in
-    let len : c.max-length.result ≡ unfinished_length hand = (let s = c.size.ensures in let l = c.max-length.ensures in omega arith) in
-    let longer = c.requires.longer.0 in
-    let turned = c.in_ok-turned.turned in
-    let at = c.in_ok-turned.ensures.turned.size in
-    let over = c.in_ok-turned.ensures.over.over in
-    let keeps = c.in_ok-turned.ensures.writing.map in
-    let most : max (unfinished_length hand) c.args.size ≡ c.args.size = omega arith in
-    let same : block_count_for now.block_size (max (unfinished_length hand) c.args.size) ≡ block_count_for now.block_size c.args.size = ap (block_count_for now.block_size) most in
-    either_fits now (g.D.BlockDevice.geometry c.restart_list_at.new.dev) turned.base hand.base _ _ _ _ (growing_size hand.list) (unfinished_length hand) (unfinished_length hand) c.args.size
-    (growing_size turned.list + (c.args.size - c.max-length.result)) c.restart_list_at.ensures.writing.device.geometry keeps.used keeps.count (omega arith)
-    (λ e. over.same (e ∙ sym len)) (λ ne. over.size (λ e. ne (e ∙ len))) (on_room now.block_size c.args.size (growing_size hand.list) hand.base.size _ _ hand.base.in_flight longer c.requires.room)
-    (λ ne. let room = anew_room now.block_size c.args.size (growing_size hand.list) hand.base.size _ _ hand.base.in_flight longer c.requires.room ne in omega arith)
 
 pub returns-clause-lengthened : goal.returns-clause-lengthened
 returns-clause-lengthened g c =

@@ -1,4 +1,4 @@
-use Rattle.std.proofs.Common.{ℕ, ◌≡◌, ◌≢◌, ◌+◌, ◌*◌, ◌≤◌, Bool, if◌then◌else◌, length, max, min, sym, ap, ◌∙◌, arith}
+use Rattle.std.proofs.Common.{rules, ℕ, ◌≡◌, ◌≢◌, ◌+◌, ◌*◌, ◌≤◌, Bool, if◌then◌else◌, length, max, min, sym, ap, ◌∙◌, arith}
 use Rattle.std.proofs.lemmas.Bool.{eq-eqb, ne_eqb}
 use Rattle.lfs_model.specs.format.SkipLists.{block_count_for}
 use Rattle.lfs_file.specs.Contents.{write_room}
@@ -41,16 +41,22 @@ restart_list_at-requires-clause-room g c ne =
     let more = block_count_for-more now.block_size hand.base.size most (omega arith) in
     omega arith
 
-pub fill_and_write-requires-clause-room : goal.fill_and_write-requires-clause-room
-fill_and_write-requires-clause-room g c =
-    let hand = c.args.hand in
-    let begin : c.min.result ≡ min c.args.place (unfinished_length hand) = (let s = c.size.ensures in let l = c.max-length.ensures in let b = c.min.ensures in omega arith) in
-    let over = c.in_ok-turned.ensures.over.over in
-    let keeps = c.in_ok-turned.ensures.writing.map in
-    either_fits (g.D.BlockDevice.geometry c.args.dev.now) (g.D.BlockDevice.geometry c.restart_list_at.new.dev) c.in_ok-turned.turned.base hand.base _ _ _ _ (growing_size hand.list) (min c.args.place (unfinished_length hand)) (unfinished_length hand)
-    (c.args.place + length c.args.bytes.now) (c.args.place + length c.args.bytes.now) c.restart_list_at.ensures.writing.device.geometry keeps.used keeps.count (omega arith)
-    (λ e. over.same (e ∙ sym begin)) (λ ne. over.size (λ e. ne (e ∙ begin))) (on_room _ c.args.place (length c.args.bytes.now) (growing_size hand.list) hand.base.size _ _ hand.base.in_flight c.requires.room)
-    (anew_room _ c.args.place (length c.args.bytes.now) (growing_size hand.list) hand.base.size _ _ hand.base.in_flight c.requires.room)
+pub fill_and_write-requires : goal.fill_and_write-requires
+fill_and_write-requires g c = record {
+  begun = search rules;
+  at = search rules;
+  some = search rules;
+  small = search rules;
+  room =
+      let hand = c.args.hand in
+      let begin : c.min.result ≡ min c.args.place (unfinished_length hand) = (let s = c.size.ensures in let l = c.max-length.ensures in let b = c.min.ensures in omega arith) in
+      let over = c.in_ok-turned.ensures.over.over in
+      let keeps = c.in_ok-turned.ensures.writing.map in
+      either_fits (g.D.BlockDevice.geometry c.args.dev.now) (g.D.BlockDevice.geometry c.restart_list_at.new.dev) c.in_ok-turned.turned.base hand.base _ _ _ _ (growing_size hand.list) (min c.args.place (unfinished_length hand)) (unfinished_length hand)
+      (c.args.place + length c.args.bytes.now) (c.args.place + length c.args.bytes.now) c.restart_list_at.ensures.writing.device.geometry keeps.used keeps.count (omega arith)
+      (λ e. over.same (e ∙ sym begin)) (λ ne. over.size (λ e. ne (e ∙ begin))) (on_room _ c.args.place (length c.args.bytes.now) (growing_size hand.list) hand.base.size _ _ hand.base.in_flight c.requires.room)
+      (anew_room _ c.args.place (length c.args.bytes.now) (growing_size hand.list) hand.base.size _ _ hand.base.in_flight c.requires.room);
+}
 
 pub returns-clause-writing : goal.returns-clause-writing
 returns-clause-writing g c = writes_on g.D.BlockDevice c.in_ok-turned.ensures.writing c.fill_and_write.ensures.map c.fill_and_write.ensures.device c.in_ok-fill_and_write.ensures.reports

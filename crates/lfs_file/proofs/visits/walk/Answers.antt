@@ -91,7 +91,7 @@ returns-in_err-before-clause-corrupt g c =
     rw (p.1, p.2) (λ is listed.
     let shape = g.met.D.BlockDevice.shape c.args.dev.now in
     let made = c.geometry-geometry.ensures in
-    let refused = rw (inv.device.geometry) at c.in_err-before.ensures.corrupt in
+    let refused = rw (inv.device.geometry) at c.in_err-before.ensures.checks.corrupt in
     refused (again _ _ is)
     (in_range_then _ _ _ _ _ _ _ _ made c.blocks_for-last.ensures shape c.if-last-geometry.false (omega arith) inv.low inv.at listed)
     (named_of_chain _ _ c.args.head _ _ c.loop-index.index _ (few_blocks c.geometry-geometry.result _ c.if-last-geometry.false) inv.checked
@@ -130,10 +130,10 @@ loop-index-preserved g c =
           ∙ ap (λ b. word_at (block_bytes old b) 0) (inv.at ∙ ap (slice_index bs) (sym next))
           ∙ back-pointer0 old (last + 1) c.args.head (index - 1) (let l = inv.low in omega arith);
       checked = more_checked old last c.args.head c.in_ok-first.first _ index c.loop-index.block _ _ (few_blocks c.geometry-geometry.result last c.if-last-geometry.false) (omega arith) inv.checked inv.at
-          c.in_ok-before.ensures.right.1
+          c.in_ok-before.ensures.checks.right.1
           (subst (λ d. ArePointersCopied d c.loop-index.block index c.loop-index.words c.check_and_step.new.words) inv.device.same c.in_ok-before.ensures.noted)
           inv.low
-          (omega (arith, c.in_ok-before.ensures.right.0, ap (λ (k : Geometry). k.block_count) inv.device.geometry))
+          (omega (arith, c.in_ok-before.ensures.checks.right.0, ap (λ (k : Geometry). k.block_count) inv.device.geometry))
           c.if-block-first.false;
       room = c.check_and_step.auto.words ∙ inv.room;
       few = λ ok.
@@ -154,9 +154,13 @@ loop-index-preserved g c =
       quiet = quiet g.D.BlockDevice c.in_ok-before.ensures.reading.faults ∙ inv.quiet;
     }
 
-pub check_and_step-requires-clause-way : goal.check_and_step-requires-clause-way
-check_and_step-requires-clause-way g c =
-    subst (λ d. HasNotedPointers d (c.blocks_for-last.result - 1) 0 c.find_first_block.new.way) (sym c.loop-index.invariant.device.same) c.in_ok-first.ensures.noted.words
+pub check_and_step-requires : goal.check_and_step-requires
+check_and_step-requires g c = record {
+  some = search rules;
+  order = search rules;
+  room = search rules;
+  way = subst (λ d. HasNotedPointers d (c.blocks_for-last.result - 1) 0 c.find_first_block.new.way) (sym c.loop-index.invariant.device.same) c.in_ok-first.ensures.noted.words;
+}
 
 pub returns-then-block-first-2-clause-corrupt : goal.returns-then-block-first-2-clause-corrupt
 returns-then-block-first-2-clause-corrupt g c is listed =
@@ -165,8 +169,8 @@ returns-then-block-first-2-clause-corrupt g c is listed =
     let none : c.loop-index.index ≡ 0 = omega arith in
     c.if-block-first-2.true (inv.at ∙ ap (slice_index _) none ∙ sym (c.in_ok-first.ensures.found ok))
 
-pub returns-clause-well_formed : goal.returns-clause-well_formed
-returns-clause-well_formed g c =
+pub returns-clause-listed : goal.returns-clause-listed
+returns-clause-listed g c =
     let inv = c.loop-index.invariant in
     let old : Blocks = g.D.BlockDevice.blocks c.args.dev.now in
     let last : ℕ = c.blocks_for-last.result - 1 in
@@ -174,18 +178,19 @@ returns-clause-well_formed g c =
     let none : c.loop-index.index ≡ 0 = omega arith in
     let first = c.in_ok-first.ensures.in_range in
     let is : slice_index (blocks_to_head old (last + 1) c.args.head) 0 ≡ c.in_ok-first.first = ap (slice_index (blocks_to_head old (last + 1) c.args.head)) (sym none) ∙ sym inv.at ∙ c.if-block-first-2.false in
+    let list =
     list_of_walk old c.args.head c.args.size c.blocks_for-last.result c.in_ok-first.first _ _ c.geometry-geometry.ensures c.blocks_for-last.ensures shape (omega arith) (omega arith) (omega arith)
     _ (subst (λ k. IsChecked old last c.args.head c.in_ok-first.first (g.D.BlockDevice.geometry c.args.dev.now).block_count k c.loop-index.words) none inv.checked) is first
-    (subst (λ b. LaterPointersName c.loop-index.words b 0 last) c.if-block-first-2.false (c.if-not-named_by_later.ensures.yes refl))
-
-pub returns-clause-few : goal.returns-clause-few
-returns-clause-few g c =
-    let last : ℕ = c.blocks_for-last.result - 1 in
-    let ok = chain _ _ _ _ _ c.geometry-geometry.result.valid.no_smaller c.blocks_for-last.ensures (sized _ _ _ _ _ c.geometry-geometry.ensures (returns-clause-well_formed g c)) in
-    let few = c.loop-index.invariant.few ok in
-    let none : visit_count last c.loop-index.index ≡ 0 = ap (visit_count last) (let e : c.loop-index.index ≡ 0 = omega arith in e) in
-    let count = count_by (g.D.BlockDevice.geometry c.args.dev.now) c.geometry-geometry.result c.args.size c.blocks_for-last.result c.geometry-geometry.ensures (omega arith) c.blocks_for-last.ensures in
-    omega (arith, few, none, count)
+    (subst (λ b. LaterPointersName c.loop-index.words b 0 last) c.if-block-first-2.false (c.if-not-named_by_later.ensures.yes refl)) in
+    record {
+      list = list;
+      few =
+          let ok = chain _ _ _ _ _ c.geometry-geometry.result.valid.no_smaller c.blocks_for-last.ensures (sized _ _ _ _ _ c.geometry-geometry.ensures list) in
+          let few = c.loop-index.invariant.few ok in
+          let unseen : visit_count last c.loop-index.index ≡ 0 = ap (visit_count last) (let e : c.loop-index.index ≡ 0 = omega arith in e) in
+          let count = count_by (g.D.BlockDevice.geometry c.args.dev.now) c.geometry-geometry.result c.args.size c.blocks_for-last.result c.geometry-geometry.ensures (omega arith) c.blocks_for-last.ensures in
+          omega (arith, few, unseen, count);
+    }
 
 pub returns-clause-visited : goal.returns-clause-visited
 returns-clause-visited g c =

@@ -50,7 +50,7 @@ returns-in_err-read_into_range-clause-reading g c =
     let inv = c.loop-at.invariant in
     let read = c.in_err-read_into_range.ensures in
     let p = err_from_is_err_and c.from_residual.result c.from_residual.ensures.1 in
-    rw (p.1, p.2) (list_io g.D.BlockDevice (read_on g.D.BlockDevice inv.device c.read_into_range.ensures.device) (reported_on g.D.BlockDevice inv.quiet read.faults) read.errors)
+    rw (p.1, p.2) (list_io g.D.BlockDevice (read_on g.D.BlockDevice inv.device c.read_into_range.ensures.reading.device) (reported_on g.D.BlockDevice inv.quiet read.reading.reports.faults) read.reading.reports.errors)
 
 -- the step
 stride : (g : _) (c : goal.After-word_of_slice-block g) → 1 * 2 ^ trailing_zeros w32 c.loop-at.at % 4294967296 ≡ 2 ^ trailing_zeros w32 c.loop-at.at
@@ -92,8 +92,8 @@ loop-at-preserved g c =
       noted = subst (λ k. HasNotedWalk old c.args.head last k way) (sym next) more;
       blocks_room = length-set c.loop-at.way.blocks z c.loop-at.block ∙ inv.blocks_room;
       words_room = c.read_into_range.auto.buf ∙ inv.words_room;
-      device = read_on g.D.BlockDevice inv.device c.read_into_range.ensures.device;
-      quiet = quiet g.D.BlockDevice c.in_ok-read_into_range.ensures.faults ∙ inv.quiet;
+      device = read_on g.D.BlockDevice inv.device c.read_into_range.ensures.reading.device;
+      quiet = quiet g.D.BlockDevice c.in_ok-read_into_range.ensures.reading.reports.faults ∙ inv.quiet;
       few =
           let one = one_on last at (omega arith) on in
           let less = visit_count-le last (at - 1 * 2 ^ z % 4294967296) (at - 1) (omega (arith, next, small.0, one-le-pow z 2 (omega arith))) in

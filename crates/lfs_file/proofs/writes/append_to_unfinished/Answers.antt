@@ -1,4 +1,4 @@
-use Rattle.std.proofs.Common.{◌+◌, length, sym, ap, ◌∙◌, arith}
+use Rattle.std.proofs.Common.{rules, ◌+◌, length, sym, ap, ◌∙◌, arith}
 use Rattle.lfs_device.specs.declared.geometry.Geometry.{Geometry}
 use Rattle.lfs_model.specs.format.SkipLists.{block_count_for}
 use Rattle.lfs_file.specs.Growing.{growing_size}
@@ -9,15 +9,22 @@ use Rattle.lfs_file.proofs.Flights.{begun_flying, length-content, shaped}
 use Rattle.lfs_file.proofs.Handed.{extended_bytes, extended_on}
 use Rattle.lfs_file.proofs.writes.append_to_unfinished.Goals as goal
 
-pub extend_list-requires-clause-room : goal.extend_list-requires-clause-room
-extend_list-requires-clause-room g c =
-    let hand = c.args.hand.now in
-    let begun = c.requires.begun in
-    let flying = begun_flying c.args.map.now (g.D.BlockDevice.blocks c.args.dev.now) hand.list.geometry.block_size hand.list hand.base hand.shared begun.begun in
-    let room = c.requires.room in
-    let some = ap (λ (k : Geometry). in_flight_limit k.block_size hand.base) begun.geometry in
-    let many = ap (λ (k : Geometry). block_count_for k.block_size (growing_size hand.list + length c.args.bytes.now)) begun.geometry in
-    omega arith
+pub extend_list-requires : goal.extend_list-requires
+extend_list-requires g c = record {
+  growing = search rules;
+  geometry = search rules;
+  some = search rules;
+  small = search rules;
+  marked = search rules;
+  room =
+      let hand = c.args.hand.now in
+      let begun = c.requires.begun in
+      let flying = begun_flying c.args.map.now (g.D.BlockDevice.blocks c.args.dev.now) hand.list.geometry.block_size hand.list hand.base hand.shared begun.begun in
+      let room = c.requires.room in
+      let some = ap (λ (k : Geometry). in_flight_limit k.block_size hand.base) begun.geometry in
+      let many = ap (λ (k : Geometry). block_count_for k.block_size (growing_size hand.list + length c.args.bytes.now)) begun.geometry in
+      omega arith;
+}
 
 pub returns-in_err-extend_list-clause-device : goal.returns-in_err-extend_list-clause-device
 returns-in_err-extend_list-clause-device g c = used_of g.D.BlockDevice c.args.hand.now.list c.requires.begun.begun.marked c.extend_list.ensures.device

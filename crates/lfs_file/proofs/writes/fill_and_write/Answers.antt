@@ -1,4 +1,4 @@
-use Rattle.std.proofs.Common.{◌≡◌, ◌+◌, ◌-◌, length, refl, ap, ◌∙◌, subst, arith, replicate}
+use Rattle.std.proofs.Common.{rules, ◌≡◌, ◌+◌, ◌-◌, length, refl, ap, ◌∙◌, subst, arith, replicate}
 use Rattle.lfs_device.specs.declared.geometry.Geometry.{Geometry}
 use Rattle.lfs_model.specs.session.Writers.{written_contents}
 use Rattle.lfs_file.specs.Growing.{growing_size}
@@ -8,12 +8,16 @@ use Rattle.lfs_file.proofs.ContentsCalled.{used_on}
 use Rattle.lfs_file.proofs.Flights.{length-hand, part_fits, shaped, wrote_all}
 use Rattle.lfs_file.proofs.writes.fill_and_write.Goals as goal
 
-pub write_zeros-requires-clause-room : goal.write_zeros-requires-clause-room
-write_zeros-requires-clause-room g c =
-    let hand = c.args.hand.now in
-    let at = c.requires.at in
-    let size = c.size.ensures in
-    part_fits (g.D.BlockDevice.geometry c.args.dev.now) (g.D.BlockDevice.geometry c.args.dev.now) hand.base hand.base _ _ _ _ (growing_size hand.list + (c.args.place - c.size.result)) (c.args.place + length c.args.bytes.now) refl refl (omega arith) refl refl c.requires.room
+pub write_zeros-requires : goal.write_zeros-requires
+write_zeros-requires g c = record {
+  begun = search rules;
+  small = search rules;
+  room =
+      let hand = c.args.hand.now in
+      let at = c.requires.at in
+      let size = c.size.ensures in
+      part_fits (g.D.BlockDevice.geometry c.args.dev.now) (g.D.BlockDevice.geometry c.args.dev.now) hand.base hand.base _ _ _ _ (growing_size hand.list + (c.args.place - c.size.result)) (c.args.place + length c.args.bytes.now) refl refl (omega arith) refl refl c.requires.room;
+}
 
 pub returns-in_err-append_to_unfinished-clause-device : goal.returns-in_err-append_to_unfinished-clause-device
 returns-in_err-append_to_unfinished-clause-device g c = used_on g.D.BlockDevice c.write_zeros.ensures.map c.write_zeros.ensures.device c.append_to_unfinished.ensures.device

@@ -1,4 +1,4 @@
-use Rattle.std.proofs.Common.{ℕ, ◌≡◌, ◌+◌, ◌≤◌, List, length, take, replicate, refl, sym, ap, ◌∙◌, subst, arith}
+use Rattle.std.proofs.Common.{rules, ℕ, ◌≡◌, ◌+◌, ◌≤◌, List, length, take, replicate, refl, sym, ap, ◌∙◌, subst, arith}
 use Rattle.std.proofs.lemmas.List.{take-replicate, length-replicate}
 use Rattle.std.proofs.lemmas.Result.{err_from_is_err_and}
 use Rattle.lfs_device.specs.declared.geometry.Geometry.{Geometry}
@@ -30,23 +30,25 @@ zeroing-init g c =
       quiet = refl;
     }
 
-pub append_to_unfinished-requires-clause-begun : goal.append_to_unfinished-requires-clause-begun
-append_to_unfinished-requires-clause-begun g c =
-    let inv = c.zeroing.invariant in
-    subst (λ (k : Geometry). UnfinishedListOnDisk c.zeroing.map (g.D.BlockDevice.blocks c.zeroing.dev) k c.zeroing.hand) (sym inv.device.geometry) inv.zeroed.at.begun
-
-pub append_to_unfinished-requires-clause-room : goal.append_to_unfinished-requires-clause-room
-append_to_unfinished-requires-clause-room g c =
-    let inv = c.zeroing.invariant in
-    let n : ℕ = c.min-part.result in
-    let few : n ≤ 512 = (let m = c.min-part.ensures in omega arith) in
-    let zeros : List ℕ = take n (replicate 512 0) in
-    let part : length zeros ≡ n = ap length (take-replicate n 512 0 few) ∙ length-replicate {A = ℕ} n 0 in
-    let m = c.min-part.ensures in
-    let test = c.zeroing-test.true in
-    let size = inv.zeroed.at.size in
-    part_fits (g.D.BlockDevice.geometry c.args.dev.now) (g.D.BlockDevice.geometry c.zeroing.dev) c.zeroing.hand.base c.args.hand.now.base _ _ _ _
-    (growing_size c.zeroing.hand.list + length zeros) (growing_size c.args.hand.now.list + c.args.count) inv.device.geometry inv.base.same (omega arith) inv.map.used inv.map.count c.requires.room
+pub append_to_unfinished-requires : goal.append_to_unfinished-requires
+append_to_unfinished-requires g c = record {
+  begun =
+      let inv = c.zeroing.invariant in
+      subst (λ (k : Geometry). UnfinishedListOnDisk c.zeroing.map (g.D.BlockDevice.blocks c.zeroing.dev) k c.zeroing.hand) (sym inv.device.geometry) inv.zeroed.at.begun;
+  some = search rules;
+  small = search rules;
+  room =
+      let inv = c.zeroing.invariant in
+      let n : ℕ = c.min-part.result in
+      let few : n ≤ 512 = (let m = c.min-part.ensures in omega arith) in
+      let zeros : List ℕ = take n (replicate 512 0) in
+      let part : length zeros ≡ n = ap length (take-replicate n 512 0 few) ∙ length-replicate {A = ℕ} n 0 in
+      let m = c.min-part.ensures in
+      let test = c.zeroing-test.true in
+      let size = inv.zeroed.at.size in
+      part_fits (g.D.BlockDevice.geometry c.args.dev.now) (g.D.BlockDevice.geometry c.zeroing.dev) c.zeroing.hand.base c.args.hand.now.base _ _ _ _
+      (growing_size c.zeroing.hand.list + length zeros) (growing_size c.args.hand.now.list + c.args.count) inv.device.geometry inv.base.same (omega arith) inv.map.used inv.map.count c.requires.room;
+}
 
 pub returns-in_err-append_to_unfinished-clause-device : goal.returns-in_err-append_to_unfinished-clause-device
 returns-in_err-append_to_unfinished-clause-device g c = used_on g.D.BlockDevice c.zeroing.invariant.map c.zeroing.invariant.device c.append_to_unfinished.ensures.device

@@ -41,32 +41,28 @@ overflow_sub-room g c =
     let ends = ends_in_block _ _ c.args.pair.now c.requires.can.held _ c.requires.can.is_pair size c.geometry-geometry.result.valid.no_smaller in
     ends
 
-pub program_commit_at-requires-clause-in_device : goal.program_commit_at-requires-clause-in_device
-program_commit_at-requires-clause-in_device g c =
-    let shape = g.met.D.BlockDevice.shape c.args.dev.now in
-    let below = active_below _ _ c.args.pair.now c.requires.can.held _ c.requires.can.address c.requires.can.is_pair shape.count in
-    subst (λ (k : Geometry). c.args.pair.now.active < k.block_count) (sym c.in_ok-is_blank.ensures.asks.geometry) below
-
-pub program_commit_at-requires-clause-begins : goal.program_commit_at-requires-clause-begins
-program_commit_at-requires-clause-begins g c =
-    subst (λ (k : Geometry). c.args.pair.now.end % k.page ≡ 0) (sym c.in_ok-is_blank.ensures.asks.geometry) (c.in_ok-is_blank.ensures.yes (ap Ok c.if-not-is_blank.false)).whole_pages
-
-pub program_commit_at-requires-clause-page : goal.program_commit_at-requires-clause-page
-program_commit_at-requires-clause-page g c =
-    let built = c.push_changes.ensures ∙ ap (commit_with_more (entries_of_changes (changes_view c.args.changes.now))) c.new-builder.ensures in
-    ap (λ (b : PartialCommit). b.page) built ∙ ap (λ (k : Geometry). k.page) (c.geometry-geometry.ensures ∙ sym c.in_ok-is_blank.ensures.asks.geometry)
-
-pub program_commit_at-requires-clause-goes : goal.program_commit_at-requires-clause-goes
-program_commit_at-requires-clause-goes g c =
-    let can = c.requires.can in
-    let built = c.push_changes.ensures ∙ ap (commit_with_more (entries_of_changes (changes_view c.args.changes.now))) c.new-builder.ensures in
-    subst (λ b. IsCommitOffset c.push_changes.new.builder.revision c.push_changes.new.builder.previous (block_bytes b c.args.pair.now.active) c.args.pair.now.end) (sym c.in_ok-is_blank.ensures.asks.same)
-    (search rules)
-
-pub program_commit_at-requires-clause-unprogrammed : goal.program_commit_at-requires-clause-unprogrammed
-program_commit_at-requires-clause-unprogrammed g c =
-    subst (λ (k : Geometry). AreUnprogrammed (g.D.BlockDevice.history c.is_end_blank.new.dev) c.args.pair.now.active c.args.pair.now.end k.block_size) (sym c.in_ok-is_blank.ensures.asks.geometry)
-    (c.in_ok-is_blank.ensures.yes (ap Ok c.if-not-is_blank.false)).unprogrammed
+pub program_commit_at-requires : goal.program_commit_at-requires
+program_commit_at-requires g c = record {
+  in_device =
+      let shape = g.met.D.BlockDevice.shape c.args.dev.now in
+      let below = active_below _ _ c.args.pair.now c.requires.can.held _ c.requires.can.address c.requires.can.is_pair shape.count in
+      subst (λ (k : Geometry). c.args.pair.now.active < k.block_count) (sym c.in_ok-is_blank.ensures.asks.geometry) below;
+  begins =
+      subst (λ (k : Geometry). c.args.pair.now.end % k.page ≡ 0) (sym c.in_ok-is_blank.ensures.asks.geometry) (c.in_ok-is_blank.ensures.yes (ap Ok c.if-not-is_blank.false)).whole_pages;
+  page =
+      let built = c.push_changes.ensures ∙ ap (commit_with_more (entries_of_changes (changes_view c.args.changes.now))) c.new-builder.ensures in
+      ap (λ (b : PartialCommit). b.page) built ∙ ap (λ (k : Geometry). k.page) (c.geometry-geometry.ensures ∙ sym c.in_ok-is_blank.ensures.asks.geometry);
+  room = search rules;
+  ends = search rules;
+  goes =
+      let can = c.requires.can in
+      let built = c.push_changes.ensures ∙ ap (commit_with_more (entries_of_changes (changes_view c.args.changes.now))) c.new-builder.ensures in
+      subst (λ b. IsCommitOffset c.push_changes.new.builder.revision c.push_changes.new.builder.previous (block_bytes b c.args.pair.now.active) c.args.pair.now.end) (sym c.in_ok-is_blank.ensures.asks.same)
+      (search rules);
+  unprogrammed =
+      subst (λ (k : Geometry). AreUnprogrammed (g.D.BlockDevice.history c.is_end_blank.new.dev) c.args.pair.now.active c.args.pair.now.end k.block_size) (sym c.in_ok-is_blank.ensures.asks.geometry)
+      (c.in_ok-is_blank.ensures.yes (ap Ok c.if-not-is_blank.false)).unprogrammed;
+}
 
 pub returns-in_err-written-clause-stops : goal.returns-in_err-written-clause-stops
 returns-in_err-written-clause-stops g c =
@@ -77,44 +73,47 @@ returns-in_err-written-clause-stops g c =
     HoldsAtLosses-weaker (λ disk left. subst (λ k. LossLeavesNew (disk_of_blocks (g.D.BlockDevice.geometry c.args.dev.now) (g.D.BlockDevice.blocks c.args.dev.now)) (header_address c.args.pair.now) k disk) (some_same new)
     (left_by_append _ _ _ _ _ _ _ c.args.pair.now.end disk ready can.is_pair.describes.end left)) (asks_then_stops g.D.BlockDevice c.args.pair.now.active (LossLeavesCommit c.push_changes.new.builder c.args.pair.now.end) (λ bytes. inl refl) c.in_ok-is_blank.ensures.asks c.in_err-written.ensures.stops)
 
-pub returns-clause-done : goal.returns-clause-done
-returns-clause-done g c done =
-    let can = c.requires.can in
-    let asks = c.in_ok-is_blank.ensures.asks in
-    let others = subst (λ b. SameExcept c.args.pair.now.active b (g.D.BlockDevice.blocks c.program_commit_at.new.dev)) asks.same c.in_ok-written.ensures.writes.device.others in
-    let geometry = c.in_ok-written.ensures.writes.device.geometry ∙ asks.geometry in
-    let adds = subst (λ b. BlockGetsCommit c.push_changes.new.builder c.args.pair.now.end c.in_ok-written.written.end (block_bytes b c.args.pair.now.active) (block_bytes (g.D.BlockDevice.blocks c.program_commit_at.new.dev) c.args.pair.now.active)) asks.same c.in_ok-written.ensures.adds in
-    let built = c.push_changes.ensures ∙ ap (commit_with_more (entries_of_changes (changes_view c.args.changes.now))) c.new-builder.ensures in
-    let ready = is_appending _ _ c.args.pair.now can.held can.new (changes_view c.args.changes.now) c.push_changes.new.builder can.address can.is_pair can.changed (ap (λ (b : PartialCommit). b.entries) built) (ap (λ (b : PartialCommit). b.revision) built) in
-    let new : Some can.new ≡ Some (content_view c.args.content.now) = sym (made_is _ _ c.args.pair.now can.held (changes_view c.args.changes.now) can.is_pair ∙ can.changed) ∙ c.requires.made in
-    let holds = subst (λ k. IsIn (disk_of_blocks k (g.D.BlockDevice.blocks c.program_commit_at.new.dev)) (header_address c.args.pair.now) c.args.pair.now.active (content_view c.args.content.now)) (sym geometry)
-    (subst (IsIn (disk_of_blocks (g.D.BlockDevice.geometry c.args.dev.now) (g.D.BlockDevice.blocks c.program_commit_at.new.dev)) (header_address c.args.pair.now) c.args.pair.now.active) (some_same new)
-    (appended _ _ _ _ _ _ _ (g.D.BlockDevice.blocks c.program_commit_at.new.dev) ready others adds.commit)) in
-    let gets = subst (λ (b : PartialCommit). LogGetsCommit b (block_bytes (g.D.BlockDevice.blocks c.args.dev.now) c.args.pair.now.active) (block_bytes (g.D.BlockDevice.blocks c.program_commit_at.new.dev) c.args.pair.now.active)) built adds.commit in
-    let ends = ap padded_end_of built ∙ ap (commit_end_aligned c.geometry-geometry.result.page) (nothing_more (encoded_size (entries_of_changes (changes_view c.args.changes.now)))) ∙ ap (λ (k : Geometry). commit_end_aligned k.page (encoded_size (entries_of_changes (changes_view c.args.changes.now)))) c.geometry-geometry.ensures in
-    record {
-      holds = now_holds _ _ _ c.written.result c.args.pair.now.active _ holds
-          (ap array_address c.written.ensures.blocks) c.written.ensures.active c.written.ensures.fetched
-          (c.written.ensures.revision ∙ can.is_pair.describes.revision ∙ sym (gets_revision c.push_changes.new.builder _ _ ready.no_revision adds.commit))
-          c.written.ensures.ends c.in_ok-written.ensures.written c.written.ensures.sums c.requires.logged;
-      first = subst (λ k. KeepsFirstEntry (disk_of_blocks (g.D.BlockDevice.geometry c.args.dev.now) (g.D.BlockDevice.blocks c.args.dev.now)) (header_address c.args.pair.now) (Some (content_view c.args.content.now)) (disk_of_blocks k (g.D.BlockDevice.blocks c.program_commit_at.new.dev)))
-          (sym geometry)
-          (appended_first _ _ _ _ _ _ _ (Some (content_view c.args.content.now)) (g.D.BlockDevice.blocks c.program_commit_at.new.dev) ready others adds.commit);
-      appends = record { known = known_after g.D.BlockDevice (g.D.BlockDevice.history c.program_commit_at.new.dev) c.args.pair.now asks c.in_ok-written.ensures.programs.blanks (c.in_ok-is_blank.ensures.yes (ap Ok c.if-not-is_blank.false)).known; room = search rules };
-      appended = record {
-        active = c.written.ensures.active;
-        log = record {
-          checksum = gets.checksum;
-          class = gets.class;
-          commits = gets.commits;
-          end = sym c.in_ok-written.ensures.written.end_is ∙ adds.end_is ∙ ap₂ (λ m n. m + n) can.is_pair.describes.end ends;
+pub returns-clause-ends : goal.returns-clause-ends
+returns-clause-ends g c = record {
+  done = λ done.
+      let can = c.requires.can in
+      let asks = c.in_ok-is_blank.ensures.asks in
+      let others = subst (λ b. SameExcept c.args.pair.now.active b (g.D.BlockDevice.blocks c.program_commit_at.new.dev)) asks.same c.in_ok-written.ensures.writes.device.others in
+      let geometry = c.in_ok-written.ensures.writes.device.geometry ∙ asks.geometry in
+      let adds = subst (λ b. BlockGetsCommit c.push_changes.new.builder c.args.pair.now.end c.in_ok-written.written.end (block_bytes b c.args.pair.now.active) (block_bytes (g.D.BlockDevice.blocks c.program_commit_at.new.dev) c.args.pair.now.active)) asks.same c.in_ok-written.ensures.adds in
+      let built = c.push_changes.ensures ∙ ap (commit_with_more (entries_of_changes (changes_view c.args.changes.now))) c.new-builder.ensures in
+      let ready = is_appending _ _ c.args.pair.now can.held can.new (changes_view c.args.changes.now) c.push_changes.new.builder can.address can.is_pair can.changed (ap (λ (b : PartialCommit). b.entries) built) (ap (λ (b : PartialCommit). b.revision) built) in
+      let new : Some can.new ≡ Some (content_view c.args.content.now) = sym (made_is _ _ c.args.pair.now can.held (changes_view c.args.changes.now) can.is_pair ∙ can.changed) ∙ c.requires.made in
+      let holds = subst (λ k. IsIn (disk_of_blocks k (g.D.BlockDevice.blocks c.program_commit_at.new.dev)) (header_address c.args.pair.now) c.args.pair.now.active (content_view c.args.content.now)) (sym geometry)
+      (subst (IsIn (disk_of_blocks (g.D.BlockDevice.geometry c.args.dev.now) (g.D.BlockDevice.blocks c.program_commit_at.new.dev)) (header_address c.args.pair.now) c.args.pair.now.active) (some_same new)
+      (appended _ _ _ _ _ _ _ (g.D.BlockDevice.blocks c.program_commit_at.new.dev) ready others adds.commit)) in
+      let gets = subst (λ (b : PartialCommit). LogGetsCommit b (block_bytes (g.D.BlockDevice.blocks c.args.dev.now) c.args.pair.now.active) (block_bytes (g.D.BlockDevice.blocks c.program_commit_at.new.dev) c.args.pair.now.active)) built adds.commit in
+      let ends = ap padded_end_of built ∙ ap (commit_end_aligned c.geometry-geometry.result.page) (nothing_more (encoded_size (entries_of_changes (changes_view c.args.changes.now)))) ∙ ap (λ (k : Geometry). commit_end_aligned k.page (encoded_size (entries_of_changes (changes_view c.args.changes.now)))) c.geometry-geometry.ensures in
+      record {
+        holds = now_holds _ _ _ c.written.result c.args.pair.now.active _ holds
+            (ap array_address c.written.ensures.blocks) c.written.ensures.active c.written.ensures.fetched
+            (c.written.ensures.revision ∙ can.is_pair.describes.revision ∙ sym (gets_revision c.push_changes.new.builder _ _ ready.no_revision adds.commit))
+            c.written.ensures.ends c.in_ok-written.ensures.written c.written.ensures.sums c.requires.logged;
+        first = subst (λ k. KeepsFirstEntry (disk_of_blocks (g.D.BlockDevice.geometry c.args.dev.now) (g.D.BlockDevice.blocks c.args.dev.now)) (header_address c.args.pair.now) (Some (content_view c.args.content.now)) (disk_of_blocks k (g.D.BlockDevice.blocks c.program_commit_at.new.dev)))
+            (sym geometry)
+            (appended_first _ _ _ _ _ _ _ (Some (content_view c.args.content.now)) (g.D.BlockDevice.blocks c.program_commit_at.new.dev) ready others adds.commit);
+        appends = record { known = known_after g.D.BlockDevice (g.D.BlockDevice.history c.program_commit_at.new.dev) c.args.pair.now asks c.in_ok-written.ensures.programs.blanks (c.in_ok-is_blank.ensures.yes (ap Ok c.if-not-is_blank.false)).known; room = search rules };
+        appended = record {
+          active = c.written.ensures.active;
+          log = record {
+            checksum = gets.checksum;
+            class = gets.class;
+            commits = gets.commits;
+            end = sym c.in_ok-written.ensures.written.end_is ∙ adds.end_is ∙ ap₂ (λ m n. m + n) can.is_pair.describes.end ends;
+          };
+          others = others;
+          erases = c.in_ok-written.ensures.programs.erases ∙ asks_erases g.D.BlockDevice asks;
+          programs = c.in_ok-written.ensures.programs.programs ∙ ap (λ n. n + 1) (asks_programs g.D.BlockDevice asks);
+          kept = adds.kept;
         };
-        others = others;
-        erases = c.in_ok-written.ensures.programs.erases ∙ asks_erases g.D.BlockDevice asks;
-        programs = c.in_ok-written.ensures.programs.programs ∙ ap (λ n. n + 1) (asks_programs g.D.BlockDevice asks);
-        kept = adds.kept;
       };
-    }
+  no_room = search rules;
+}
 
 pub returns-clause-stops : goal.returns-clause-stops
 returns-clause-stops g c =
@@ -132,7 +131,7 @@ returns-in_err-written-clause-writes g c =
       device = only_trans (asks_only g.D.BlockDevice (address_blocks (header_address c.args.pair.now)) c.in_ok-is_blank.ensures.asks) (only_block (header_address c.args.pair.now) (active_among _ _ c.args.pair.now c.requires.can.held c.requires.can.address c.requires.can.is_pair) c.in_err-written.ensures.writes.device);
       few = asks_then_few g.D.BlockDevice _ 1 c.in_ok-is_blank.ensures.asks c.in_err-written.ensures.writes.few;
       errors = search rules;
-      faults = reports_on p.1 p.2 (c.in_ok-is_blank.ensures.faults.no_fault (λ gives. absurd (cc))) c.in_err-written.ensures.writes.faults;
+      faults = reports_on p.1 p.2 (c.in_ok-is_blank.ensures.reports.faults.no_fault (λ gives. absurd (cc))) c.in_err-written.ensures.writes.faults;
     }
 
 pub returns-clause-writes : goal.returns-clause-writes
@@ -140,7 +139,7 @@ returns-clause-writes g c = record {
   device = only_trans (asks_only g.D.BlockDevice (address_blocks (header_address c.args.pair.now)) c.in_ok-is_blank.ensures.asks) (only_block (header_address c.args.pair.now) (active_among _ _ c.args.pair.now c.requires.can.held c.requires.can.address c.requires.can.is_pair) c.in_ok-written.ensures.writes.device);
   few = asks_then_few g.D.BlockDevice _ 1 c.in_ok-is_blank.ensures.asks c.in_ok-written.ensures.writes.few;
   errors = search rules;
-  faults = reports_ok (c.in_ok-written.ensures.writes.faults.no_fault (λ gives. absurd (cc)) ∙ c.in_ok-is_blank.ensures.faults.no_fault (λ gives. absurd (cc)));
+  faults = reports_ok (c.in_ok-written.ensures.writes.faults.no_fault (λ gives. absurd (cc)) ∙ c.in_ok-is_blank.ensures.reports.faults.no_fault (λ gives. absurd (cc)));
 }
 
 -- where nothing is appended
@@ -157,16 +156,19 @@ pub returns-in_err-is_blank-clause-stops : goal.returns-in_err-is_blank-clause-s
 returns-in_err-is_blank-clause-stops g c = asks_stops g.D.BlockDevice (LossLeavesNew (disk_of_blocks (g.D.BlockDevice.geometry c.args.dev.now) (g.D.BlockDevice.blocks c.args.dev.now)) (header_address c.args.pair.now) (content_view c.args.content.now)) c.in_err-is_blank.ensures.asks
     (left_alone _ _ _)
 
-pub returns-then-not-is_blank-clause-no_room : goal.returns-then-not-is_blank-clause-no_room
-returns-then-not-is_blank-clause-no_room g c is =
-    let no = c.in_ok-is_blank.ensures.no (ap Ok c.if-not-is_blank.true) in
-    record {
-      no_room = λ can. unknown c.args.pair.now no.0 no.1 can.known;
-      blocks = c.in_ok-is_blank.ensures.asks.same;
-      geometry = c.in_ok-is_blank.ensures.asks.geometry;
-      history = no.1;
-      pair = refl;
-    }
+pub returns-then-not-is_blank-clause-ends : goal.returns-then-not-is_blank-clause-ends
+returns-then-not-is_blank-clause-ends g c = record {
+  done = search rules;
+  no_room = λ is.
+      let no = c.in_ok-is_blank.ensures.no (ap Ok c.if-not-is_blank.true) in
+      record {
+        no_room = λ can. unknown c.args.pair.now no.0 no.1 can.known;
+        blocks = c.in_ok-is_blank.ensures.asks.same;
+        geometry = c.in_ok-is_blank.ensures.asks.geometry;
+        history = no.1;
+        pair = refl;
+      };
+}
 
 pub returns-then-not-is_blank-clause-writes : goal.returns-then-not-is_blank-clause-writes
 returns-then-not-is_blank-clause-writes g c = record {

@@ -31,22 +31,22 @@ returns-clause-stops g c cleanly =
     (HoldsAtLosses-weaker (λ disk left. subst (λ old. LossLeavesChanged old (header_address c.args.pair.now) (changes_view c.args.changes.now) disk) same_disk left)
     (c.in_ok-outcome.ensures.stops (AllCallsSince-behind cleanly c.in_ok-block.ensures.device.reads c.in_ok-outcome.ensures.device.only.at_worst)))
 
-pub returns-clause-done : goal.returns-clause-done
-returns-clause-done g c done =
+pub returns-clause-ends : goal.returns-clause-ends
+returns-clause-ends g c =
     let read = c.in_ok-block.ensures.device in
-    commits_behind (ap₂ disk_of_blocks read.geometry read.same) read.reads (c.in_ok-outcome.ensures.done done)
-
-pub returns-clause-full : goal.returns-clause-full
-returns-clause-full g c full = full_behind c.in_ok-block.ensures.device (c.in_ok-outcome.ensures.full full)
+    record {
+      done = λ done. commits_behind (ap₂ disk_of_blocks read.geometry read.same) read.reads (c.in_ok-outcome.ensures.ends.done done);
+      full = λ full. full_behind read (c.in_ok-outcome.ensures.ends.full full);
+    }
 
 pub returns-in_err-block-clause-device : goal.returns-in_err-block-clause-device
-returns-in_err-block-clause-device g c = reading_by_read c.in_err-block.ensures.device (few_at_error c.in_err-block.ensures.errors c.in_err-block.ensures.io c.in_err-block.ensures.no_memory) (omega arith)
+returns-in_err-block-clause-device g c = reading_by_read c.in_err-block.ensures.device (few_at_error c.in_err-block.ensures.errors c.in_err-block.ensures.once.io c.in_err-block.ensures.once.no_memory) (omega arith)
 
 pub returns-in_err-outcome-clause-device : goal.returns-in_err-outcome-clause-device
-returns-in_err-outcome-clause-device g c = reading_trans (reading_by_read {n = 1} c.in_ok-block.ensures.device (few_by_read c.in_ok-block.ensures.ok) (omega arith)) c.in_err-outcome.ensures.device
+returns-in_err-outcome-clause-device g c = reading_trans (reading_by_read {n = 1} c.in_ok-block.ensures.device (few_by_read c.in_ok-block.ensures.once.ok) (omega arith)) c.in_err-outcome.ensures.device
 
 pub returns-clause-device : goal.returns-clause-device
-returns-clause-device g c = reading_trans (reading_by_read {n = 1} c.in_ok-block.ensures.device (few_by_read c.in_ok-block.ensures.ok) (omega arith)) c.in_ok-outcome.ensures.device
+returns-clause-device g c = reading_trans (reading_by_read {n = 1} c.in_ok-block.ensures.device (few_by_read c.in_ok-block.ensures.once.ok) (omega arith)) c.in_ok-outcome.ensures.device
 
 pub returns-in_err-outcome-clause-error : goal.returns-in_err-outcome-clause-error
 returns-in_err-outcome-clause-error g c =

@@ -13,12 +13,18 @@ use Rattle.lfs_pair.proofs.Calls.{only_block}
 use Rattle.lfs_pair.proofs.Changed.{IsIn, is_compacting, compacted, compacted_first, now_holds, left_by_compaction}
 use Rattle.lfs_pair.proofs.commits.compact.Goals as goal
 
-pub write_block_anew-requires-clause-in_device : goal.write_block_anew-requires-clause-in_device
-write_block_anew-requires-clause-in_device g c =
-    let ready = is_compacting _ c.args.pair.now c.inactive_block-other.result ((c.args.pair.now.revision + 1) % 2 ^ 32) c.requires.address c.requires.active c.inactive_block-other.ensures (omega arith) refl in
-    let below = below_count _ _ c.inactive_block-other.result c.requires.address (other_is _ _ _ _ ready.sides) in
-    let count = (g.met.D.BlockDevice.shape c.args.dev.now).count in
-    omega (arith, below, count)
+pub write_block_anew-requires : goal.write_block_anew-requires
+write_block_anew-requires g c = record {
+  in_device =
+      let ready = is_compacting _ c.args.pair.now c.inactive_block-other.result ((c.args.pair.now.revision + 1) % 2 ^ 32) c.requires.address c.requires.active c.inactive_block-other.ensures (omega arith) refl in
+      let below = below_count _ _ c.inactive_block-other.result c.requires.address (other_is _ _ _ _ ready.sides) in
+      let count = (g.met.D.BlockDevice.shape c.args.dev.now).count in
+      omega (arith, below, count);
+  buf = search rules;
+  logged = c.requires.logged;
+  names = c.requires.names;
+  fits = c.requires.fits;
+}
 
 pub returns-in_err-written-clause-stops : goal.returns-in_err-written-clause-stops
 returns-in_err-written-clause-stops g c cleanly =

@@ -27,23 +27,25 @@ overflow_sub-geometry g c =
 
 -- the question
 
-pub is_unprogrammed-requires-clause-in_device : goal.is_unprogrammed-requires-clause-in_device
-is_unprogrammed-requires-clause-in_device g c =
-    let shape = g.met.D.BlockDevice.shape c.args.dev.now in
-    active_below _ _ c.args.pair.now c.requires.pair.0 _ c.requires.address c.requires.pair.1 shape.count
-
 whole : (end size : ℕ) → end ≤ size → end + (size - end) ≡ size
 whole end size within = omega (arith, within)
 
-pub is_unprogrammed-requires-clause-in_block : goal.is_unprogrammed-requires-clause-in_block
-is_unprogrammed-requires-clause-in_block g c =
-    let ends = overflow_sub-geometry g c in
-    let size = ap (λ (k : Geometry). k.block_size) c.geometry-geometry.ensures in
-    omega (arith, ends, size)
+pub is_unprogrammed-requires : goal.is_unprogrammed-requires
+is_unprogrammed-requires g c = record {
+  within = record {
+    in_device =
+        let shape = g.met.D.BlockDevice.shape c.args.dev.now in
+        active_below _ _ c.args.pair.now c.requires.pair.0 _ c.requires.address c.requires.pair.1 shape.count;
+    in_block =
+        let ends = overflow_sub-geometry g c in
+        let size = ap (λ (k : Geometry). k.block_size) c.geometry-geometry.ensures in
+        omega (arith, ends, size);
+  };
+}
 
 pub returns-clause-yes : goal.returns-clause-yes
 returns-clause-yes g c done =
-    let word = c.in_ok-is_blank.ensures.yes done in
+    let word = c.in_ok-is_blank.ensures.asks.yes done in
     let shape = g.met.D.BlockDevice.shape c.args.dev.now in
     let below = active_below _ _ c.args.pair.now c.requires.pair.0 _ c.requires.address c.requires.pair.1 shape.count in
     let size = ap (λ (k : Geometry). k.block_size) c.geometry-geometry.ensures in
@@ -62,10 +64,10 @@ returns-clause-asks g c = go c.in_ok-is_blank.is_blank refl
     go true is = record {
       same = c.in_ok-is_blank.ensures.same;
       geometry = c.in_ok-is_blank.ensures.geometry;
-      asked = inr (record { block = c.args.pair.now.active; off = c.args.pair.now.end; len = c.geometry-geometry.result.block_size - c.args.pair.now.end; failed = false; word = c.in_ok-is_blank.ensures.yes (ap Ok is) });
+      asked = inr (record { block = c.args.pair.now.active; off = c.args.pair.now.end; len = c.geometry-geometry.result.block_size - c.args.pair.now.end; failed = false; word = c.in_ok-is_blank.ensures.asks.yes (ap Ok is) });
     }
     go false is = record {
       same = c.in_ok-is_blank.ensures.same;
       geometry = c.in_ok-is_blank.ensures.geometry;
-      asked = inl (c.in_ok-is_blank.ensures.no (ap Ok is));
+      asked = inl (c.in_ok-is_blank.ensures.asks.no (ap Ok is));
     }

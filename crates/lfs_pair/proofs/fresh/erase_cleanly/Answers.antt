@@ -29,7 +29,7 @@ returns-in_err-read-clause-writes g c = record {
 
 pub returns-in_err-prog-clause-writes : goal.returns-in_err-prog-clause-writes
 returns-in_err-prog-clause-writes g c = record {
-  device = block_trans (block_by_erase c.erase.ensures.others c.erase.ensures.geometry c.erase.ensures.history) (block_trans (block_by_reads (reads_one c.read.ensures.same c.read.ensures.geometry c.read.ensures.history)) (block_by_program c.prog.ensures.others c.prog.ensures.geometry c.prog.ensures.history));
+  device = block_trans (block_by_erase c.erase.ensures.others c.erase.ensures.geometry c.erase.ensures.history) (block_trans (block_by_reads (reads_one c.read.ensures.same c.read.ensures.geometry c.read.ensures.history)) (block_by_program c.prog.ensures.programs.others c.prog.ensures.geometry c.prog.ensures.history));
   few = let a = ap read_count c.erase.ensures.history in let b = ap read_count c.read.ensures.history in let d = ap read_count c.prog.ensures.history in omega (arith, a, b, d);
   errors = search rules;
   faults = search rules;
@@ -37,7 +37,7 @@ returns-in_err-prog-clause-writes g c = record {
 
 pub returns-in_ok-prog-clause-writes : goal.returns-in_ok-prog-clause-writes
 returns-in_ok-prog-clause-writes g c = record {
-  device = block_trans (block_by_erase c.erase.ensures.others c.erase.ensures.geometry c.erase.ensures.history) (block_trans (block_by_reads (reads_one c.read.ensures.same c.read.ensures.geometry c.read.ensures.history)) (block_by_program c.prog.ensures.others c.prog.ensures.geometry c.prog.ensures.history));
+  device = block_trans (block_by_erase c.erase.ensures.others c.erase.ensures.geometry c.erase.ensures.history) (block_trans (block_by_reads (reads_one c.read.ensures.same c.read.ensures.geometry c.read.ensures.history)) (block_by_program c.prog.ensures.programs.others c.prog.ensures.geometry c.prog.ensures.history));
   few = let a = ap read_count c.erase.ensures.history in let b = ap read_count c.read.ensures.history in let d = ap read_count c.prog.ensures.history in omega (arith, a, b, d);
   errors = search rules;
   faults = search rules;
@@ -56,7 +56,7 @@ returns-in_ok-prog-clause-cleared g c =
     let shape = g.met.D.BlockDevice.shape c.read.new.self in
     let same = ap (λ (k : Geometry). k.block_count) (c.read.ensures.geometry ∙ c.erase.ensures.geometry) in
     let power = c.geometry-page.result.valid.power in
-    no_commit-programmed _ _ _ _ _ c.in_ok-prog.ensures.ok (omega (arith, shape.count, same, c.requires.in_device)) (take-replicate c.geometry-page.result.page 512 0 (page_at_most _ power)) (page_at_least _ power)
+    no_commit-programmed _ _ _ _ _ c.in_ok-prog.ensures.programs.ok (omega (arith, shape.count, same, c.requires.in_device)) (take-replicate c.geometry-page.result.page 512 0 (page_at_most _ power)) (page_at_least _ power)
 
 -- where each erase leaves no log, none is read behind it
 pub returns-in_ok-prog-clause-clears : goal.returns-in_ok-prog-clause-clears

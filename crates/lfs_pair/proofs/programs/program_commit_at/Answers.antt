@@ -17,10 +17,18 @@ use Rattle.lfs_pair.proofs.programs.program_commit_at.Goals as goal
 pub returns-in_err-next-clause-stops : goal.returns-in_err-next-clause-stops
 returns-in_err-next-clause-stops g c = HoldsAtLosses-read_count LeftByLoss-read c.read_four_bytes.ensures.device.reads (SameExcept-refl _ _, inl refl)
 
-pub prog-requires-clause-unprogrammed : goal.prog-requires-clause-unprogrammed
-prog-requires-clause-unprogrammed g c =
-    AreUnprogrammed-part (g.D.BlockDevice.history c.read_four_bytes.new.dev) c.args.block
-    (AreUnprogrammed-read_count c.args.block c.read_four_bytes.ensures.device.reads c.requires.unprogrammed) (omega arith) (omega (arith, c.requires.ends, c.in_ok-pages.ensures.size))
+pub prog-requires : goal.prog-requires
+prog-requires g c = record {
+  can = record {
+    in_device = search rules;
+    in_block = search rules;
+    begins = search rules;
+    ends = search rules;
+    unprogrammed =
+        AreUnprogrammed-part (g.D.BlockDevice.history c.read_four_bytes.new.dev) c.args.block
+        (AreUnprogrammed-read_count c.args.block c.read_four_bytes.ensures.device.reads c.requires.unprogrammed) (omega arith) (omega (arith, c.requires.ends, c.in_ok-pages.ensures.size));
+  };
+}
 
 -- the program
 
@@ -45,7 +53,7 @@ returns-clause-adds g c =
     let size = shape.sizes c.args.block c.requires.in_device in
     let old = g.D.BlockDevice.blocks c.args.dev.now in
     let is : block_bytes (g.D.BlockDevice.blocks c.prog.new.self) c.args.block ≡ overwritten_at (block_bytes old c.args.block) c.args.at c.in_ok-pages.pages.now =
-    ap (λ d. block_bytes d c.args.block) c.in_ok-prog.ensures.ok
+    ap (λ d. block_bytes d c.args.block) c.in_ok-prog.ensures.programs.ok
     ∙ ap (λ d. block_bytes (programmed d c.args.block c.args.at c.in_ok-pages.pages.now) c.args.block) c.read_four_bytes.ensures.device.same
     ∙ block_bytes-programmed old c.args.block c.args.at c.in_ok-pages.pages.now (omega (arith, shape.count, c.requires.in_device)) in
     record {
@@ -79,7 +87,7 @@ returns-in_err-next-clause-writes g c = record { device = block_by_reads c.in_er
 
 pub returns-in_err-prog-clause-writes : goal.returns-in_err-prog-clause-writes
 returns-in_err-prog-clause-writes g c = record {
-  device = block_trans (block_by_reads c.in_ok-next.ensures.device) (block_by_program c.in_err-prog.ensures.others c.in_err-prog.ensures.geometry c.in_err-prog.ensures.history);
+  device = block_trans (block_by_reads c.in_ok-next.ensures.device) (block_by_program c.in_err-prog.ensures.programs.others c.in_err-prog.ensures.geometry c.in_err-prog.ensures.history);
   few = let here = ap read_count c.prog.ensures.history in let before = c.read_four_bytes.ensures.few in omega (arith, here, before);
   errors = search rules;
   faults = search rules;
@@ -87,7 +95,7 @@ returns-in_err-prog-clause-writes g c = record {
 
 pub returns-clause-writes : goal.returns-clause-writes
 returns-clause-writes g c = record {
-  device = block_trans (block_by_reads c.in_ok-next.ensures.device) (block_by_program c.in_ok-prog.ensures.others c.in_ok-prog.ensures.geometry c.in_ok-prog.ensures.history);
+  device = block_trans (block_by_reads c.in_ok-next.ensures.device) (block_by_program c.in_ok-prog.ensures.programs.others c.in_ok-prog.ensures.geometry c.in_ok-prog.ensures.history);
   few = let here = ap read_count c.prog.ensures.history in let before = c.read_four_bytes.ensures.few in omega (arith, here, before);
   errors = search rules;
   faults = search rules;

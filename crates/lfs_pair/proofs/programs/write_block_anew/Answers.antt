@@ -11,16 +11,21 @@ use Rattle.lfs_pair.proofs.programs.write_block_anew.Goals as goal
 pub returns-in_err-erase-clause-stops : goal.returns-in_err-erase-clause-stops
 returns-in_err-erase-clause-stops g c clean = leaves_erase c.erase.ensures.history
 
-pub program_commit_at-requires-clause-room : goal.program_commit_at-requires-clause-room
-program_commit_at-requires-clause-room g c =
-    anew_room (is_anew (content_view c.args.content.now) c.push_content.ensures c.new-builder.ensures c.requires.buf (ap (λ (k : Geometry). k.page) c.geometry-page.ensures) c.from_bits-before.ensures)
-    (g.D.BlockDevice.geometry c.args.dev.now).valid c.requires.fits
-
-pub program_commit_at-requires-clause-ends : goal.program_commit_at-requires-clause-ends
-program_commit_at-requires-clause-ends g c =
-    subst (λ (k : Geometry). 0 + padded_end_of c.push_content.new.builder ≤ k.block_size) (sym c.erase.ensures.geometry)
-    (anew_within (is_anew (content_view c.args.content.now) c.push_content.ensures c.new-builder.ensures c.requires.buf (ap (λ (k : Geometry). k.page) c.geometry-page.ensures) c.from_bits-before.ensures)
-    (g.D.BlockDevice.geometry c.args.dev.now).valid c.requires.fits)
+pub program_commit_at-requires : goal.program_commit_at-requires
+program_commit_at-requires g c = record {
+  in_device = search rules;
+  begins = search rules;
+  page = search rules;
+  room =
+      anew_room (is_anew (content_view c.args.content.now) c.push_content.ensures c.new-builder.ensures c.requires.buf (ap (λ (k : Geometry). k.page) c.geometry-page.ensures) c.from_bits-before.ensures)
+      (g.D.BlockDevice.geometry c.args.dev.now).valid c.requires.fits;
+  ends =
+      subst (λ (k : Geometry). 0 + padded_end_of c.push_content.new.builder ≤ k.block_size) (sym c.erase.ensures.geometry)
+      (anew_within (is_anew (content_view c.args.content.now) c.push_content.ensures c.new-builder.ensures c.requires.buf (ap (λ (k : Geometry). k.page) c.geometry-page.ensures) c.from_bits-before.ensures)
+      (g.D.BlockDevice.geometry c.args.dev.now).valid c.requires.fits);
+  goes = search rules;
+  unprogrammed = search rules;
+}
 
 pub returns-in_err-written-clause-stops : goal.returns-in_err-written-clause-stops
 returns-in_err-written-clause-stops g c =

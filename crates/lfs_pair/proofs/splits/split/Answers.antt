@@ -1,4 +1,4 @@
-use Rattle.std.proofs.Common.{arith, ◌∙◌}
+use Rattle.std.proofs.Common.{rules, arith, ◌∙◌}
 use Rattle.std.proofs.lemmas.Result.{err_from_is_err_and}
 use Rattle.lfs_pair.proofs.Erring.{fails_on, reports_ok, reports_on}
 use Rattle.std.proofs.Common.{ap₂, sym, subst}
@@ -20,11 +20,14 @@ read_block-requires g c = active_below _ _ c.args.pair.now c.requires.commit.hel
 pub returns-in_err-block-clause-stops : goal.returns-in_err-block-clause-stops
 returns-in_err-block-clause-stops g c cleanly = HoldsAtLosses-read_count LeftByLoss-read c.in_err-block.ensures.device.reads (left_before _ _ _ _)
 
-pub split_bytes-requires-clause-can : goal.split_bytes-requires-clause-can
-split_bytes-requires-clause-can g c =
-    let read = c.in_ok-block.ensures.device in
-    subst (λ disk. CanSplitPair disk (g.D.BlockDevice.history c.read_block.new.device) c.args.pair.now (array_address c.args.fresh) (changes_view c.args.changes.now)) (sym (ap₂ disk_of_blocks read.geometry read.same))
-    (CanSplitPair-reads read.reads c.requires)
+pub split_bytes-requires : goal.split_bytes-requires
+split_bytes-requires g c = record {
+  can =
+      let read = c.in_ok-block.ensures.device in
+      subst (λ disk. CanSplitPair disk (g.D.BlockDevice.history c.read_block.new.device) c.args.pair.now (array_address c.args.fresh) (changes_view c.args.changes.now)) (sym (ap₂ disk_of_blocks read.geometry read.same))
+      (CanSplitPair-reads read.reads c.requires);
+  block = search rules;
+}
 
 pub returns-in_err-fresh_pair-clause-stops : goal.returns-in_err-fresh_pair-clause-stops
 returns-in_err-fresh_pair-clause-stops g c cleanly =
@@ -46,13 +49,13 @@ returns-clause-splits g c =
     splits_behind (ap₂ disk_of_blocks read.geometry read.same) read.reads c.in_ok-fresh_pair.ensures.device.only.at_worst c.in_ok-fresh_pair.ensures.splits
 
 pub returns-in_err-block-clause-device : goal.returns-in_err-block-clause-device
-returns-in_err-block-clause-device g c = reading_by_read c.in_err-block.ensures.device (few_at_error c.in_err-block.ensures.errors c.in_err-block.ensures.io c.in_err-block.ensures.no_memory) (omega arith)
+returns-in_err-block-clause-device g c = reading_by_read c.in_err-block.ensures.device (few_at_error c.in_err-block.ensures.errors c.in_err-block.ensures.once.io c.in_err-block.ensures.once.no_memory) (omega arith)
 
 pub returns-in_err-fresh_pair-clause-device : goal.returns-in_err-fresh_pair-clause-device
-returns-in_err-fresh_pair-clause-device g c = reading_trans (reading_by_read {n = 1} c.in_ok-block.ensures.device (few_by_read c.in_ok-block.ensures.ok) (omega arith)) c.in_err-fresh_pair.ensures.device
+returns-in_err-fresh_pair-clause-device g c = reading_trans (reading_by_read {n = 1} c.in_ok-block.ensures.device (few_by_read c.in_ok-block.ensures.once.ok) (omega arith)) c.in_err-fresh_pair.ensures.device
 
 pub returns-clause-device : goal.returns-clause-device
-returns-clause-device g c = reading_trans (reading_by_read {n = 1} c.in_ok-block.ensures.device (few_by_read c.in_ok-block.ensures.ok) (omega arith)) c.in_ok-fresh_pair.ensures.device
+returns-clause-device g c = reading_trans (reading_by_read {n = 1} c.in_ok-block.ensures.device (few_by_read c.in_ok-block.ensures.once.ok) (omega arith)) c.in_ok-fresh_pair.ensures.device
 
 pub returns-in_err-fresh_pair-clause-error : goal.returns-in_err-fresh_pair-clause-error
 returns-in_err-fresh_pair-clause-error g c =

@@ -1,4 +1,4 @@
-use Rattle.std.proofs.Common.{arith, ◌+◌, ◌%◌, ◌^◌, Some, ap, sym, ◌∙◌, subst}
+use Rattle.std.proofs.Common.{rules, arith, ◌+◌, ◌%◌, ◌^◌, Some, ap, sym, ◌∙◌, subst}
 use Rattle.lfs_model.specs.format.Blocks.{block_bytes}
 use Rattle.lfs_model.specs.format.Content.{RawContent, has_commit}
 use Rattle.lfs_pair.specs.Writing.{HasOneCommit}
@@ -15,35 +15,36 @@ use Rattle.lfs_pair.proofs.Calls.{only_trans, only_wider}
 use Rattle.lfs_pair.proofs.Parted.{among_first, among_second, clears_more, cut_inside, is_splitting, first_while_fresh, pair_elsewhere, fresh_elsewhere, left_while_fresh, left_while_old}
 use Rattle.lfs_pair.proofs.splits.split_bytes.Goals as goal
 
-pub write_fresh_pair-requires-clause-logged : goal.write_fresh_pair-requires-clause-logged
-write_fresh_pair-requires-clause-logged g c =
+pub write_fresh_pair-requires : goal.write_fresh_pair-requires
+write_fresh_pair-requires g c =
     let ready = is_splitting _ c.geometry-geometry.result _ _ c.args.pair.now (array_address c.args.fresh) c.args.block.now (changes_view c.args.changes.now) (content_view c.in_ok-front.front) (content_view c.split_off_back.new.content) (content_view c.in_ok-back.back) c.geometry-geometry.ensures (g.met.D.BlockDevice.shape c.args.dev.now).count c.requires.can c.requires.block c.in_ok-front.ensures.content c.in_ok-front.ensures.logged c.in_ok-back.ensures.parts in
-    ready.back_ready.logged
-
-pub write_fresh_pair-requires-clause-names : goal.write_fresh_pair-requires-clause-names
-write_fresh_pair-requires-clause-names g c =
-    let ready = is_splitting _ c.geometry-geometry.result _ _ c.args.pair.now (array_address c.args.fresh) c.args.block.now (changes_view c.args.changes.now) (content_view c.in_ok-front.front) (content_view c.split_off_back.new.content) (content_view c.in_ok-back.back) c.geometry-geometry.ensures (g.met.D.BlockDevice.shape c.args.dev.now).count c.requires.can c.requires.block c.in_ok-front.ensures.content c.in_ok-front.ensures.logged c.in_ok-back.ensures.parts in
-    ready.back_ready.names
-
-pub compact-requires-clause-logged : goal.compact-requires-clause-logged
-compact-requires-clause-logged g c =
-    let ready = is_splitting _ c.geometry-geometry.result _ _ c.args.pair.now (array_address c.args.fresh) c.args.block.now (changes_view c.args.changes.now) (content_view c.in_ok-front.front) (content_view c.split_off_back.new.content) (content_view c.in_ok-back.back) c.geometry-geometry.ensures (g.met.D.BlockDevice.shape c.args.dev.now).count c.requires.can c.requires.block c.in_ok-front.ensures.content c.in_ok-front.ensures.logged c.in_ok-back.ensures.parts in
-    ready.front_ready.logged
-
-pub compact-requires-clause-names : goal.compact-requires-clause-names
-compact-requires-clause-names g c =
-    let ready = is_splitting _ c.geometry-geometry.result _ _ c.args.pair.now (array_address c.args.fresh) c.args.block.now (changes_view c.args.changes.now) (content_view c.in_ok-front.front) (content_view c.split_off_back.new.content) (content_view c.in_ok-back.back) c.geometry-geometry.ensures (g.met.D.BlockDevice.shape c.args.dev.now).count c.requires.can c.requires.block c.in_ok-front.ensures.content c.in_ok-front.ensures.logged c.in_ok-back.ensures.parts in
-    ready.front_ready.names
+    record {
+      address = search rules;
+      buf = search rules;
+      logged = ready.back_ready.logged;
+      names = ready.back_ready.names;
+      fits = search rules;
+    }
 
 pub returns-in_err-fresh_pair-clause-stops : goal.returns-in_err-fresh_pair-clause-stops
 returns-in_err-fresh_pair-clause-stops g c cleanly =
     HoldsAtLosses-weaker (λ disk left. left_while_fresh _ _ _ (changes_view c.args.changes.now) disk c.requires.can.apart left) (HoldsAtLosses-worst c.in_err-fresh_pair.ensures.writes.device.at_worst)
 
-pub compact-requires-clause-active : goal.compact-requires-clause-active
-compact-requires-clause-active g c =
+pub compact-requires : goal.compact-requires
+compact-requires g c =
+    let ready = is_splitting _ c.geometry-geometry.result _ _ c.args.pair.now (array_address c.args.fresh) c.args.block.now (changes_view c.args.changes.now) (content_view c.in_ok-front.front) (content_view c.split_off_back.new.content) (content_view c.in_ok-back.back) c.geometry-geometry.ensures (g.met.D.BlockDevice.shape c.args.dev.now).count c.requires.can c.requires.block c.in_ok-front.ensures.content c.in_ok-front.ensures.logged c.in_ok-back.ensures.parts in
     let fresh = c.in_ok-fresh_pair.ensures in
-    subst (λ k. HeaderSaysActive (disk_of_blocks k (g.D.BlockDevice.blocks c.write_fresh_pair.new.dev)) c.args.pair.now) (sym fresh.writes.device.geometry)
-    (HeaderSaysActive-stays (pair_elsewhere c.requires.can.apart) fresh.writes.device.others (is_active _ _ c.args.pair.now _ c.requires.can.commit.is_pair))
+    let at = c.requires.can.commit.address in
+    record {
+      address = record { apart = at.apart; first = rw fresh.writes.device.others.count at.first; second = rw fresh.writes.device.others.count at.second };
+      active =
+          subst (λ k. HeaderSaysActive (disk_of_blocks k (g.D.BlockDevice.blocks c.write_fresh_pair.new.dev)) c.args.pair.now) (sym fresh.writes.device.geometry)
+          (HeaderSaysActive-stays (pair_elsewhere c.requires.can.apart) fresh.writes.device.others (is_active _ _ c.args.pair.now _ c.requires.can.commit.is_pair));
+      buf = search rules;
+      logged = ready.front_ready.logged;
+      names = ready.front_ready.names;
+      fits = search rules;
+    }
 
 pub returns-in_err-compact-clause-stops : goal.returns-in_err-compact-clause-stops
 returns-in_err-compact-clause-stops g c cleanly =

@@ -20,10 +20,10 @@ pub invariant_of-self-clause-due_failed : goal.invariant_of-self-clause-due_fail
 invariant_of-self-clause-due_failed g c = have_due_failed-call g.D.BlockDevice c.args.self.now.fault c.args.self.now.inner c.erase_as_planned-outcome.new.device (carried g c) (newest g c) c.args.self.now.due_failed
 
 pub invariant_of-self-clause-below : goal.invariant_of-self-clause-below
-invariant_of-self-clause-below g c = below-call (g.D.BlockDevice.history c.args.self.now.inner) (g.D.BlockDevice.history c.erase_as_planned-outcome.new.device) (newest g c) c.args.self.now.below (c.erase_as_planned-outcome.ensures.keeps)
+invariant_of-self-clause-below g c = below-call (g.D.BlockDevice.history c.args.self.now.inner) (g.D.BlockDevice.history c.erase_as_planned-outcome.new.device) (newest g c) c.args.self.now.below (c.erase_as_planned-outcome.ensures.block.keeps)
 
 pub invariant_of-self-clause-conforms : goal.invariant_of-self-clause-conforms
-invariant_of-self-clause-conforms g c = conforms_next (newest g c) (conforms_erase _ _ _ _ c.erase_as_planned-outcome.ensures.others) c.args.self.now.conforms
+invariant_of-self-clause-conforms g c = conforms_next (newest g c) (conforms_erase _ _ _ _ c.erase_as_planned-outcome.ensures.block.others) c.args.self.now.conforms
 
 pub invariant_of-self-clause-premises : goal.invariant_of-self-clause-premises
 invariant_of-self-clause-premises g c = λ tears reliable.
@@ -34,4 +34,4 @@ invariant_of-self-clause-premises g c = λ tears reliable.
 pub invariant_of-self-clause-undue_faults : goal.invariant_of-self-clause-undue_faults
 invariant_of-self-clause-undue_faults g c =
     unplanned_faults-call g.D.BlockDevice c.args.self.now.fault c.args.self.now.inner c.erase_as_planned-outcome.new.device (carried g c) (newest g c)
-    c.erase_as_planned-outcome.ensures.faults c.args.self.now.undue_faults
+    c.erase_as_planned-outcome.ensures.block.faults c.args.self.now.undue_faults

@@ -10,21 +10,21 @@ use Rattle.lfs_device.proofs.ram.RamDeviceBlockDevice.prog.Goals as goal
 pub invariant_of-self-clause-size : goal.invariant_of-self-clause-size
 invariant_of-self-clause-size c =
     let d = c.args.self.now in
-    let room = size_fits d.geometry.block_size d.geometry.block_count c.args.block (length d.bytes.items) c.requires.in_device d.size in
+    let room = size_fits d.geometry.block_size d.geometry.block_count c.args.block (length d.bytes.items) c.requires.can.in_device d.size in
     ap length c.overwrite_device_bytes.ensures ∙ length-overwritten d.bytes.items c.byte_index-start.result c.args.bytes.now (omega (arith, room)) ∙ d.size
 
 pub returns-clause-bytes : goal.returns-clause-bytes
 returns-clause-bytes c =
     let d = c.args.self.now in
     ap (cut d.geometry.block_size d.geometry.block_count) (c.overwrite_device_bytes.ensures ∙ ap (λ at. overwritten_at d.bytes.items at c.args.bytes.now) c.byte_index-start.ensures)
-    ∙ cut-overwritten_at d.geometry.block_size d.geometry.block_count d.bytes.items c.args.block c.args.off c.args.bytes.now d.size c.requires.in_device c.requires.in_block
+    ∙ cut-overwritten_at d.geometry.block_size d.geometry.block_count d.bytes.items c.args.block c.args.off c.args.bytes.now d.size c.requires.can.in_device c.requires.can.in_block
 
 pub returns-clause-others : goal.returns-clause-others
 returns-clause-others c =
     let d = c.args.self.now in
     let disk : Blocks = cut d.geometry.block_size d.geometry.block_count d.bytes.items in
     let shape = HasBlockSizes-cut d.geometry.block_size d.geometry.block_count d.bytes.items d.size in
-    rw (returns-clause-bytes c) (SameExcept-programmed disk c.args.block c.args.off c.args.bytes.now (omega (arith, shape.count)) (omega (arith, shape.sizes c.args.block c.requires.in_device)))
+    rw (returns-clause-bytes c) (SameExcept-programmed disk c.args.block c.args.off c.args.bytes.now (omega (arith, shape.count)) (omega (arith, shape.sizes c.args.block c.requires.can.in_device)))
 
 pub returns-clause-history : goal.returns-clause-history
 returns-clause-history c = rw (returns-clause-bytes c) c.with_ghost_history-trace.ensures
@@ -34,14 +34,14 @@ invariant_of-self-clause-newest c =
     let d = c.args.self.now in
     newest_call _ _ _ _ _ _ _ c.with_ghost_history-trace.ensures
     (ap (cut d.geometry.block_size d.geometry.block_count) (c.overwrite_device_bytes.ensures ∙ ap (λ at. overwritten_at d.bytes.items at c.args.bytes.now) c.byte_index-start.ensures)
-    ∙ cut-overwritten_at d.geometry.block_size d.geometry.block_count d.bytes.items c.args.block c.args.off c.args.bytes.now d.size c.requires.in_device c.requires.in_block)
+    ∙ cut-overwritten_at d.geometry.block_size d.geometry.block_count d.bytes.items c.args.block c.args.off c.args.bytes.now d.size c.requires.can.in_device c.requires.can.in_block)
 
 pub invariant_of-self-clause-conforms : goal.invariant_of-self-clause-conforms
 invariant_of-self-clause-conforms c =
     let d = c.args.self.now in
     let disk : Blocks = cut d.geometry.block_size d.geometry.block_count d.bytes.items in
     let shape = HasBlockSizes-cut d.geometry.block_size d.geometry.block_count d.bytes.items d.size in
-    let same = SameExcept-programmed disk c.args.block c.args.off c.args.bytes.now (omega (arith, shape.count)) (omega (arith, shape.sizes c.args.block c.requires.in_device)) in
+    let same = SameExcept-programmed disk c.args.block c.args.off c.args.bytes.now (omega (arith, shape.count)) (omega (arith, shape.sizes c.args.block c.requires.can.in_device)) in
     conforms_next c.with_ghost_history-trace.ensures (conforms_program _ _ _ _ _ _ (λ ok. refl) same) d.conforms
 
 pub invariant_of-self-clause-premises : goal.invariant_of-self-clause-premises

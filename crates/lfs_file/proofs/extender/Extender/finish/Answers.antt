@@ -1,5 +1,5 @@
 use Rattle.std.specs.Prelude.{All}
-use Rattle.std.proofs.Common.{ap, true, false, ◌≢◌, ℕ, ◌≡◌, ◌≤◌, ◌+◌, ◌++◌, ◌∙◌, List, [], ◌∷◌, length, take, sym, subst, arith}
+use Rattle.std.proofs.Common.{rules, ap, true, false, ◌≢◌, ℕ, ◌≡◌, ◌≤◌, ◌+◌, ◌++◌, ◌∙◌, List, [], ◌∷◌, length, take, sym, subst, arith}
 use Rattle.lfs_model.specs.session.History.{CallEvent}
 use Rattle.lfs_device.specs.declared.geometry.Geometry.{Geometry}
 use Rattle.lfs_model.specs.format.Blocks.{Blocks, HasBlockSizes, SameExcept}
@@ -79,20 +79,36 @@ returns-in-Held-clause-finished g c = absurd (never_held c.args.self.stand c.req
 none_written : (v : GrowingList) (old : List CallEvent) → unwritten_block v ≡ [] → WritesOnce 0 (length (unwritten_block v)) old old
 none_written v old none = record { erased = omega (arith, ap length none); programmed = omega (arith, ap length none) }
 
-pub returns-in-Closed-clause-writes : goal.returns-in-Closed-clause-writes
-returns-in-Closed-clause-writes g c = none_written c.args.self _ (ap unwritten_after_full (stood c.deref-state.result.now c.args.self Closed (ap growing_view c.deref-state.ensures ∙ c.self.view_is) c.in-Closed.is))
+pub returns-in-Closed-clause-calls : goal.returns-in-Closed-clause-calls
+returns-in-Closed-clause-calls g c = record {
+  no_call = search rules;
+  writes = none_written c.args.self _ (ap unwritten_after_full (stood c.deref-state.result.now c.args.self Closed (ap growing_view c.deref-state.ensures ∙ c.self.view_is) c.in-Closed.is));
+  few = search rules;
+}
 
-pub returns-in-Shared-clause-writes : goal.returns-in-Shared-clause-writes
-returns-in-Shared-clause-writes g c = none_written c.args.self _ (ap unwritten_after_full (stood c.deref-state.result.now c.args.self (Shared c.in-Shared.block) (ap growing_view c.deref-state.ensures ∙ c.self.view_is) c.in-Shared.is))
+pub returns-in-Shared-clause-calls : goal.returns-in-Shared-clause-calls
+returns-in-Shared-clause-calls g c = record {
+  no_call = search rules;
+  writes = none_written c.args.self _ (ap unwritten_after_full (stood c.deref-state.result.now c.args.self (Shared c.in-Shared.block) (ap growing_view c.deref-state.ensures ∙ c.self.view_is) c.in-Shared.is));
+  few = search rules;
+}
 
-pub returns-in-Held-clause-writes : goal.returns-in-Held-clause-writes
-returns-in-Held-clause-writes g c = none_written c.args.self _ (ap unwritten_after_full (stood c.deref-state.result.now c.args.self Held (ap growing_view c.deref-state.ensures ∙ c.self.view_is) c.in-Held.is))
+pub returns-in-Held-clause-calls : goal.returns-in-Held-clause-calls
+returns-in-Held-clause-calls g c = record {
+  no_call = search rules;
+  writes = none_written c.args.self _ (ap unwritten_after_full (stood c.deref-state.result.now c.args.self Held (ap growing_view c.deref-state.ensures ∙ c.self.view_is) c.in-Held.is));
+  few = search rules;
+}
 
-pub returns-clause-writes : goal.returns-clause-writes
-returns-clause-writes g c =
-    let one = c.in_ok-write_last_block-in-Handed.ensures.writes in
-    let count = ap (λ t. length (unwritten_after_full t)) (stood c.deref-state.result.now c.args.self (Handed c.in-Handed.block) (ap growing_view c.deref-state.ensures ∙ c.self.view_is) c.in-Handed.is) in
-    record { erased = omega (arith, one.erased, count); programmed = omega (arith, one.programmed, count) }
+pub returns-clause-calls : goal.returns-clause-calls
+returns-clause-calls g c = record {
+  no_call = search rules;
+  writes =
+      let one = c.in_ok-write_last_block-in-Handed.ensures.writes in
+      let count = ap (λ t. length (unwritten_after_full t)) (stood c.deref-state.result.now c.args.self (Handed c.in-Handed.block) (ap growing_view c.deref-state.ensures ∙ c.self.view_is) c.in-Handed.is) in
+      record { erased = omega (arith, one.erased, count); programmed = omega (arith, one.programmed, count) };
+  few = search rules;
+}
 
 pub returns-in-Closed-clause-device : goal.returns-in-Closed-clause-device
 returns-in-Closed-clause-device g c = changes_none g.D.BlockDevice _ c.args.dev.now
@@ -119,4 +135,4 @@ pub returns-clause-finished : goal.returns-clause-finished
 returns-clause-finished g c =
     let wrote = c.in_ok-write_last_block-in-Handed.ensures in
     in_handed (g.D.BlockDevice.blocks c.args.dev.now) c.args.self c.deref-state.result.now.size (counted c.deref-state.result.now c.args.self (lent c.deref-state.ensures c.self.invariant) (ap growing_view c.deref-state.ensures ∙ c.self.view_is)) _ c.requires.stands.geometry (g.met.D.BlockDevice.shape c.args.dev.now) c.requires.stands.growing c.requires.some _
-    c.in-Handed.block (stood c.deref-state.result.now c.args.self (Handed c.in-Handed.block) (ap growing_view c.deref-state.ensures ∙ c.self.view_is) c.in-Handed.is) wrote.appended.chain wrote.appended.back wrote.device.others wrote.bytes
+    c.in-Handed.block (stood c.deref-state.result.now c.args.self (Handed c.in-Handed.block) (ap growing_view c.deref-state.ensures ∙ c.self.view_is) c.in-Handed.is) wrote.block.appended.chain wrote.block.appended.back wrote.device.others wrote.block.held

@@ -1,4 +1,4 @@
-use Rattle.std.proofs.Common.{⊎_elim, ℕ, ◌≡◌, ◌≢◌, ◌≤◌, ◌<◌, ◌+◌, ◌-◌, ◌++◌, List, [], ◌∷◌, length, take, drop, refl, sym, ap, subst, ◌∙◌, arith, append_assoc, length-append, length-drop}
+use Rattle.std.proofs.Common.{rules, ⊎_elim, ℕ, ◌≡◌, ◌≢◌, ◌≤◌, ◌<◌, ◌+◌, ◌-◌, ◌++◌, List, [], ◌∷◌, length, take, drop, refl, sym, ap, subst, ◌∙◌, arith, append_assoc, length-append, length-drop}
 use Rattle.std.specs.Prelude.{All}
 use Rattle.std.proofs.Math.Seq.{take-add}
 use Rattle.std.proofs.lemmas.Bool.{cases_lt}
@@ -55,18 +55,24 @@ block_and_used-block-requires g c =
     let inv = c.loop-done.invariant in
     still _ _ c.args.self.now c.loop-done.self c.args.blocks.now c.loop-done.used c.loop-done.done _ inv.same inv.some inv.kept c.requires.count inv.sum c.loop-done-test.true
 
-pub fill_current_block-requires-clause-follows : goal.fill_current_block-requires-clause-follows
-fill_current_block-requires-clause-follows g c =
-    let inv = c.loop-done.invariant in
-    let some = still _ _ c.args.self.now c.loop-done.self c.args.blocks.now c.loop-done.used c.loop-done.done _ inv.same inv.some inv.kept c.requires.count inv.sum c.loop-done-test.true in
-    record {
-      chain = inv.growing.chain;
-      in_device = subst (λ b. b < (g.D.BlockDevice.geometry c.loop-done.dev).block_count) (sym (ap (λ r. r.0) c.block_and_used-block.ensures))
-          (next_inside (g.D.BlockDevice.blocks c.loop-done.dev) c.loop-done.self.full c.loop-done.self.head c.loop-done.self.rest c.loop-done.self.stand c.args.blocks.now c.loop-done.used _ (g.met.D.BlockDevice.shape c.loop-done.dev).count inv.growing.stand some
-          (subst (λ (k : Geometry). All (λ b. b < k.block_count) c.args.blocks.now) (sym inv.device.geometry) c.requires.in_device));
-      apart = subst (λ b. All (λ x. x ≢ b) (blocks_to_head (g.D.BlockDevice.blocks c.loop-done.dev) c.loop-done.self.full c.loop-done.self.head)) (sym (ap (λ r. r.0) c.block_and_used-block.ensures))
-          (next_apart (g.D.BlockDevice.blocks c.loop-done.dev) c.loop-done.self.full c.loop-done.self.head _ c.loop-done.self.stand _ c.args.blocks.now c.loop-done.used inv.growing.stand some inv.kept c.requires.distinct c.requires.apart);
-    }
+pub fill_current_block-requires : goal.fill_current_block-requires
+fill_current_block-requires g c = record {
+  follows =
+      let inv = c.loop-done.invariant in
+      let some = still _ _ c.args.self.now c.loop-done.self c.args.blocks.now c.loop-done.used c.loop-done.done _ inv.same inv.some inv.kept c.requires.count inv.sum c.loop-done-test.true in
+      record {
+        chain = inv.growing.chain;
+        in_device = subst (λ b. b < (g.D.BlockDevice.geometry c.loop-done.dev).block_count) (sym (ap (λ r. r.0) c.block_and_used-block.ensures))
+            (next_inside (g.D.BlockDevice.blocks c.loop-done.dev) c.loop-done.self.full c.loop-done.self.head c.loop-done.self.rest c.loop-done.self.stand c.args.blocks.now c.loop-done.used _ (g.met.D.BlockDevice.shape c.loop-done.dev).count inv.growing.stand some
+            (subst (λ (k : Geometry). All (λ b. b < k.block_count) c.args.blocks.now) (sym inv.device.geometry) c.requires.in_device));
+        apart = subst (λ b. All (λ x. x ≢ b) (blocks_to_head (g.D.BlockDevice.blocks c.loop-done.dev) c.loop-done.self.full c.loop-done.self.head)) (sym (ap (λ r. r.0) c.block_and_used-block.ensures))
+            (next_apart (g.D.BlockDevice.blocks c.loop-done.dev) c.loop-done.self.full c.loop-done.self.head _ c.loop-done.self.stand _ c.args.blocks.now c.loop-done.used inv.growing.stand some inv.kept c.requires.distinct c.requires.apart);
+      };
+  known = search rules;
+  geometry = search rules;
+  some = search rules;
+  room = search rules;
+}
 
 -- the block is one of those handed in
 among : (was : GrowingList) (t : RestLocation) (blocks : List ℕ) (used block : ℕ) (next : ℕ × ℕ) → next ≡ block_for_next t blocks used → block ≡ next.0 → (unwritten_after_full t ≡ [] → used < length blocks)
@@ -121,10 +127,10 @@ loop-done-preserved g c =
     let some = still _ _ c.args.self.now c.loop-done.self c.args.blocks.now c.loop-done.used c.loop-done.done _ inv.same inv.some inv.kept c.requires.count inv.sum c.loop-done-test.true in
     let next = c.block_and_used-block.ensures in
     let here = among c.args.self.now c.loop-done.self.stand c.args.blocks.now c.loop-done.used _ _ next refl some inv.pending in
-    let now = c.in_ok-done.ensures.filled in
-    let written = c.in_ok-done.ensures.writes in
-    let read = c.in_ok-done.ensures.few in
-    let more = bytes_more _ _ c.args.bytes.now c.loop-done.done c.in_ok-done.field-0 inv.low c.in_ok-done.ensures.count.1 inv.bytes in
+    let now = c.in_ok-done.ensures.filled.grown in
+    let written = c.in_ok-done.ensures.calls.writes in
+    let read = c.in_ok-done.ensures.calls.few in
+    let more = bytes_more _ _ c.args.bytes.now c.loop-done.done c.in_ok-done.field-0 inv.low c.in_ok-done.ensures.filled.count.1 inv.bytes in
     record {
       low = more.0;
       some = subst (λ r. r.1 ≤ length c.args.blocks.now) (sym next) (next_some c.loop-done.self.stand c.args.blocks.now c.loop-done.used some inv.some);

@@ -210,10 +210,10 @@ returns-then-off-block_size-clause-resumed g c =
     IfOk-weaker c.of_state.result _ resumed (λ list is. subst resumed (sym is) (subst (λ f. resumed (growing_view (state f))) (sym c.new.ensures.made) all)) c.of_state.ensures.list
 
 pub returns-in_err-read_into_range-clause-device : goal.returns-in_err-read_into_range-clause-device
-returns-in_err-read_into_range-clause-device g c = read_on g.D.BlockDevice c.find_block_at.ensures.reading.device c.read_into_range.ensures.device
+returns-in_err-read_into_range-clause-device g c = read_on g.D.BlockDevice c.find_block_at.ensures.reading.device c.read_into_range.ensures.reading.device
 
 pub returns-clause-device : goal.returns-clause-device
-returns-clause-device g c = read_on g.D.BlockDevice c.find_block_at.ensures.reading.device c.read_into_range.ensures.device
+returns-clause-device g c = read_on g.D.BlockDevice c.find_block_at.ensures.reading.device c.read_into_range.ensures.reading.device
 
 -- the bytes of the block that are kept
 rest_is : (g : _) (c : goal.After-of_state-2 g) → take (c.place-index.result.1 + 1 - 4 * pointer_count c.place-index.result.0) (drop (4 * pointer_count c.place-index.result.0) (with_items c.in_ok-buffer.buffer c.read_into_range.new.buf).items)

@@ -108,3 +108,15 @@ returns-clause-few g c =
           omega arith;
       near = λ i known low high. (let so_far = inv.near i known low high in omega (arith, so_far.0, so_far.1, inv.low));
     }
+
+pub returns-clause-found : goal.returns-clause-found
+returns-clause-found g c =
+    let inv = c.loop-at.invariant in
+    let old : Blocks = g.D.BlockDevice.blocks c.args.dev.now in
+    let there : c.loop-at.at ≡ c.args.index = (let low = inv.low in omega arith) in
+    let found : AreListBlocks old (c.args.last + 1) c.args.head → AreKnownBlocks (blocks_to_head old (c.args.last + 1) c.args.head) c.args.self.now → c.loop-at.block ≡ slice_index (blocks_to_head old (c.args.last + 1) c.args.head) c.args.index =
+    λ chain known. inv.found chain known ∙ ap (slice_index (blocks_to_head old (c.args.last + 1) c.args.head)) there in
+    record {
+      found = found;
+      known = λ chain known. c.note-2.ensures.blocks (blocks_to_head old (c.args.last + 1) c.args.head) (inv.known chain known) (found chain known);
+    }

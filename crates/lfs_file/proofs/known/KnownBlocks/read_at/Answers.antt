@@ -48,7 +48,7 @@ returns-in_err-block-clause-known g c ok known =
     let large = c.geometry-block_size.result.valid.no_smaller in
     let list = sized _ c.args.head c.args.size _ _ c.geometry-block_size.ensures ok in
     let count = count_by _ _ c.args.size _ c.geometry-block_size.ensures list.size_low c.blocks_for.ensures in
-    known_by _ c.args.head _ _ c.find_block.new.self count (c.find_block.ensures.known (chain _ _ _ _ _ large c.blocks_for.ensures list) (known_by _ c.args.head _ _ c.args.self.now (sym count) known))
+    known_by _ c.args.head _ _ c.find_block.new.self count (c.find_block.ensures.found.known (chain _ _ _ _ _ large c.blocks_for.ensures list) (known_by _ c.args.head _ _ c.args.self.now (sym count) known))
 
 nothing_yet : (bytes buf : List ℕ) (pos n len : ℕ) → n ≡ len → drop n buf ≡ slice_range bytes (pos + n) (pos + len) ++ drop len buf
 nothing_yet bytes buf pos n len is =
@@ -67,11 +67,11 @@ blocks-2-init g c =
       high = omega (arith, c.min-len.ensures);
       in_range = c.in_ok-block.ensures.in_range;
       found = λ ok known i off is.
-          c.in_ok-block.ensures.found (chain old size c.args.head c.args.size c.blocks_for.result large c.blocks_for.ensures ok) (known_by old c.args.head _ _ c.args.self.now (sym count) known)
+          c.in_ok-block.ensures.found.found (chain old size c.args.head c.args.size c.blocks_for.result large c.blocks_for.ensures ok) (known_by old c.args.head _ _ c.args.self.now (sym count) known)
           ∙ ap (λ n. slice_index (blocks_to_head old n c.args.head) c.place-index.result.0) count
           ∙ ap (slice_index (blocks_to_head old (block_count_for size c.args.size) c.args.head)) (place_unique size _ _ _ _ _ c.place-index.ensures is);
       known = λ ok known. known_by old c.args.head _ _ c.find_block.new.self count
-          (c.find_block.ensures.known (chain old size c.args.head c.args.size c.blocks_for.result large c.blocks_for.ensures ok) (known_by old c.args.head _ _ c.args.self.now (sym count) known));
+          (c.find_block.ensures.found.known (chain old size c.args.head c.args.size c.blocks_for.result large c.blocks_for.ensures ok) (known_by old c.args.head _ _ c.args.self.now (sym count) known));
       bytes = λ ok known. nothing_yet (list_bytes old size c.args.head c.args.size) c.args.buf.now c.args.pos c.min-len.result _ c.min-len.ensures;
       rest = refl;
       device = c.find_block.ensures.reading.device;
@@ -87,7 +87,7 @@ returns-in_err-read_into_range-clause-reading g c =
     let inv = c.blocks-2.invariant in
     let read = c.in_err-read_into_range.ensures in
     let p = err_from_is_err_and c.from_residual-in_err-read_into_range.result c.from_residual-in_err-read_into_range.ensures.1 in
-    rw (p.1, p.2) (list_io g.D.BlockDevice (read_on g.D.BlockDevice inv.device c.read_into_range.ensures.device) (reported_on g.D.BlockDevice inv.quiet read.faults) read.errors)
+    rw (p.1, p.2) (list_io g.D.BlockDevice (read_on g.D.BlockDevice inv.device c.read_into_range.ensures.reading.device) (reported_on g.D.BlockDevice inv.quiet read.reading.reports.faults) read.reading.reports.errors)
 
 -- what is read at an iteration
 is_part : (block_size pos left n i off k : ℕ) → IsBytePlace block_size (pos + left - 1) i off → k ≡ pointer_count i → n ≡ min left (off + 1 - 4 * k) → IsPart block_size pos left n i off
@@ -151,7 +151,7 @@ returns-then-left-eq0-clause-count g c =
 pub returns-then-left-eq0-clause-reading : goal.returns-then-left-eq0-clause-reading
 returns-then-left-eq0-clause-reading g c =
     let inv = c.blocks-2.invariant in
-    list_ok g.D.BlockDevice (read_on g.D.BlockDevice inv.device c.read_into_range.ensures.device) (quiet g.D.BlockDevice c.in_ok-read_into_range.ensures.faults ∙ inv.quiet)
+    list_ok g.D.BlockDevice (read_on g.D.BlockDevice inv.device c.read_into_range.ensures.reading.device) (quiet g.D.BlockDevice c.in_ok-read_into_range.ensures.reading.reports.faults ∙ inv.quiet)
 
 -- a place by the geometry of the device
 placed_by : (geometry made : Geometry) (pos i off : ℕ) → made ≡ geometry → IsBytePlace geometry.block_size pos i off → IsBytePlace made.block_size pos i off
@@ -197,9 +197,9 @@ returns-in_err-block-2-clause-corrupt g c =
     let next = turn_index turn more before.0 before.1.0 before.1.1 in
     let low = place-lt size c.args.size _ _ _ c.geometry-block_size.result.valid.no_smaller c.place-index-in-blocks-2.ensures (let h = inv.high in omega arith) in
     let all : List ℕ = blocks_to_head old (block_count_for size c.args.size) c.args.head in
-    before_in old _ _ _ c.args.head c.args.size _ before.0 c.geometry-block_size.ensures (c.read_into_range.ensures.device.geometry ∙ inv.device.geometry) (g.met.D.BlockDevice.shape c.args.dev.now).count ok next low
+    before_in old _ _ _ c.args.head c.args.size _ before.0 c.geometry-block_size.ensures (c.read_into_range.ensures.reading.device.geometry ∙ inv.device.geometry) (g.met.D.BlockDevice.shape c.args.dev.now).count ok next low
     (c.in_err-block-2.ensures.corrupt all is (inv.known ok known) (omega (arith, low, length_back old (block_count_for size c.args.size) c.args.head))
-    (ap (λ b. word_at (block_bytes b c.blocks-2.block) 0) (c.read_into_range.ensures.device.same ∙ inv.device.same)
+    (ap (λ b. word_at (block_bytes b c.blocks-2.block) 0) (c.read_into_range.ensures.reading.device.same ∙ inv.device.same)
     ∙ turn_before turn c.args.head ok (inv.found ok known _ _ c.place-index-in-blocks-2.ensures) more before.0 before.1.0 before.1.1 ∙ ap (slice_index all) (let k : before.0 ≡ c.place-index-in-blocks-2.result.0 - 1 = omega (arith, next) in k))))
 
 pub returns-in_err-block-2-clause-known : goal.returns-in_err-block-2-clause-known
@@ -212,7 +212,7 @@ pub returns-in_err-block-2-clause-reading : goal.returns-in_err-block-2-clause-r
 returns-in_err-block-2-clause-reading g c =
     let inv = c.blocks-2.invariant in
     let p = err_from_is_err_and c.from_residual-in_err-block-2.result c.from_residual-in_err-block-2.ensures.1 in
-    rw (p.1, p.2) (list_on g.D.BlockDevice (read_on g.D.BlockDevice inv.device c.read_into_range.ensures.device) (quiet g.D.BlockDevice c.in_ok-read_into_range.ensures.faults ∙ inv.quiet)
+    rw (p.1, p.2) (list_on g.D.BlockDevice (read_on g.D.BlockDevice inv.device c.read_into_range.ensures.reading.device) (quiet g.D.BlockDevice c.in_ok-read_into_range.ensures.reading.reports.faults ∙ inv.quiet)
     (list_as g.D.BlockDevice c.in_err-block-2.ensures.reading))
 
 pub blocks-2-preserved : goal.blocks-2-preserved
@@ -225,7 +225,7 @@ blocks-2-preserved g c =
     let large = c.geometry-block_size.result.valid.no_smaller in
     let old : Blocks = g.D.BlockDevice.blocks c.args.dev.now in
     let some : 1 ≤ c.blocks-2.left - c.min-part.result = omega arith in
-    let device = read_on g.D.BlockDevice inv.device c.read_into_range.ensures.device in
+    let device = read_on g.D.BlockDevice inv.device c.read_into_range.ensures.reading.device in
     record {
       some = some;
       high = (let h = inv.high in omega arith);
@@ -242,7 +242,7 @@ blocks-2-preserved g c =
       bytes = λ ok known. turn_bytes turn c.args.head _ ok (inv.found ok known _ _ now) (inv.bytes ok known);
       rest = turn_rest turn ∙ inv.rest;
       device = read_on g.D.BlockDevice device c.block_before.ensures.reading.device;
-      quiet = quiet g.D.BlockDevice c.in_ok-block-2.ensures.reading.faults ∙ quiet g.D.BlockDevice c.in_ok-read_into_range.ensures.faults ∙ inv.quiet;
+      quiet = quiet g.D.BlockDevice c.in_ok-block-2.ensures.reading.faults ∙ quiet g.D.BlockDevice c.in_ok-read_into_range.ensures.reading.reports.faults ∙ inv.quiet;
       few = λ j last off end is there.
           let next = turn_index turn some j off is in
           let order = place-mono _ _ _ _ _ _ _ now there (let h = inv.high in omega arith) in

@@ -1,0 +1,68 @@
+-- What the calls on one block, or on the blocks of a list, give.
+use Rattle.std.specs.Prelude.{◌≡◌, ◌≤◌, ◌<◌, ◌+◌, ◌-◌, ◌*◌, ◌^◌, ◌++◌, ◌∷◌, [], ℕ, List, Result, Err, IfOk, IsErrOf, OnOk, drop, length, slice_index, take}
+use Rattle.lfs_device.specs.declared.error.Error.{Error}
+use Rattle.lfs_device.specs.declared.error.Error.TheVariants.{Corrupt}
+use Rattle.lfs_model.specs.format.Blocks.{Blocks, block_bytes}
+use Rattle.lfs_model.specs.format.SkipLists.{AreListBlocks, IsSkipList, block_count_for, blocks_to_head, pointer_count, word_at}
+use Rattle.lfs_model.specs.session.History.{CallEvent, read_count}
+use Rattle.lfs_file.specs.declared.block.FullBlocks.{FullBlocks}
+use Rattle.lfs_file.specs.declared.known.KnownBlocks.{KnownBlocks}
+use Rattle.lfs_file.specs.Appended.{IsBlockAppended}
+use Rattle.lfs_file.specs.Counts.{WritesOnce}
+use Rattle.lfs_file.specs.Extended.{ListHasBytes}
+use Rattle.lfs_file.specs.FewReads.{FillsFew, WritesLastFew}
+use Rattle.lfs_file.specs.Front.{ReadsUnknownPointers}
+use Rattle.lfs_file.specs.Growing.{GrowingList, growing_bytes, growing_size, unwritten_block}
+use Rattle.lfs_file.specs.Known.{AreKnownBlocks, IsKnownIndex}
+use Rattle.lfs_file.specs.Right.{LaterPointersName}
+
+-- the buffer begins with the pointers of the next block at Ok, and stays as it is behind them
+pub record PutsPointers (disk : Blocks) (front : FullBlocks) (old new : List ℕ) (result : Result Unit Error) : Type 0 where
+  pub pointers : OnOk result ((k : ℕ) → k < pointer_count front.count → word_at new (4 * k) ≡ slice_index (blocks_to_head disk front.count front.head) (front.count - 2 ^ k))
+  pub rest : drop (4 * pointer_count front.count) new ≡ drop (4 * pointer_count front.count) old
+
+-- a list has this block more, which has these bytes behind its pointers
+pub record IsAppendedWith (old new : Blocks) (count head b size : ℕ) (bytes : List ℕ) : Type 0 where
+  pub appended : IsBlockAppended old new count head b
+  pub held : take size (drop (4 * pointer_count count) (block_bytes new b)) ≡ bytes
+
+-- one erase and one program, and a read of each pointer that wasn't known
+pub record WritesOneBlock (front later : FullBlocks) (before after : List CallEvent) : Type 0 where
+  pub writes : WritesOnce 0 1 before after
+  pub few : ReadsUnknownPointers front later before after
+
+-- a list has the first `n` of these bytes more, and this block
+pub record HasFilledBlock (old new : Blocks) (list later : GrowingList) (b n : ℕ) (bytes : List ℕ) : Type 0 where
+  pub count : (1 ≤ n) × (n ≤ length bytes)
+  pub grown : ListHasBytes list.geometry new later (growing_bytes old list ++ take n bytes) (growing_size list + n) (blocks_to_head old list.full list.head ++ b ∷ []) (blocks_to_head old list.full list.head ++ b ∷ [])
+
+-- the erases and programs of the blocks that became full, and few reads
+pub record FillsOneBlock (list later : GrowingList) (before after : List CallEvent) : Type 0 where
+  pub few : FillsFew list later before after
+  pub writes : WritesOnce list.full later.full before after
+
+-- the end of a list takes no call where nothing waits; else it writes the block that waits, with few reads
+pub record FinishCalls (list : GrowingList) (old new : Blocks) (before after : List CallEvent) (result : Result (ℕ × ℕ) Error) : Type 0 where
+  pub no_call : unwritten_block list ≡ [] → (after ≡ before) × (new ≡ old)
+  pub writes : OnOk result (WritesOnce 0 (length (unwritten_block list)) before after)
+  pub few : OnOk result (WritesLastFew list before after)
+
+-- in a list whose known blocks are right, the block at the index is found, and what is known then is right
+pub record FindsKnownBlock (disk : Blocks) (last head n : ℕ) (old new : KnownBlocks) (result : Result ℕ Error) : Type 0 where
+  pub found : AreListBlocks disk (last + 1) head → AreKnownBlocks (blocks_to_head disk (last + 1) head) old → IfOk result (λ b. b ≡ slice_index (blocks_to_head disk (last + 1) head) n)
+  pub known : AreListBlocks disk (last + 1) head → AreKnownBlocks (blocks_to_head disk (last + 1) head) old → AreKnownBlocks (blocks_to_head disk (last + 1) head) new
+
+-- one read at most, and none of a block that is known
+pub record ReadsUnlessKnown (old new : KnownBlocks) (n : ℕ) (before after : List CallEvent) : Type 0 where
+  pub few : read_count after ≤ read_count before + 1
+  pub known : IsKnownIndex old n → (new ≡ old) × (read_count after ≡ read_count before)
+
+-- the later pointers name the block at Ok, which is one of the device; at `Corrupt` it isn't, or they don't
+pub record ChecksBlock {X : Type 0} (count b last n : ℕ) (words : List ℕ) (result : Result X Error) : Type 0 where
+  pub right : OnOk result ((b < count) × LaterPointersName words b n last)
+  pub corrupt : IsErrOf result Corrupt → b < count → ¬ LaterPointersName words b n last
+
+-- a list, and fewer reads than it has blocks
+pub record IsListReadOnce (disk : Blocks) (block_size head size : ℕ) (before after : List CallEvent) : Type 0 where
+  pub list : IsSkipList disk block_size head size
+  pub few : read_count after < read_count before + block_count_for block_size size

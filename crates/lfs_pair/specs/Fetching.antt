@@ -1,0 +1,41 @@
+-- What a fetch of a pair's header takes, and how it fails.
+use Rattle.std.specs.Prelude.{◌≡◌, ◌≤◌, ◌⊎◌, ◌+◌, ℕ, List, Result, Err, None, IfErr, OnOk}
+use Rattle.lfs_device.specs.declared.device.BlockDevice.{Ghosts}
+use Rattle.lfs_device.specs.declared.error.Error.{Error}
+use Rattle.lfs_device.specs.declared.error.Error.TheVariants.{Corrupt, Io, NoMemory}
+use Rattle.lfs_device.specs.DeviceCalls.{ReportsFaults}
+use Rattle.lfs_device.specs.DeviceDisk.{disk_of_blocks}
+use Rattle.lfs_model.specs.format.Disk.{Disk}
+use Rattle.lfs_model.specs.format.Log.{chain_of, block_entries, block_revision}
+use Rattle.lfs_model.specs.format.Content.{content_after, empty_raw_content, raw_content}
+use Rattle.lfs_model.specs.session.History.{CallEvent, read_count}
+use Rattle.lfs_pair.specs.declared.block_logs.ActiveBlockCandidate.{ActiveBlockCandidate}
+use Rattle.lfs_pair.specs.declared.pair.Pair.{Pair}
+use Rattle.lfs_pair.specs.Pair.{fetch_reads}
+
+-- what was read of a block is the end, the last tag and the revision of its log
+pub record IsHeadOf (block : List ℕ) (head : ActiveBlockCandidate) : Type 0 where
+  pub end : head.end ≡ (chain_of block).end
+  pub last : head.last ≡ (chain_of block).last
+  pub revision : head.revision ≡ block_revision block
+
+-- no header is made: the block's log is malformed, or memory isn't granted
+pub record HeaderFails (block : List ℕ) (result : Result Pair Error) : Type 0 where
+  pub corrupt : result ≡ Err Corrupt → content_after empty_raw_content (block_entries block) ≡ None
+  pub errors : IfErr result (λ e. (e ≡ Corrupt) ⊎ (e ≡ NoMemory))
+
+-- two reads where each succeeds, and else at most two
+pub record ReadsTwice {X : Type 0} (before after : List CallEvent) (result : Result X Error) : Type 0 where
+  pub reads : read_count after ≤ read_count before + 2
+  pub both : OnOk result (read_count after ≡ read_count before + 2)
+
+-- A fetch fails: at `Corrupt` the address has no content, and `Io` comes with a fault of the device.
+pub record FetchFails {D : Type 0} (g : Ghosts D) (at : ℕ × ℕ) (old new : D) (result : Result Pair Error) : Type 0 where
+  pub corrupt : result ≡ Err Corrupt → raw_content (disk_of_blocks (g.geometry old) (g.blocks old)) at ≡ None
+  pub errors : IfErr result (λ e. (e ≡ Corrupt) ⊎ ((e ≡ NoMemory) ⊎ (e ≡ Io)))
+  pub faults : ReportsFaults g old new result
+
+-- the reads of a fetch are known at Ok, and at most four
+pub record FetchReads (disk : Disk) (at : ℕ × ℕ) (before after : List CallEvent) (result : Result Pair Error) : Type 0 where
+  pub reads : OnOk result (read_count after ≡ read_count before + fetch_reads disk at)
+  pub few : read_count after ≤ read_count before + 4

@@ -17,23 +17,23 @@ pub read_block-requires : goal.read_block-requires
 read_block-requires g c = active_below _ _ c.args.pair.now c.requires.held _ c.requires.address c.requires.is_pair (g.met.D.BlockDevice.shape c.args.dev.now).count
 
 pub returns-in_err-block-clause-device : goal.returns-in_err-block-clause-device
-returns-in_err-block-clause-device g c = reading_by_read c.in_err-block.ensures.device (few_at_error c.in_err-block.ensures.errors c.in_err-block.ensures.io c.in_err-block.ensures.no_memory) (omega arith)
+returns-in_err-block-clause-device g c = reading_by_read c.in_err-block.ensures.device (few_at_error c.in_err-block.ensures.errors c.in_err-block.ensures.once.io c.in_err-block.ensures.once.no_memory) (omega arith)
 
 pub returns-in_err-content-clause-device : goal.returns-in_err-content-clause-device
-returns-in_err-content-clause-device g c = reading_by_read c.in_ok-block.ensures.device (few_by_read c.in_ok-block.ensures.ok) (omega arith)
+returns-in_err-content-clause-device g c = reading_by_read c.in_ok-block.ensures.device (few_by_read c.in_ok-block.ensures.once.ok) (omega arith)
 
 pub returns-in_err-buf-clause-device : goal.returns-in_err-buf-clause-device
-returns-in_err-buf-clause-device g c = reading_by_read c.in_ok-block.ensures.device (few_by_read c.in_ok-block.ensures.ok) (omega arith)
+returns-in_err-buf-clause-device g c = reading_by_read c.in_ok-block.ensures.device (few_by_read c.in_ok-block.ensures.once.ok) (omega arith)
 
 pub returns-in_err-copy-clause-device : goal.returns-in_err-copy-clause-device
 returns-in_err-copy-clause-device g c =
     let writes = c.in_err-copy.ensures.writes in
-    reading_trans (reading_by_read {n = 1} c.in_ok-block.ensures.device (few_by_read c.in_ok-block.ensures.ok) (omega arith)) (record { only = writes.device; few = writes.few })
+    reading_trans (reading_by_read {n = 1} c.in_ok-block.ensures.device (few_by_read c.in_ok-block.ensures.once.ok) (omega arith)) (record { only = writes.device; few = writes.few })
 
 pub returns-clause-device : goal.returns-clause-device
 returns-clause-device g c =
     let writes = c.in_ok-copy.ensures.writes in
-    reading_trans (reading_by_read {n = 1} c.in_ok-block.ensures.device (few_by_read c.in_ok-block.ensures.ok) (omega arith)) (record { only = writes.device; few = writes.few })
+    reading_trans (reading_by_read {n = 1} c.in_ok-block.ensures.device (few_by_read c.in_ok-block.ensures.once.ok) (omega arith)) (record { only = writes.device; few = writes.few })
 
 pub returns-clause-faults : goal.returns-clause-faults
 returns-clause-faults g c = reports_ok (c.in_ok-copy.ensures.writes.faults.no_fault (λ gives. absurd (cc)) ∙ c.in_ok-block.ensures.faults.no_fault (λ gives. absurd (cc)))

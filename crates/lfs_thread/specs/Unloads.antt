@@ -1,4 +1,4 @@
--- What it does to a thread that a pair's slots go into a fresh pair after it.
+-- What an unload of a pair, whose slots go into a fresh one, does to a thread.
 use Rattle.std.specs.Prelude.{ℕ, ◌≡◌, ◌⊎◌, ◌<◌, ◌≤◌, ◌+◌, ◌%◌, ◌^◌, ◌++◌, true, List, [], ◌∷◌, length, replicate, take, Some, option_map}
 use Rattle.lfs_model.specs.format.Blocks.{Blocks}
 use Rattle.lfs_model.specs.format.Content.{content_at}
@@ -11,7 +11,7 @@ use Rattle.lfs_thread.specs.Kept.{KeptThread}
 use Rattle.lfs_thread.specs.Moves.{pair_revision}
 use Rattle.lfs_thread.specs.ThreadSteps.{FreshInFlight, HasOldPair, KeepsSuperblockFirst, map_using, pairs_with_split, thread_pair_at}
 
--- There is a pair at the index, with so many slots at least, and it fits a pair. The two blocks are in flight.
+-- There is a pair at the index with at least `keep` slots, and they fit a pair. The two blocks are in flight.
 pub record CanUnload (t : KeptThread) (index : ℕ) (fresh : ℕ × ℕ) (keep : ℕ) : Type 0 where
   pub below : index < length t.pairs
   pub slots : keep ≤ length (thread_pair_at t index).content.slots

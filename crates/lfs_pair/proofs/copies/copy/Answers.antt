@@ -2,12 +2,11 @@ use Rattle.std.proofs.Common.{arith, ◌∙◌, subst}
 use Rattle.lfs_device.specs.DeviceDisk.{disk_of_blocks}
 use Rattle.lfs_model.specs.format.Content.{RawContent}
 use Rattle.lfs_model.specs.layers.LoggedContent.{AreNamed}
-use Rattle.lfs_model.specs.layers.WrittenContent.{RawContentFits}
 use Rattle.lfs_tag.specs.ContentView.{content_view}
 use Rattle.lfs_pair.specs.ChangeView.{changes_view}
 use Rattle.lfs_pair.proofs.Behind.{clears_behind}
 use Rattle.lfs_pair.proofs.Calls.{few_at_error, few_by_read, reading_by_read, reading_trans}
-use Rattle.lfs_pair.proofs.Changed.{active_below, content_made_here, ends_here, made_here}
+use Rattle.lfs_pair.proofs.Changed.{active_below, content_made_here, made_here}
 use Rattle.lfs_pair.proofs.Erring.{reports_ok}
 use Rattle.lfs_pair.proofs.copies.copy.Goals as goal
 

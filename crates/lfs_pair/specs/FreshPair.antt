@@ -39,11 +39,11 @@ pub record ErasedOneMore (count : ℕ) (before history : List CallEvent) : Type 
   pub at_most : program_count history ≤ program_count before + (count + 1)
   pub programs : AllCallsSince EventErasesCleanly before history → program_count history ≡ program_count before + count
 
--- The first block has that content with revision 1, the second has no log, and the header says so.
-pub record HasFreshContent (c : RawContent) (disk : Disk) (at : ℕ × ℕ) (pair : Pair) : Type 0 where
+-- The first block has that content with that revision, the second has no log, and the header says so.
+pub record HasFreshContent (revision : ℕ) (c : RawContent) (disk : Disk) (at : ℕ × ℕ) (pair : Pair) : Type 0 where
   pub active : pair.active ≡ at.0
-  pub revision_is : pair.revision ≡ 1
-  pub anew : HasOneCommit 1 c (disk_block disk at.0)
+  pub revision_is : pair.revision ≡ revision
+  pub anew : HasOneCommit revision c (disk_block disk at.0)
   pub cleared : has_commit (disk_block disk at.1) ≡ false
 
 -- the pair's first block has what the changes make of an empty log
@@ -51,7 +51,7 @@ pub record IsFreshPair (before : List CallEvent) (changes : List PairChange) (di
   pub new : RawContent
   pub made : changed_content_of empty_raw_content changes ≡ Some new
   pub holds : PairHas disk history at pair new
-  pub fresh : HasFreshContent new disk at pair
+  pub fresh : HasFreshContent 1 new disk at pair
   pub clears : ErasedOneMore 1 before history
 
 -- an error; at `NoMemory` the device is untouched

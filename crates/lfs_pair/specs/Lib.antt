@@ -5,3 +5,4 @@ pub mod Commits
 pub mod HalfCut
 pub mod FreshPair
 pub mod Split
+pub mod Copies

@@ -1,5 +1,5 @@
 -- What a split does to a pair.
-use Rattle.std.specs.Prelude.{ℕ, ◌≡◌, ◌≢◌, ◌⊎◌, ◌+◌, ◌<◌, ◌%◌, ◌^◌, true, List, [], ◌∷◌, length, take, drop, Some}
+use Rattle.std.specs.Prelude.{ℕ, ◌≡◌, ◌≢◌, ◌⊎◌, ◌+◌, ◌<◌, ◌%◌, ◌^◌, true, List, length, take, drop, Some}
 use Rattle.lfs_model.specs.format.Blocks.{Blocks, SameExceptThese}
 use Rattle.lfs_model.specs.format.Disk.{Disk, disk_block}
 use Rattle.lfs_model.specs.session.History.{CallEvent, StayUnprogrammed}
@@ -66,7 +66,7 @@ pub record SplitsPair (old : Disk) (before : List CallEvent) (changes : List Pai
   pub moved : pair.active ≢ was.active
   pub kept : disk_block disk was.active ≡ disk_block old was.active
   pub front_anew : HasOneCommit ((was.revision + 1) % 2 ^ 32) (split_front new cut fresh) (disk_block disk pair.active)
-  pub back_fresh : HasFreshContent (split_back new cut) disk fresh fresh_pair
+  pub back_fresh : HasFreshContent 1 (split_back new cut) disk fresh fresh_pair
   pub clears : ErasedOneMore 2 before history
 
 -- each pair on the disk has its part

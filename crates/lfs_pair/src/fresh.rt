@@ -24,7 +24,7 @@ use lfs_tag::{Content, Log};
 use std::alloc::Global;
 
 // The revision of a pair's first log.
-const FIRST_REVISION: u32 = 1;
+pub(crate) const FIRST_REVISION: u32 = 1;
 
 // As many zeros as the longest page has bytes.
 const ZEROS: [u8; 512] = [0; 512];
@@ -48,10 +48,11 @@ fn erase_cleanly<D: BlockDevice>(dev: &mut D, block: u32, buf: &mut [u8]) -> Res
     Ok(())
 }
 
-// Makes a pair of two blocks. The first block is active and holds the content.
+// Makes a pair of two blocks. The first block is active and holds the content, with that revision.
 pub(crate) fn write_fresh_pair<D: BlockDevice>(
     dev: &mut D,
     blocks: [u32; 2],
+    revision: u32,
     content: &Content<'_>,
     buf: &mut [u8],
 ) -> Result<Pair, Error>
@@ -62,15 +63,15 @@ pub(crate) fn write_fresh_pair<D: BlockDevice>(
     requires fits { RawContentFits (D.geometry dev.old).block_size (D.geometry dev.old).page (content_view content.now) }
 
     ensures holds { IfOk result (λ pair. PairHas (disk_of_blocks (D.geometry dev.new) (D.blocks dev.new)) (D.history dev.new) (array_address blocks) pair (content_view content.now)) }
-    ensures fresh { IfOk result (λ pair. HasFreshContent (content_view content.now) (disk_of_blocks (D.geometry dev.new) (D.blocks dev.new)) (array_address blocks) pair) }
+    ensures fresh { IfOk result (λ pair. HasFreshContent revision (content_view content.now) (disk_of_blocks (D.geometry dev.new) (D.blocks dev.new)) (array_address blocks) pair) }
     ensures buf { length buf.new ≡ length buf.old }
     ensures clears { OnOk result (ErasedOneMore 1 (D.history dev.old) (D.history dev.new)) }
     ensures writes { WritesOnlyTheseBlocks D.BlockDevice 2 (address_blocks (array_address blocks)) dev.old dev.new result }
 {
     let [first, second] = blocks;
     erase_cleanly(dev, second, buf)?;
-    let written = write_block_anew(dev, first, FIRST_REVISION, content, buf)?;
-    Ok(Pair::written(blocks, first, FIRST_REVISION, written, content))
+    let written = write_block_anew(dev, first, revision, content, buf)?;
+    Ok(Pair::written(blocks, first, revision, written, content))
 }
 
 impl Pair {
@@ -104,7 +105,7 @@ impl Pair {
         let content = content_of_changes(alloc, changes)?;
         let block_size = dev.geometry().block_size as usize;
         let mut buf = Vec::from_elem(alloc, 0u8, block_size)?;
-        let pair = write_fresh_pair(dev, blocks, &content, &mut buf)?;
+        let pair = write_fresh_pair(dev, blocks, FIRST_REVISION, &content, &mut buf)?;
         Ok(pair)
     }
 }

@@ -6,6 +6,7 @@ mod block_logs;
 mod change;
 mod commits;
 mod contents;
+mod copies;
 mod cut;
 mod entries;
 mod fetches;
@@ -17,6 +18,7 @@ mod splits;
 
 pub use change::{Change, apply_all_changes};
 pub use commits::{Outcome, commit, commit_bytes};
+pub use copies::copy;
 pub use fetches::fetch;
 pub use pair::{Pair, is_same_pair};
 pub use size::{attributes_size, content_fits};

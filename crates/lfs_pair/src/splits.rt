@@ -20,7 +20,7 @@ use crate::change::Change;
 use crate::commits::compact;
 use crate::contents::changed_content;
 use crate::cut::middle_cut;
-use crate::fresh::write_fresh_pair;
+use crate::fresh::{FIRST_REVISION, write_fresh_pair};
 use crate::pair::Pair;
 use lfs_device::{BlockDevice, Error, Geometry, read_block};
 use lfs_tag::{Content, MoveState, Tail};
@@ -93,7 +93,7 @@ pub fn split_bytes<'a, 'b: 'a, D: BlockDevice>(
     let mut front = changed_content(alloc, pair, block, changes)?;
     let back = split_off_back(&mut front, fresh, geometry)?;
     let mut buf = Vec::from_elem(alloc, 0u8, geometry.block_size as usize)?;
-    let fresh_pair = write_fresh_pair(dev, fresh, &back, &mut buf)?;
+    let fresh_pair = write_fresh_pair(dev, fresh, FIRST_REVISION, &back, &mut buf)?;
     compact(dev, pair, &front, &mut buf)?;
     Ok(fresh_pair)
 }

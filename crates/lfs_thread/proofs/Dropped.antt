@@ -51,7 +51,7 @@ there_at hs index h n = record {
   place = let e = length-append n.front (h ∷ []) in let p = n.place in omega arith;
 }
 
-get_behind : {X : Type 0} (xs : List X) (y z : X) (ys : List X) (d : X) → get_or (xs ++ y ∷ z ∷ ys) (length xs + 1) d ≡ z
+pub get_behind : {X : Type 0} (xs : List X) (y z : X) (ys : List X) (d : X) → get_or (xs ++ y ∷ z ∷ ys) (length xs + 1) d ≡ z
 get_behind [] y z ys d = refl
 get_behind (x ∷ xs) y z ys d = let e : suc (length xs) + 1 ≡ suc (length xs + 1) = omega arith in ap (λ (n : ℕ). get_or (x ∷ (xs ++ y ∷ z ∷ ys)) n d) e ∙ get_behind xs y z ys d
 

@@ -14,6 +14,7 @@ use Rattle.lfs_model.proofs.Histories.{HoldsAtLosses-weaker}
 use Rattle.lfs_thread.specs.Beside.{LeavesUsedBlocksOfPairsUnchangedAndUsed}
 use Rattle.lfs_thread.specs.ThreadDevice.{LossLeavesCleanly}
 use Rattle.lfs_thread.specs.Kept.{KeptThread}
+use Rattle.lfs_thread.specs.Moves.{CanMoveNext, IsNextMoved, LossLeavesNextMoved, NextMovedOnDisk}
 use Rattle.lfs_thread.specs.ThreadSteps.{BothOnDisk, CanChangePair, CanDropNext, CanSplitAt, CanThreadIn, HasOldPair, SameGeometryAs, RefusesCommit, IsThreadedIn, ThreadedInOnDisk, IsNextDropped, IsPairCommitted, IsSplitInTwo, IsPairWritten, RefusesThreadingIn, LossLeavesPairChanged, LossLeavesPairSplit, LossLeavesThreadedIn, PartsFitPairs}
 
 -- the same thread, with its names in that order
@@ -34,6 +35,9 @@ module _ (order : NameOrder) where
 
   pub can_drop : (t : KeptThread) (index : ℕ) (changes : List PairChange) → CanDropNext (in_order order t) index changes → CanDropNext t index changes
   can_drop t index changes can = record { below = can.below; content = can.content; made = can.made; next = can.next }
+
+  pub can_move : (t : KeptThread) (index : ℕ) (fresh : ℕ × ℕ) → CanMoveNext (in_order order t) index fresh → CanMoveNext t index fresh
+  can_move t index fresh can = record { below = can.below; joined = can.joined; fits = can.fits; next_fits = can.next_fits; held = can.held }
 
   -- ---- what a step does
 
@@ -101,6 +105,9 @@ module _ (order : NameOrder) where
     map = is.map;
   }
 
+  pub moved_in : (old new : KeptThread) (index : ℕ) (fresh : ℕ × ℕ) → IsNextMoved old index fresh new → IsNextMoved (in_order order old) index fresh (in_order order new)
+  moved_in old new index fresh is = record { pairs = is.pairs; thread = is.thread; first = is.first; revision = is.revision; map = is.map }
+
   -- ---- what a loss of power leaves of a step
 
   pub left_changed_in : (old : KeptThread) (index : ℕ) (changes : List PairChange) (left : Blocks) → LossLeavesPairChanged old index changes left → LossLeavesPairChanged (in_order order old) index changes left
@@ -141,6 +148,17 @@ module _ (order : NameOrder) where
             behind = both.behind;
             first = both.first;
           } in
+          inr there
+    ];
+  }
+
+  pub left_moved_in : (old : KeptThread) (index : ℕ) (fresh : ℕ × ℕ) (left : Blocks) → LossLeavesNextMoved old index fresh left → LossLeavesNextMoved (in_order order old) index fresh left
+  left_moved_in old index fresh left is = record {
+    others = is.others;
+    content = elim is.content [
+      | inl has ↦ inl (old_in old index (record old.disk { blocks = left }) has)
+      | inr both ↦
+          let there : NextMovedOnDisk (in_order order old) index fresh (record (ordered_disk order old.disk) { blocks = left }) = record { leads = both.leads; moved = both.moved; first = both.first } in
           inr there
     ];
   }

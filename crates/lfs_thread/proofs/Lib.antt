@@ -8,6 +8,7 @@ pub mod Begun
 pub mod Dropped
 pub mod Joined
 pub mod Threaded
+pub mod Moving
 pub mod Reported
 pub mod CachedPair
 pub mod GlobalState

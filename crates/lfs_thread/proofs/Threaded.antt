@@ -20,7 +20,8 @@ use Rattle.lfs_model.specs.layers.Changes.{PairChange}
 use Rattle.lfs_model.specs.format.Content.{RawContent, current_block, raw_content, content_at, complete_content}
 use Rattle.lfs_model.specs.format.Thread.{Pair, blocks_of_pairs}
 use Rattle.lfs_pair.specs.Pair.{header_address}
-use Rattle.lfs_pair.specs.Commits.{CanCommit, CommitsChanges, HasContentMade, HasOldContent, LossLeavesChanged, changed_pair, KeepsOutsidePair, OutsideStaysUnprogrammed}
+use Rattle.lfs_model.specs.layers.LoggedContent.{IsWellFormed}
+use Rattle.lfs_pair.specs.Commits.{CanCommit, CommitsChanges, HasContentMade, HasOldContent, KeepsFirstEntry, LossLeavesChanged, changed_pair, KeepsOutsidePair, OutsideStaysUnprogrammed}
 use Rattle.lfs_pair.specs.FreshPair.{IsFreshPair}
 use Rattle.lfs_pair.specs.Split.{AreApart, KeepsOutsideBoth}
 use Rattle.lfs_model.proofs.FirstEntries.{superblock_anew}
@@ -98,16 +99,41 @@ module _ (disk : Disk) (history : List CallEvent) (hs : List PairHeader) (sets :
 
   -- ---- a stop before the commit
 
-  pub left_beside : (left : Blocks) → KeepsOutsidePair fresh disk.blocks left → LossLeavesThreadedIn old index fresh changes left
-  left_beside left keeps = record {
-    others = keeps_by_fresh (thread_pair_at old index).at fresh keeps;
-    content = inl (record {
-      holds = ap (λ (p : Pair). content_at (record disk { blocks = left }) p.at) was_pair
-          ∙ ap (λ r. option_and_then complete_content r) (raw_content-stays disk (pair_elsewhere apart) keeps) ∙ was_content;
-      first = subst (λ (p : Pair). BeginsWith (current_block disk p.at) superblock_entry → BeginsWith (current_block (record disk { blocks = left }) p.at) superblock_entry) (sym was_pair)
-          (first_stays disk (pair_elsewhere apart) keeps superblock_entry);
-    });
+  pub old_beside : (left : Blocks) → KeepsOutsidePair fresh disk.blocks left → HasOldPair old index (record disk { blocks = left })
+  old_beside left keeps = record {
+    holds = ap (λ (p : Pair). content_at (record disk { blocks = left }) p.at) was_pair
+        ∙ ap (λ r. option_and_then complete_content r) (raw_content-stays disk (pair_elsewhere apart) keeps) ∙ was_content;
+    first = subst (λ (p : Pair). BeginsWith (current_block disk p.at) superblock_entry → BeginsWith (current_block (record disk { blocks = left }) p.at) superblock_entry) (sym was_pair)
+        (first_stays disk (pair_elsewhere apart) keeps superblock_entry);
   }
+
+  pub left_beside : (left : Blocks) → KeepsOutsidePair fresh disk.blocks left → LossLeavesThreadedIn old index fresh changes left
+  left_beside left keeps = record { others = keeps_by_fresh (thread_pair_at old index).at fresh keeps; content = inl (old_beside left keeps) }
+
+  -- ---- a stop in the commit, and its end
+
+  pub old_still : (left : Blocks) → HasOldContent beside (header_address h) (record disk { blocks = left }) → HasOldPair old index (record disk { blocks = left })
+  old_still left k = record {
+    holds = ap (λ (p : Pair). content_at (record disk { blocks = left }) p.at) was_pair ∙ ap (λ o. option_and_then complete_content o) (k.content ∙ same_raw) ∙ was_content;
+    first = subst (λ (p : Pair). BeginsWith (current_block disk p.at) superblock_entry → BeginsWith (current_block (record disk { blocks = left }) p.at) superblock_entry) (sym was_pair)
+        (λ begins. k.first superblock_entry (first_stays disk (pair_elsewhere apart) others superblock_entry begins));
+  }
+
+  pub made_beside : Completes (changed_pair beside (header_address h) changes) can.content
+  made_beside = made_of_header beside then hs sets index h changes can.content a still_made
+
+  -- the content that the changes make is complete
+  pub whole_made : (new : RawContent) → changed_pair beside (header_address h) changes ≡ Some new → complete_content new ≡ Some can.content
+  whole_made new made = ap complete_content (same_Some new made_beside.raw (sym made ∙ made_beside.is)) ∙ made_beside.complete
+
+  pub content_made_there : (left : Blocks) (new : RawContent) → changed_pair beside (header_address h) changes ≡ Some new → raw_content (record disk { blocks = left }) (header_address h) ≡ Some new
+      → content_at (record disk { blocks = left }) (thread_pair_at old index).at ≡ Some can.content
+  content_made_there left new made is = ap (λ (p : Pair). content_at (record disk { blocks = left }) p.at) was_pair ∙ ap (λ o. option_and_then complete_content o) is ∙ whole_made new made
+
+  pub first_made : (left : Blocks) (new : RawContent) → changed_pair beside (header_address h) changes ≡ Some new → IsWellFormed new → KeepsFirstEntry beside (header_address h) (Some new) (record disk { blocks = left })
+      → KeepsSuperblockFirst disk (thread_pair_at old index).at can.content (record disk { blocks = left })
+  first_made left new made logged first = subst (λ (p : Pair). KeepsSuperblockFirst disk p.at can.content (record disk { blocks = left })) (sym was_pair)
+      (still_first (record disk { blocks = left }) can.content (λ begins has. first superblock_entry begins (superblock_anew new can.content logged.slots (whole_made new made) has.0 has.1)))
 
   -- ---- with the fresh pair
 
@@ -122,9 +148,6 @@ module _ (disk : Disk) (history : List CallEvent) (hs : List PairHeader) (sets :
       content = sides l.content;
     }
       where
-        made_here : Completes (changed_pair beside (header_address h) changes) can.content
-        made_here = made_of_header beside then hs sets index h changes can.content a still_made
-
         behind : content_at (record disk { blocks = left }) fresh ≡ Some (fresh_with_tail old index fresh).content
         behind = ap (content_at (record disk { blocks = left })) (sym is.at)
             ∙ ap (λ r. option_and_then complete_content r) (raw_content-stays beside (subst (λ x. AreElsewhere x ((header_address h).0 ∷ (header_address h).1 ∷ [])) (sym is.at) (fresh_elsewhere apart)) l.others)
@@ -133,22 +156,15 @@ module _ (disk : Disk) (history : List CallEvent) (hs : List PairHeader) (sets :
 
         sides : HasOldContent beside (header_address h) (record disk { blocks = left }) ⊎ HasContentMade beside (header_address h) changes (record disk { blocks = left })
             → HasOldPair old index (record disk { blocks = left }) ⊎ ThreadedInOnDisk old index fresh changes (record disk { blocks = left })
-        sides (inl k) = inl (record {
-          holds = ap (λ (p : Pair). content_at (record disk { blocks = left }) p.at) was_pair ∙ ap (λ o. option_and_then complete_content o) (k.content ∙ same_raw) ∙ was_content;
-          first = subst (λ (p : Pair). BeginsWith (current_block disk p.at) superblock_entry → BeginsWith (current_block (record disk { blocks = left }) p.at) superblock_entry) (sym was_pair)
-              (λ begins. k.first superblock_entry (first_stays disk (pair_elsewhere apart) others superblock_entry begins));
+        sides (inl k) = inl (old_still left k)
+        sides (inr k) = inr (record {
+          content = can.content;
+          made = can.made;
+          fits = fits_pair disk.block_size disk.page k.new can.content k.logged (whole_made k.new k.made) k.fits;
+          holds = content_made_there left k.new k.made k.now.content;
+          behind = behind;
+          first = first_made left k.new k.made k.logged k.now.first;
         })
-        sides (inr k) =
-            let whole : complete_content k.new ≡ Some can.content = ap complete_content (same_Some k.new made_here.raw (sym k.made ∙ made_here.is)) ∙ made_here.complete in
-            inr (record {
-              content = can.content;
-              made = can.made;
-              fits = fits_pair disk.block_size disk.page k.new can.content k.logged whole k.fits;
-              holds = ap (λ (p : Pair). content_at (record disk { blocks = left }) p.at) was_pair ∙ ap (λ o. option_and_then complete_content o) k.now.content ∙ whole;
-              behind = behind;
-              first = subst (λ (p : Pair). KeepsSuperblockFirst disk p.at can.content (record disk { blocks = left })) (sym was_pair)
-                  (still_first (record disk { blocks = left }) can.content (λ begins has. k.now.first superblock_entry begins (superblock_anew k.new can.content k.logged.slots whole has.0 has.1)));
-            })
 
     -- after the commit
     module _ (blocks : Blocks) (after : List CallEvent) (new : PairHeader) (commits : CommitsChanges beside then changes h (record disk { blocks = blocks }) after new)
@@ -162,10 +178,6 @@ module _ (disk : Disk) (history : List CallEvent) (hs : List PairHeader) (sets :
       pub is_kept : IsKeptOnDisk left after (insert (set hs index new) (index + 1) f) (map_using sets fresh)
       is_kept = joined_kept beside then blocks after hs sets (map_using sets fresh) index h new f fresh changes can.content a still_kept still_made can.next commits keeps stays is.header is.at empty uses
 
-      is_whole : complete_content commits.new ≡ Some can.content
-      is_whole = let m = made_of_header beside then hs sets index h changes can.content a still_made in
-          ap complete_content (same_Some commits.new m.raw (sym commits.made ∙ m.is)) ∙ m.complete
-
       same_at : thread_pair_at (kept_view beside then hs sets) index ≡ thread_pair_at old index
       same_at = ap (λ ps. get_or ps index empty_anchor) still_pairs
 
@@ -173,9 +185,8 @@ module _ (disk : Disk) (history : List CallEvent) (hs : List PairHeader) (sets :
       is_joined = record {
         content = can.content;
         made = can.made;
-        fits = fits_pair disk.block_size disk.page commits.new can.content commits.logged is_whole commits.fits;
-        first = subst (λ (p : Pair). KeepsSuperblockFirst disk p.at can.content left) (sym was_pair)
-            (still_first left can.content (λ begins has. commits.first superblock_entry begins (superblock_anew commits.new can.content commits.logged.slots is_whole has.0 has.1)));
+        fits = fits_pair disk.block_size disk.page commits.new can.content commits.logged (whole_made commits.new commits.made) commits.fits;
+        first = first_made blocks commits.new commits.made commits.logged commits.first;
         pairs = joined_pairs beside then blocks after hs sets (map_using sets fresh) index h new f fresh changes can.content a still_kept still_made can.next commits keeps stays is.header is.at empty uses
             ∙ ap₂ (λ (ps : List Pair) (p : Pair). pairs_with_split ps index (record { at = p.at; content = can.content }) (record { at = fresh; content = record { slots = []; tail = p.content.tail; move = zero_gstate } })) still_pairs same_at;
         thread = kept_thread left after (insert (set hs index new) (index + 1) f) (map_using sets fresh) is_kept;

@@ -7,3 +7,4 @@ pub mod HeaderReading
 pub mod MountErrors
 pub mod Beside
 pub mod PairPlaces
+pub mod Moves

@@ -10,6 +10,7 @@ mod headers;
 mod joins;
 mod list_reads;
 mod mount_error;
+mod moves;
 mod pair_numbers;
 mod parts;
 mod places;

@@ -17,6 +17,7 @@ ghost use Rattle.lfs_thread.specs.Beside.{CanCallClosureOnDeviceAndMap, HasRunWo
 ghost use Rattle.lfs_thread.specs.ThreadDevice.{GivesDeviceBackOnlyReadWithError, LossLeavesCleanly};
 ghost use Rattle.lfs_thread.specs.Kept.{IsCacheCurrent, IsKept, WasKeptOnDevice, disk_of_device, kept_in_order};
 ghost use Rattle.lfs_thread.specs.CachedLog.{IsContentLog, cached_log, loaded_cache, reads_unless_cached};
+ghost use Rattle.lfs_thread.specs.Moves.{CanMoveNext, IsNextMoved, LossLeavesNextMoved, pair_revision};
 ghost use Rattle.lfs_thread.specs.MountErrors.{IsViolationTrue, error_of_mount};
 ghost use Rattle.lfs_thread.specs.HeaderReading.{IsThreadReadFromDevice};
 ghost use Rattle.lfs_thread.specs.ThreadSteps.{CanSplitAt, CanChangePair, CanDropNext, CanThreadIn, IoMeantFaultNoMemoryWroteNothing, IoMeantFaultNoMemoryKeptOtherBlocks, RefusesThreadingIn, IsThreadedIn, LossLeavesThreadedIn, IsPairCommitted, IsNextDropped, LossLeavesPairChanged, LossLeavesPairSplit, OnlyReadsThread, RefusesCommit, IsSplitInTwo, ChangesWithinReads, thread_pair_at};
@@ -28,6 +29,7 @@ use crate::headers::read_thread_headers;
 use crate::joins::thread_in_pair;
 use crate::list_reads::read_part_cached;
 use crate::mount_error::MountError;
+use crate::moves::move_next_pair;
 use crate::parts::ThreadParts;
 use crate::splits::split_pair;
 use lfs_blocks::{BlockMap, Cache};
@@ -211,6 +213,15 @@ impl<D: BlockDevice> Thread<D> {
         ensures { result ≡ length (thread_pair_at self.now.kept index).content.slots }
     {
         self.pairs[index].slot_count
+    }
+
+    /// Returns the revision of a pair: of the log of its active block.
+    pub fn revision(&self, index: usize) -> u32
+        requires works { self.now.failed ≡ false }
+        requires below { index < length self.now.kept.pairs }
+        ensures { pair_revision self.now.kept.disk (thread_pair_at self.now.kept index).at ≡ Some result }
+    {
+        self.pairs[index].revision
     }
 
     /// Returns the number of the next pair of the same directory, which a hard tail names (SPEC.md
@@ -509,6 +520,36 @@ impl<D: BlockDevice> Thread<D> {
         );
         self.has_failed = outcome.is_err();
         outcome
+    }
+
+    /// Moves the pair after a pair into the two blocks `fresh`. The moved pair has the slots, the tail
+    /// and the delta that it had, and the next revision. Then a tail that names it is committed to
+    /// the pair at `index`, whose tail is a hard one. The two blocks are in flight before, and used
+    /// afterwards. The old ones are free afterwards.
+    ///
+    /// The caller's condition is also that the slots of each of the two pairs fit a pair.
+    ///
+    /// Errors are those of [`thread_in`](Thread::thread_in).
+    pub fn move_next(&mut self, alloc: Global, index: usize, fresh: [u32; 2]) -> Result<(), Error>
+        requires works { self.old.failed ≡ false }
+        requires can { CanMoveNext self.old.kept index (array_address fresh) }
+        ensures done { OnOk result (IsNextMoved self.old.kept index (array_address fresh) self.new.kept) }
+        ensures failed { self.new.failed ≡ is_err result }
+        ensures errors { IoMeantFaultNoMemoryKeptOtherBlocks (address_blocks (array_address fresh)) self.old.kept self.new.kept result }
+        ensures device { ChangesWithinReads (4 + reads_unless_cached (cached_log self.old index)) (addresses_blocks (thread_pair_at self.old.kept index).at (array_address fresh)) self.old.kept self.new.kept }
+        ensures stops { LossLeavesCleanly self.old.kept.history self.new.kept.history (LossLeavesNextMoved self.old.kept index (array_address fresh)) }
+    {
+        let result = move_next_pair(
+            alloc,
+            &mut self.device,
+            &mut self.cache,
+            &mut self.pairs,
+            &mut self.map,
+            index,
+            fresh,
+        );
+        self.has_failed = result.is_err();
+        result
     }
 
     /// Lends the device and the map to `work`, which leaves the blocks of the pairs as they are,

@@ -21,7 +21,7 @@ pub returns-clause-holds : goal.returns-clause-holds
 returns-clause-holds g c =
     let cleared : has_commit (block_bytes (g.D.BlockDevice.blocks c.write_block_anew.new.dev) (array_address c.args.blocks).1) ≡ false
     = ap has_commit (c.in_ok-written.ensures.writes.device.others.others (array_address c.args.blocks).1 (λ same. c.requires.address.apart (sym same))) ∙ c.in_ok-erase_cleanly.ensures.cleared in
-    let holds = first_in (disk_of_blocks (g.D.BlockDevice.geometry c.write_block_anew.new.dev) (g.D.BlockDevice.blocks c.write_block_anew.new.dev)) (array_address c.args.blocks) 1 (content_view c.args.content.now) cleared c.in_ok-written.ensures.anew.holds in
+    let holds = first_in (disk_of_blocks (g.D.BlockDevice.geometry c.write_block_anew.new.dev) (g.D.BlockDevice.blocks c.write_block_anew.new.dev)) (array_address c.args.blocks) c.args.revision (content_view c.args.content.now) cleared c.in_ok-written.ensures.anew.holds in
     now_holds _ (g.D.BlockDevice.history c.write_block_anew.new.dev) _ c.written.result (array_address c.args.blocks).0 _ holds
     (ap array_address c.written.ensures.blocks) c.written.ensures.active c.written.ensures.fetched
     (c.written.ensures.revision ∙ sym c.in_ok-written.ensures.anew.holds.revision_is)

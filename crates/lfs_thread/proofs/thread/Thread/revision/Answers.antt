@@ -1,0 +1,16 @@
+use Rattle.std.proofs.Common.{ap, sym, subst, ◌≡◌, ◌∙◌, ◌<◌, Some, length}
+use Rattle.lfs_thread.specs.Kept.{ThreadView, disk_of_device}
+use Rattle.lfs_thread.specs.Moves.{pair_revision}
+use Rattle.lfs_thread.specs.ThreadSteps.{thread_pair_at}
+use Rattle.lfs_thread.proofs.Changing.{at_there}
+use Rattle.lfs_thread.proofs.Moving.{revision_there}
+use Rattle.lfs_thread.proofs.thread.Thread.revision.Goals as goal
+
+pub returns : goal.returns
+returns g c =
+    let works = ap (λ (v : ThreadView). v.failed) c.self.view_is ∙ c.requires.works in
+    let below = subst (λ (v : ThreadView). c.args.index < length v.kept.pairs) (sym c.self.view_is) c.requires.below in
+    let disk = disk_of_device g.D.BlockDevice c.self.inside.device in
+    let a = at_there disk c.self.inside.pairs.items c.args.index c.index.result.now below c.index.ensures in
+    subst (λ (v : ThreadView). pair_revision v.kept.disk (thread_pair_at v.kept c.args.index).at ≡ Some c.index.result.now.revision) c.self.view_is
+    (revision_there disk (g.D.BlockDevice.history c.self.inside.device) c.self.inside.pairs.items c.self.inside.map c.args.index c.index.result.now a (c.self.invariant works).0)

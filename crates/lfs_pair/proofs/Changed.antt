@@ -309,10 +309,11 @@ pub made_here : (disk : Disk) (history : List CallEvent) (pair : Pair) (held : R
 made_here disk history pair held block changes new is here made =
     ap (λ h. content_made h changes) (raw_held disk (header_address pair) pair.active is.holds) ∙ ap (λ b. changed_log b changes) (sym here) ∙ made
 
--- what a block with these bytes comes to is what the pair holds
-pub held_content : (disk : Disk) (history : List CallEvent) (pair : Pair) (held : RawContent) (block : List ℕ) (c : RawContent) → IsAsHeader disk history pair held
-    → block ≡ disk_block disk pair.active → changed_log block [] ≡ Some c → held ≡ c
-held_content disk history pair held block c is here made = some_same (sym (made_is disk history pair held [] is) ∙ made_here disk history pair held block [] (Some c) is here made)
+-- the content that changes make of a block with these bytes is the one that they make of what the pair holds
+pub content_made_here : (disk : Disk) (history : List CallEvent) (pair : Pair) (held new : RawContent) (block : List ℕ) (changes : List PairChange) (c : RawContent) → IsAsHeader disk history pair held
+    → block ≡ disk_block disk pair.active → changed_content_of held changes ≡ Some new → changed_log block changes ≡ Some c → new ≡ c
+content_made_here disk history pair held new block changes c is here made log =
+    some_same (sym made ∙ sym (made_is disk history pair held changes is) ∙ made_here disk history pair held block changes (Some c) is here log)
 
 -- where the log ends that holds, and by which tag
 pub ends_here : (disk : Disk) (history : List CallEvent) (pair : Pair) (held : RawContent) (block : List ℕ) → IsAsHeader disk history pair held → block ≡ disk_block disk pair.active → HeaderHasEnd (chain_of block).end (chain_of block).last pair

@@ -5,9 +5,11 @@ ghost use Rattle.lfs_device.specs.DeviceCalls.{ReportsFaults};
 ghost use Rattle.lfs_device.specs.DeviceDisk.{disk_of_blocks};
 ghost use Rattle.lfs_model.specs.format.Slots.{array_address};
 ghost use Rattle.lfs_model.specs.format.Thread.{address_blocks};
+ghost use Rattle.lfs_pair.specs.ChangeView.{changes_view};
 ghost use Rattle.lfs_pair.specs.Copies.{CanCopyPair, IsPairCopied, WritesNothingAtNoMemory};
 ghost use Rattle.lfs_pair.specs.Writing.{ChangesOnlyBlocksWithinReadLimit};
 
+use crate::change::Change;
 use crate::contents::changed_content;
 use crate::fresh::write_fresh_pair;
 use crate::pair::Pair;
@@ -15,34 +17,36 @@ use lfs_device::{BlockDevice, Error, read_block};
 use std::alloc::Global;
 
 /// Copies a pair into the two blocks `fresh`, whatever bytes they have, and returns the header of
-/// the fresh pair. That pair has the slots, the tail and the delta of the global state of `pair`.
-/// The revision goes on: it is the next one. Both blocks are erased, and the first one becomes
-/// active, as in [`Pair::fresh`]. The call takes at most three reads.
+/// the fresh pair. That pair has what the changes make of `pair`; without changes it has the same
+/// slots, tail and delta of the global state. The revision goes on: it is the next one. Both blocks
+/// are erased, and the first one becomes active, as in [`Pair::fresh`]. The call takes at most three
+/// reads.
 ///
 /// No other block changes. A loss of power during the call leaves any bytes in these two.
 ///
 /// Errors: `NoMemory` where memory for two blocks and the slots isn't granted; nothing is written
 /// then. `Io` where a call of the device failed.
 ///
-/// The caller's conditions: the device has the pair as its last call left it. Each of its slots has
-/// a name, and they [`fit`](crate::content_fits) a pair. The two blocks differ and are below the
-/// number of blocks.
+/// The caller's conditions are those of [`commit`](crate::commit), and two more. What the changes
+/// make [`fits`](crate::content_fits) a pair. The two blocks differ and are below the number of
+/// blocks.
 pub fn copy<D: BlockDevice>(
     alloc: Global,
     dev: &mut D,
     pair: &Pair,
     fresh: [u32; 2],
+    changes: &[Change<'_>],
 ) -> Result<Pair, Error>
-    requires { CanCopyPair (disk_of_blocks (D.geometry dev.old) (D.blocks dev.old)) (D.history dev.old) pair.now (array_address fresh) }
+    requires { CanCopyPair (disk_of_blocks (D.geometry dev.old) (D.blocks dev.old)) (D.history dev.old) pair.now (array_address fresh) (changes_view changes.now) }
 
-    ensures copied { IfOk result (λ copy. IsPairCopied (disk_of_blocks (D.geometry dev.old) (D.blocks dev.old)) (D.history dev.old) pair.now
+    ensures copied { IfOk result (λ copy. IsPairCopied (disk_of_blocks (D.geometry dev.old) (D.blocks dev.old)) (D.history dev.old) (changes_view changes.now) pair.now
         (disk_of_blocks (D.geometry dev.new) (D.blocks dev.new)) (D.history dev.new) (array_address fresh) copy) }
     ensures error { IfErr result (λ e. WritesNothingAtNoMemory D.BlockDevice dev.old dev.new e) }
     ensures device { ChangesOnlyBlocksWithinReadLimit D.BlockDevice 3 (address_blocks (array_address fresh)) dev.old dev.new }
     ensures faults { ReportsFaults D.BlockDevice dev.old dev.new result }
 {
     let block = read_block(alloc, dev, pair.active)?;
-    let content = changed_content(alloc, pair, &block, &[])?;
+    let content = changed_content(alloc, pair, &block, changes)?;
     let block_size = dev.geometry().block_size as usize;
     let mut buf = Vec::from_elem(alloc, 0u8, block_size)?;
     let revision = pair.revision.wrapping_add(1);

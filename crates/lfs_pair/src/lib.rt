@@ -1,5 +1,5 @@
 // SPDX-License-Identifier: BSD-3-Clause
-//! Metadata pairs: fetched from two blocks, made of two blocks, changed by commits, and split.
+//! Metadata pairs: fetched from two blocks, made of two blocks, changed by commits, split and copied.
 #![tactic(auto)]
 
 mod block_logs;

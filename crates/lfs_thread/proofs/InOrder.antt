@@ -15,6 +15,7 @@ use Rattle.lfs_thread.specs.Beside.{LeavesUsedBlocksOfPairsUnchangedAndUsed}
 use Rattle.lfs_thread.specs.ThreadDevice.{LossLeavesCleanly}
 use Rattle.lfs_thread.specs.Kept.{KeptThread}
 use Rattle.lfs_thread.specs.Moves.{CanMoveNext, IsNextMoved, LossLeavesNextMoved, NextMovedOnDisk}
+use Rattle.lfs_thread.specs.Unloads.{CanUnload, IsUnloaded, LossLeavesUnloaded, UnloadedOnDisk}
 use Rattle.lfs_thread.specs.ThreadSteps.{BothOnDisk, CanChangePair, CanDropNext, CanSplitAt, CanThreadIn, HasOldPair, SameGeometryAs, RefusesCommit, IsThreadedIn, ThreadedInOnDisk, IsNextDropped, IsPairCommitted, IsSplitInTwo, IsPairWritten, RefusesThreadingIn, LossLeavesPairChanged, LossLeavesPairSplit, LossLeavesThreadedIn, PartsFitPairs}
 
 -- the same thread, with its names in that order
@@ -38,6 +39,9 @@ module _ (order : NameOrder) where
 
   pub can_move : (t : KeptThread) (index : ℕ) (fresh : ℕ × ℕ) → CanMoveNext (in_order order t) index fresh → CanMoveNext t index fresh
   can_move t index fresh can = record { below = can.below; joined = can.joined; fits = can.fits; next_fits = can.next_fits; held = can.held }
+
+  pub can_unload : (t : KeptThread) (index : ℕ) (fresh : ℕ × ℕ) (keep : ℕ) → CanUnload (in_order order t) index fresh keep → CanUnload t index fresh keep
+  can_unload t index fresh keep can = record { below = can.below; slots = can.slots; fits = can.fits; held = can.held }
 
   -- ---- what a step does
 
@@ -108,6 +112,9 @@ module _ (order : NameOrder) where
   pub moved_in : (old new : KeptThread) (index : ℕ) (fresh : ℕ × ℕ) → IsNextMoved old index fresh new → IsNextMoved (in_order order old) index fresh (in_order order new)
   moved_in old new index fresh is = record { pairs = is.pairs; thread = is.thread; first = is.first; anew = is.anew; revision = is.revision; map = is.map }
 
+  pub unloaded_in : (old new : KeptThread) (index : ℕ) (fresh : ℕ × ℕ) (keep : ℕ) → IsUnloaded old index fresh keep new → IsUnloaded (in_order order old) index fresh keep (in_order order new)
+  unloaded_in old new index fresh keep is = record { pairs = is.pairs; thread = is.thread; first = is.first; revision = is.revision; map = is.map }
+
   -- ---- what a loss of power leaves of a step
 
   pub left_changed_in : (old : KeptThread) (index : ℕ) (changes : List PairChange) (left : Blocks) → LossLeavesPairChanged old index changes left → LossLeavesPairChanged (in_order order old) index changes left
@@ -159,6 +166,17 @@ module _ (order : NameOrder) where
       | inl has ↦ inl (old_in old index (record old.disk { blocks = left }) has)
       | inr both ↦
           let there : NextMovedOnDisk (in_order order old) index fresh (record (ordered_disk order old.disk) { blocks = left }) = record { leads = both.leads; moved = both.moved; first = both.first; anew = both.anew } in
+          inr there
+    ];
+  }
+
+  pub left_unloaded_in : (old : KeptThread) (index : ℕ) (fresh : ℕ × ℕ) (keep : ℕ) (left : Blocks) → LossLeavesUnloaded old index fresh keep left → LossLeavesUnloaded (in_order order old) index fresh keep left
+  left_unloaded_in old index fresh keep left is = record {
+    others = is.others;
+    content = elim is.content [
+      | inl has ↦ inl (old_in old index (record old.disk { blocks = left }) has)
+      | inr both ↦
+          let there : UnloadedOnDisk (in_order order old) index fresh keep (record (ordered_disk order old.disk) { blocks = left }) = record { keeps = both.keeps; behind = both.behind; first = both.first } in
           inr there
     ];
   }

@@ -27,7 +27,7 @@ use Rattle.lfs_pair.specs.FreshPair.{CanWriteFresh, IsFreshPair}
 use Rattle.lfs_pair.specs.Split.{AreApart}
 use Rattle.lfs_model.proofs.Staying.{AreElsewhere, raw_content-stays}
 use Rattle.lfs_thread.specs.Kept.{PairHeader, kept_view, disk_pair_at, pairs_of_headers, IsHeader, AreHeaders, AllBlocksUsed, IsKeptOnDisk}
-use Rattle.lfs_thread.specs.ThreadSteps.{thread_pair_at, complete_after, CanThreadIn, fresh_with_tail, tail_setting_change, pairs_with_split}
+use Rattle.lfs_thread.specs.ThreadSteps.{thread_pair_at, complete_after, CanThreadIn, tail_setting_change, pairs_with_split}
 use Rattle.lfs_thread.proofs.Keeping.{AllElsewhere, elsewhere_from, headers_right, headers-stay, pairs-stay, header-stays, header_content, pair_on_content, disk_pair_at-stays, used_left, used_right, IsReplaced, pairs_are, kept_replaced, pair_elsewhere, fresh_elsewhere}
 use Rattle.lfs_thread.proofs.Changing.{IsAt, header_at_index, pair_at_index, made_of_header}
 use Rattle.lfs_thread.proofs.Coming.{count_other, used_at, two_unused, used_still, SettlesTwo, held_address}
@@ -84,7 +84,7 @@ beside_made disk before blocks after hs sets fresh index h changes a kept first 
 module _ (disk : Disk) (before : List CallEvent) (blocks : Blocks) (after : List CallEvent) (hs : List PairHeader) (sets now : BlockStates) (index : ℕ) (h new f : PairHeader) (fresh : ℕ × ℕ) (changes : List PairChange) (c : PairContent)
     (a : IsAt hs index h) (kept : IsKeptOnDisk disk before hs sets) (made : complete_after (kept_view disk before hs sets) index changes ≡ Some c) (next : tail_address_of c.tail ≡ Some fresh)
     (commits : CommitsChanges disk before changes h (record disk { blocks = blocks }) after new) (others : KeepsOutsidePair (header_address h) disk.blocks blocks) (stay : OutsideStaysUnprogrammed (header_address h) before after)
-    (beside : IsHeader disk before f) (at_fresh : header_address f ≡ fresh) (empty : beside.content ≡ record { slots = []; tail = (disk_pair_at disk (header_address h)).content.tail; move = zero_gstate })
+    (beside : IsHeader disk before f) (at_fresh : header_address f ≡ fresh) (behind : PairContent) (has : beside.content ≡ behind) (tail_is : behind.tail ≡ (disk_pair_at disk (header_address h)).content.tail)
     (uses : SettlesTwo sets fresh now) where
   abbrev left : Disk
   left = record disk { blocks = blocks }
@@ -140,17 +140,16 @@ module _ (disk : Disk) (before : List CallEvent) (blocks : Blocks) (after : List
   f_header : IsHeader left after f
   f_header = header-stays f f_elsewhere others stay beside
 
-  f_pair : disk_pair_at left (header_address f) ≡ fresh_with_tail (kept_view disk before hs sets) index fresh
+  f_pair : disk_pair_at left (header_address f) ≡ record { at = fresh; content = behind }
   f_pair = disk_pair_at-stays disk (header_address f) f_elsewhere others
       ∙ pair_on_content disk (header_address f) beside.content (header_content disk before f beside)
-      ∙ ap₂ (λ (at : ℕ × ℕ) (x : PairContent). record { at = at; content = x }) at_fresh empty
-      ∙ ap (λ (p : Pair). record { at = fresh; content = record { slots = []; tail = p.content.tail; move = zero_gstate } }) (sym was_pair)
+      ∙ ap₂ (λ (at : ℕ × ℕ) (x : PairContent). record { at = at; content = x }) at_fresh has
 
   new_blocks : blocks_of_pairs (pairs_of_headers left (new ∷ f ∷ [])) ≡ (header_address h).0 ∷ (header_address h).1 ∷ fresh.0 ∷ fresh.1 ∷ []
   new_blocks = ap₂ (λ (x y : ℕ × ℕ). x.0 ∷ x.1 ∷ y.0 ∷ y.1 ∷ []) commits.holds.same at_fresh
 
   same_tail : (disk_pair_at left (header_address f)).content.tail ≡ (disk_pair_at disk (header_address h)).content.tail
-  same_tail = ap (λ (p : Pair). p.content.tail) f_pair ∙ ap (λ (p : Pair). p.content.tail) was_pair
+  same_tail = ap (λ (p : Pair). p.content.tail) f_pair ∙ tail_is
 
   replaced : IsReplaced disk before blocks after a.front (h ∷ []) (new ∷ f ∷ []) a.back ((header_address h).0 ∷ (header_address h).1 ∷ []) (fresh.0 ∷ fresh.1 ∷ []) now
   replaced = record {
@@ -189,14 +188,17 @@ module _ (disk : Disk) (before : List CallEvent) (blocks : Blocks) (after : List
   abbrev then : Pair
   then = record { at = (thread_pair_at (kept_view disk before hs sets) index).at; content = c }
 
-  pub joined_pairs : pairs_of_headers left headers ≡ pairs_with_split (pairs_of_headers disk hs) index then (fresh_with_tail (kept_view disk before hs sets) index fresh)
+  abbrev after_it : Pair
+  after_it = record { at = fresh; content = behind }
+
+  pub joined_pairs : pairs_of_headers left headers ≡ pairs_with_split (pairs_of_headers disk hs) index then after_it
   joined_pairs = ap (pairs_of_headers left) headers_are
       ∙ pairs_are disk before blocks after a.front (h ∷ []) (new ∷ f ∷ []) a.back ((header_address h).0 ∷ (header_address h).1 ∷ []) (fresh.0 ∷ fresh.1 ∷ []) sets now kept_parts replaced
       ∙ ap₂ (λ p q. pairs_of_headers disk a.front ++ p ∷ q ∷ pairs_of_headers disk a.back) (now_pair ∙ ap (λ (p : Pair). record { at = p.at; content = c }) (sym was_pair)) f_pair
-      ∙ sym (ap₂ (λ (z : List Pair) (i : ℕ). pairs_with_split z i then (fresh_with_tail (kept_view disk before hs sets) index fresh))
+      ∙ sym (ap₂ (λ (z : List Pair) (i : ℕ). pairs_with_split z i then after_it)
       (ap (pairs_of_headers disk) a.parts ∙ map-append (λ x. disk_pair_at disk (header_address x)) a.front (h ∷ a.back)) (a.place ∙ sym (length-map a.front (λ x. disk_pair_at disk (header_address x))))
-      ∙ ap (λ z. insert z (length (pairs_of_headers disk a.front) + 1) (fresh_with_tail (kept_view disk before hs sets) index fresh)) (set-append_seam (pairs_of_headers disk a.front) (disk_pair_at disk (header_address h)) (pairs_of_headers disk a.back) then)
-      ∙ insert_behind (pairs_of_headers disk a.front) then (pairs_of_headers disk a.back) (fresh_with_tail (kept_view disk before hs sets) index fresh))
+      ∙ ap (λ z. insert z (length (pairs_of_headers disk a.front) + 1) after_it) (set-append_seam (pairs_of_headers disk a.front) (disk_pair_at disk (header_address h)) (pairs_of_headers disk a.back) then)
+      ∙ insert_behind (pairs_of_headers disk a.front) then (pairs_of_headers disk a.back) after_it)
 
 -- ---- what the fresh pair is to hold
 

@@ -9,6 +9,7 @@ pub mod Dropped
 pub mod Joined
 pub mod Threaded
 pub mod Moving
+pub mod Unloading
 pub mod Reported
 pub mod CachedPair
 pub mod GlobalState

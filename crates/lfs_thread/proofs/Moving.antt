@@ -49,16 +49,16 @@ set_behind (x ∷ xs) y z w ys = let e : suc (length xs) + 1 ≡ suc (length xs 
 
 -- ---- what the commit makes
 
-abbrev hard_to : ℕ × ℕ → Option Tail
+abbrev pub hard_to : ℕ × ℕ → Option Tail
 hard_to fresh = Some (record { hard = true; to = fresh })
 
-named : (disk : Disk) (fresh : ℕ × ℕ) → AddressIsOnDisk disk fresh → block_count disk ≤ 65536 → IsAllowedTail (hard_to fresh)
+pub named : (disk : Disk) (fresh : ℕ × ℕ) → AddressIsOnDisk disk fresh → block_count disk ≤ 65536 → IsAllowedTail (hard_to fresh)
 named disk fresh on few =
     let f = on.first in let s = on.second in
     let real : (fresh.0 == null_address) ≡ false = ne_eqb fresh.0 null_address (λ e. absurd (omega (arith, e, f, few))) in
     ((omega (arith, f, few), omega (arith, s, few)), ap (λ b. b && fresh.1 == null_address) real)
 
-hard_made : (c : RawContent) (fresh : ℕ × ℕ) → IsAllowedTail (hard_to fresh) → changed_content_of c (PutTail true (Some fresh) ∷ []) ≡ Some (record c { tail = hard_to fresh })
+pub hard_made : (c : RawContent) (fresh : ℕ × ℕ) → IsAllowedTail (hard_to fresh) → changed_content_of c (PutTail true (Some fresh) ∷ []) ≡ Some (record c { tail = hard_to fresh })
 hard_made c fresh h =
     let is : tail_to_pair true fresh ≡ hard_to fresh = ap (λ b. cond b None (hard_to fresh)) h.1 in
     does_first (PutTail true (Some fresh)) [] c (record c { tail = tail_to_pair true fresh }) (record c { tail = tail_to_pair true fresh }) (puts_tail c true fresh h.0) (does_nothing (record c { tail = tail_to_pair true fresh }))
@@ -70,7 +70,7 @@ complete_with_tail raw c t h =
     completed_from (record raw { tail = t }) c.slots parts.slots ∙ ap (λ m. Some (record { slots = c.slots; tail = t; move = m })) (sym parts.move)
 
 -- the revision that a header says
-revision_at : (disk : Disk) (history : List CallEvent) (h : PairHeader) → IsHeader disk history h → pair_revision disk (header_address h) ≡ Some h.revision
+pub revision_at : (disk : Disk) (history : List CallEvent) (h : PairHeader) → IsHeader disk history h → pair_revision disk (header_address h) ≡ Some h.revision
 revision_at disk history h is = ap (option_map block_revision) is.is_pair.holds ∙ ap Some (sym is.is_pair.describes.revision)
 
 pub revision_there : (disk : Disk) (history : List CallEvent) (hs : List PairHeader) (sets : BlockStates) (index : ℕ) (h : PairHeader) → IsAt hs index h → IsKeptOnDisk disk history hs sets
@@ -88,7 +88,7 @@ first_holds a b first second =
     ap₂ (λ p q. cond (not p) (cond q (Some b) None) (cond (q && is_later (block_revision a) (block_revision b)) (Some b) (Some a))) first second
 
 -- the header of a copy
-record IsCopyHeader (disk : Disk) (history : List CallEvent) (f : PairHeader) (fresh : ℕ × ℕ) (c : PairContent) : Type 0 where
+pub record IsCopyHeader (disk : Disk) (history : List CallEvent) (f : PairHeader) (fresh : ℕ × ℕ) (c : PairContent) : Type 0 where
   pub header : IsHeader disk history f
   pub at : header_address f ≡ fresh
   pub content : header.content ≡ c
@@ -143,12 +143,16 @@ module _ (disk : Disk) (history : List CallEvent) (hs : List PairHeader) (sets :
     held = can.held;
   }
 
-  pub can_copy : CanCopyPair disk history n.next fresh
+  pub can_copy : CanCopyPair disk history n.next fresh []
   can_copy = record {
-    address = is_next.address;
-    held = is_next.held;
-    is_pair = is_next.is_pair;
-    names = let all = completes (Some is_next.held) is_next.content is_next.complete in subst (λ (r : RawContent). AreNamed r.slots) (sym (same_Some is_next.held all.raw all.is)) all.names;
+    commit = record {
+      address = is_next.address;
+      held = is_next.held;
+      is_pair = is_next.is_pair;
+      new = is_next.held;
+      changed = does_nothing is_next.held;
+      names = let all = completes (Some is_next.held) is_next.content is_next.complete in subst (λ (r : RawContent). AreNamed r.slots) (sym (same_Some is_next.held all.raw all.is)) all.names;
+    };
     fits = fits_raw disk.block_size disk.page is_next.held is_next.content is_next.is_pair.describes.logged is_next.complete (subst (FitsInPair disk.block_size disk.page) (sym next_content) can.next_fits);
     fresh_is = on_disk;
   }
@@ -183,9 +187,9 @@ module _ (disk : Disk) (history : List CallEvent) (hs : List PairHeader) (sets :
     apart_from : AreApart (header_address h) fresh
     apart_from = apart disk history hs sets index h fresh changes here kept can_lead mid then others stay
 
-    module _ (f : PairHeader) (copied : IsPairCopied disk history n.next beside then fresh f) where
-      same_held : copied.held ≡ is_next.held
-      same_held = same_Some copied.held is_next.held (sym copied.was ∙ is_next.raw)
+    module _ (f : PairHeader) (copied : IsPairCopied disk history [] n.next beside then fresh f) where
+      same_held : copied.new ≡ is_next.held
+      same_held = same_Some copied.new is_next.held (sym copied.made ∙ ap (λ r. content_made r []) is_next.raw)
 
       abbrev copy_is : IsCopyHeader beside then f fresh (thread_pair_at old (index + 1)).content
       copy_is = record {
@@ -195,7 +199,7 @@ module _ (disk : Disk) (history : List CallEvent) (hs : List PairHeader) (sets :
             first = subst (λ k. fresh.0 < k) (sym others.count) on_disk.first;
             second = subst (λ k. fresh.1 < k) (sym others.count) on_disk.second;
           });
-          held = copied.held;
+          held = copied.new;
           is_pair = copied.holds.is_pair;
           raw = ap (raw_content beside) copied.holds.same ∙ copied.holds.content;
           content = is_next.content;
@@ -420,10 +424,10 @@ module _ (geometry later : Geometry) (old mid : Blocks) (before then : List Call
   device_never_full full = never_full (disk_of_blocks geometry old) before hs sets index h fresh few n kept can mid then others stay
       (subst (λ (k : Geometry). (raw : RawContent) (d : PairContent) → changed_pair (disk_of_blocks k mid) (header_address h) leads ≡ Some raw → complete_content raw ≡ Some d → FitsInPair k.block_size k.page d → ⊥) same full)
 
-  module _ (f x : PairHeader) (is_next : x ≡ n.next) (copied : IsPairCopied (disk_of_blocks geometry old) before x (disk_of_blocks later mid) then fresh f) where
-    copied_there : IsPairCopied (disk_of_blocks geometry old) before n.next (disk_of_blocks geometry mid) then fresh f
-    copied_there = subst (λ y. IsPairCopied (disk_of_blocks geometry old) before y (disk_of_blocks geometry mid) then fresh f) is_next
-        (subst (λ k. IsPairCopied (disk_of_blocks geometry old) before x (disk_of_blocks k mid) then fresh f) same copied)
+  module _ (f x : PairHeader) (is_next : x ≡ n.next) (copied : IsPairCopied (disk_of_blocks geometry old) before [] x (disk_of_blocks later mid) then fresh f) where
+    copied_there : IsPairCopied (disk_of_blocks geometry old) before [] n.next (disk_of_blocks geometry mid) then fresh f
+    copied_there = subst (λ y. IsPairCopied (disk_of_blocks geometry old) before [] y (disk_of_blocks geometry mid) then fresh f) is_next
+        (subst (λ k. IsPairCopied (disk_of_blocks geometry old) before [] x (disk_of_blocks k mid) then fresh f) same copied)
 
     pub device_move_stops : (after : List CallEvent) → HoldsAtLosses LossLeavesAtWorst before then (KeepsOutsidePair fresh old) → HoldsAtLosses LossLeavesAtWorst then after (KeepsOutsidePair (header_address h) mid)
         → LossLeavesCleanly then after (LossLeavesChanged (disk_of_blocks later mid) (header_address h) leads) → LossLeavesCleanly before after (LossLeavesNextMoved was index fresh)

@@ -57,7 +57,7 @@ module _ (disk : Disk) (history : List CallEvent) (hs : List PairHeader) (sets :
   pub still_pairs : pairs_of_headers beside hs ≡ pairs_of_headers disk hs
   still_pairs = beside_pairs disk history mid then hs sets fresh kept uses.first_unused uses.second_unused others stay
 
-  still_made : complete_after (kept_view beside then hs sets) index changes ≡ Some can.content
+  pub still_made : complete_after (kept_view beside then hs sets) index changes ≡ Some can.content
   still_made = beside_made disk history mid then hs sets fresh index h changes a kept uses.first_unused uses.second_unused others ∙ can.made
 
   pub then_can : CanCommit beside then h changes
@@ -172,11 +172,17 @@ module _ (disk : Disk) (history : List CallEvent) (hs : List PairHeader) (sets :
       abbrev left : Disk
       left = record disk { blocks = blocks }
 
-      empty : is.header.content ≡ record { slots = []; tail = (disk_pair_at beside (header_address h)).content.tail; move = zero_gstate }
-      empty = is.empty ∙ ap (λ (p : Pair). record { slots = []; tail = p.content.tail; move = zero_gstate }) (sym same_pair)
+      there_pair : thread_pair_at (kept_view beside then hs sets) index ≡ disk_pair_at beside (header_address h)
+      there_pair = pair_at_index beside then hs sets index h a
+
+      abbrev behind : PairContent
+      behind = (fresh_with_tail (kept_view beside then hs sets) index fresh).content
+
+      empty : is.header.content ≡ behind
+      empty = is.empty ∙ ap (λ (p : Pair). record { slots = []; tail = p.content.tail; move = zero_gstate }) (sym same_pair ∙ sym there_pair)
 
       pub is_kept : IsKeptOnDisk left after (insert (set hs index new) (index + 1) f) (map_using sets fresh)
-      is_kept = joined_kept beside then blocks after hs sets (map_using sets fresh) index h new f fresh changes can.content a still_kept still_made can.next commits keeps stays is.header is.at empty uses
+      is_kept = joined_kept beside then blocks after hs sets (map_using sets fresh) index h new f fresh changes can.content a still_kept still_made can.next commits keeps stays is.header is.at behind empty (ap (λ (p : Pair). p.content.tail) there_pair) uses
 
       same_at : thread_pair_at (kept_view beside then hs sets) index ≡ thread_pair_at old index
       same_at = ap (λ ps. get_or ps index empty_anchor) still_pairs
@@ -187,7 +193,7 @@ module _ (disk : Disk) (history : List CallEvent) (hs : List PairHeader) (sets :
         made = can.made;
         fits = fits_pair disk.block_size disk.page commits.new can.content commits.logged (whole_made commits.new commits.made) commits.fits;
         first = first_made blocks commits.new commits.made commits.logged commits.first;
-        pairs = joined_pairs beside then blocks after hs sets (map_using sets fresh) index h new f fresh changes can.content a still_kept still_made can.next commits keeps stays is.header is.at empty uses
+        pairs = joined_pairs beside then blocks after hs sets (map_using sets fresh) index h new f fresh changes can.content a still_kept still_made can.next commits keeps stays is.header is.at behind empty (ap (λ (p : Pair). p.content.tail) there_pair) uses
             ∙ ap₂ (λ (ps : List Pair) (p : Pair). pairs_with_split ps index (record { at = p.at; content = can.content }) (record { at = fresh; content = record { slots = []; tail = p.content.tail; move = zero_gstate } })) still_pairs same_at;
         thread = kept_thread left after (insert (set hs index new) (index + 1) f) (map_using sets fresh) is_kept;
         map = refl;

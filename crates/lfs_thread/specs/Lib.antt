@@ -8,3 +8,4 @@ pub mod MountErrors
 pub mod Beside
 pub mod PairPlaces
 pub mod Moves
+pub mod Unloads

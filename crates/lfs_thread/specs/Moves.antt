@@ -15,7 +15,7 @@ use Rattle.lfs_thread.specs.ThreadSteps.{FreshInFlight, HasOldPair, HasSuperbloc
 abbrev pub pair_revision : Disk → ℕ × ℕ → Option ℕ
 pair_revision disk at = option_map block_revision (current_block disk at)
 
--- There is a pair at the index, with a hard tail, and one after it. Each fits a pair, and the two blocks are in flight.
+-- There is a pair at the index, with a hard tail, and one after it. The slots of each fit a pair. The two blocks are in flight.
 pub record CanMoveNext (t : KeptThread) (index : ℕ) (fresh : ℕ × ℕ) : Type 0 where
   pub below : index + 1 < length t.pairs
   pub joined : is_hard_tail (thread_pair_at t index).content.tail ≡ true

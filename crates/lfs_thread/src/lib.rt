@@ -16,6 +16,7 @@ mod parts;
 mod places;
 mod splits;
 mod thread;
+mod unloads;
 
 pub use deltas::gstate_xor_delta;
 pub use mount_error::MountError;

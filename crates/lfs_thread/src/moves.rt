@@ -43,7 +43,7 @@ pub(crate) fn move_next_pair<D: BlockDevice>(
     let mut pair = pairs[index];
     let next = pairs[index + 1];
     forget_cached_pair(cache, fresh);
-    let moved = copy(alloc, device, &next, fresh)?;
+    let moved = copy(alloc, device, &next, fresh, &[])?;
     let tail = Change::Tail {
         hard: true,
         pair: Some(fresh),

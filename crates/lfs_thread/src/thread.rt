@@ -20,6 +20,7 @@ ghost use Rattle.lfs_thread.specs.CachedLog.{IsContentLog, cached_log, loaded_ca
 ghost use Rattle.lfs_thread.specs.Moves.{CanMoveNext, IsNextMoved, LossLeavesNextMoved, pair_revision};
 ghost use Rattle.lfs_thread.specs.MountErrors.{IsViolationTrue, error_of_mount};
 ghost use Rattle.lfs_thread.specs.HeaderReading.{IsThreadReadFromDevice};
+ghost use Rattle.lfs_thread.specs.Unloads.{CanUnload, IsUnloaded, LossLeavesUnloaded};
 ghost use Rattle.lfs_thread.specs.ThreadSteps.{CanSplitAt, CanChangePair, CanDropNext, CanThreadIn, IoMeantFaultNoMemoryWroteNothing, IoMeantFaultNoMemoryKeptOtherBlocks, RefusesThreadingIn, IsThreadedIn, LossLeavesThreadedIn, IsPairCommitted, IsNextDropped, LossLeavesPairChanged, LossLeavesPairSplit, OnlyReadsThread, RefusesCommit, IsSplitInTwo, ChangesWithinReads, thread_pair_at};
 
 use crate::commits::commit_with_cache;
@@ -32,6 +33,7 @@ use crate::mount_error::MountError;
 use crate::moves::move_next_pair;
 use crate::parts::ThreadParts;
 use crate::splits::split_pair;
+use crate::unloads::unload_pair;
 use lfs_blocks::{BlockMap, Cache};
 use lfs_device::{BlockDevice, Error, Geometry};
 use lfs_file::{KnownBlocks, read_at};
@@ -547,6 +549,43 @@ impl<D: BlockDevice> Thread<D> {
             &mut self.map,
             index,
             fresh,
+        );
+        self.has_failed = result.is_err();
+        result
+    }
+
+    /// Puts a fresh pair, in the two blocks `fresh`, into the thread after a pair. The fresh pair gets
+    /// all slots of that pair and its tail, and the next revision. Then that pair keeps its first
+    /// `keep` slots and its delta, and gets a hard tail that names the fresh one. The two blocks are
+    /// in flight before, and used afterwards.
+    ///
+    /// The caller's conditions are also that the pair has `keep` slots, and that its slots fit a pair.
+    ///
+    /// Errors are those of [`thread_in`](Thread::thread_in).
+    pub fn unload(
+        &mut self,
+        alloc: Global,
+        index: usize,
+        fresh: [u32; 2],
+        keep: u16,
+    ) -> Result<(), Error>
+        requires works { self.old.failed ≡ false }
+        requires can { CanUnload self.old.kept index (array_address fresh) keep }
+        ensures done { OnOk result (IsUnloaded self.old.kept index (array_address fresh) keep self.new.kept) }
+        ensures failed { self.new.failed ≡ is_err result }
+        ensures errors { IoMeantFaultNoMemoryKeptOtherBlocks (address_blocks (array_address fresh)) self.old.kept self.new.kept result }
+        ensures device { ChangesWithinReads (4 + reads_unless_cached (cached_log self.old index)) (addresses_blocks (thread_pair_at self.old.kept index).at (array_address fresh)) self.old.kept self.new.kept }
+        ensures stops { LossLeavesCleanly self.old.kept.history self.new.kept.history (LossLeavesUnloaded self.old.kept index (array_address fresh) keep) }
+    {
+        let result = unload_pair(
+            alloc,
+            &mut self.device,
+            &mut self.cache,
+            &mut self.pairs,
+            &mut self.map,
+            index,
+            fresh,
+            keep,
         );
         self.has_failed = result.is_err();
         result

@@ -1,4 +1,4 @@
-use Rattle.std.proofs.Common.{◌≤◌, ◌<◌, ◌∙◌, Err, Ok, ap, arith, refl, subst, sym, set, length}
+use Rattle.std.proofs.Common.{[], ◌≤◌, ◌<◌, ◌∙◌, Err, Ok, ap, arith, refl, subst, sym, set, length}
 use Rattle.std.proofs.lemmas.List.{length-set}
 use Rattle.std.proofs.lemmas.Result.{err_from_is_err_and}
 use Rattle.lfs_model.specs.format.Blocks.{SameExceptThese}
@@ -25,7 +25,7 @@ copy-requires g c =
     let n = next_there disk c.args.pairs.now.items c.args.index c.index.result.now c.requires.can.below c.index.ensures in
     let is = next_is c.args.pairs.now.items c.args.index c.index.result.now c.index-2.result.now n c.index-2.ensures in
     let few : length (g.D.BlockDevice.blocks c.args.device.now) ≤ 65536 = let s = (g.met.D.BlockDevice.shape c.args.device.now).count in let m = (g.D.BlockDevice.geometry c.args.device.now).valid.no_more in omega arith in
-    subst (λ (x : PairHeader). CanCopyPair disk (g.D.BlockDevice.history c.args.device.now) x (array_address c.args.fresh)) (sym is) (can_copy disk _ c.args.pairs.now.items c.args.map.now c.args.index c.index.result.now (array_address c.args.fresh) few n c.requires.kept c.requires.can)
+    subst (λ (x : PairHeader). CanCopyPair disk (g.D.BlockDevice.history c.args.device.now) x (array_address c.args.fresh) []) (sym is) (can_copy disk _ c.args.pairs.now.items c.args.map.now c.args.index c.index.result.now (array_address c.args.fresh) few n c.requires.kept c.requires.can)
 
 pub returns-in_err-moved-clause-current : goal.returns-in_err-moved-clause-current
 returns-in_err-moved-clause-current g c =

@@ -1,0 +1,16 @@
+use Rattle.std.proofs.Common.{◌∙◌, ◌++◌, List, [], ◌∷◌, Some, ap, true}
+use Rattle.std.proofs.lemmas.List.{map-append}
+use Rattle.lfs_model.specs.format.Slots.{array_address}
+use Rattle.lfs_model.specs.layers.Changes.{PairChange, PutTail}
+use Rattle.lfs_pair.specs.ChangeView.{change_view, changes_view}
+use Rattle.lfs_pair.specs.declared.change.Change.{Change}
+use Rattle.lfs_pair.specs.declared.change.Change.TheVariants as changes
+use Rattle.lfs_thread.proofs.Unloading.{map_replicate}
+use Rattle.lfs_thread.proofs.unloads.unload_changes.Goals as goal
+
+pub returns-clause-changes : goal.returns-clause-changes
+returns-clause-changes c =
+    ap changes_view c.in_ok-push.ensures.items
+    ∙ ap (λ (xs : List Change). changes_view (xs ++ changes.Tail true (Some c.args.fresh) ∷ [])) (c.in_ok-changes.ensures.items_if_clones_equal (λ y same. same))
+    ∙ map-append change_view _ (changes.Tail true (Some c.args.fresh) ∷ [])
+    ∙ ap (λ (xs : List PairChange). xs ++ PutTail true (Some (array_address c.args.fresh)) ∷ []) (map_replicate change_view c.args.count (changes.Delete c.args.keep))

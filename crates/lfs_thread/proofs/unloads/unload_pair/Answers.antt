@@ -1,0 +1,268 @@
+use Rattle.std.proofs.Common.{◌≤◌, ◌+◌, ◌-◌, ◌∙◌, Ok, Err, List, [], ◌∷◌, ap, arith, subst, sym, set, length}
+use Rattle.std.proofs.lemmas.Result.{err_from_is_err_and}
+use Rattle.lfs_model.specs.format.Blocks.{SameExceptThese}
+use Rattle.lfs_model.specs.format.Slots.{Gstate, array_address}
+use Rattle.lfs_model.specs.format.Thread.{address_blocks, addresses_blocks}
+use Rattle.lfs_model.specs.layers.BlockSets.{BlockStates, IsInFlight, Used}
+use Rattle.lfs_model.specs.layers.Changes.{PairChange, PutMove}
+use Rattle.lfs_model.proofs.Histories.{fault_count-since}
+use Rattle.lfs_pair.specs.ChangeView.{changes_view}
+use Rattle.lfs_pair.specs.Commits.{CanCommit, CommitsChanges, LossLeavesChanged, RefusesCommit}
+use Rattle.lfs_pair.specs.Copies.{CanCopyPair, IsPairCopied}
+use Rattle.lfs_pair.specs.Pair.{header_address}
+use Rattle.lfs_thread.specs.CachedLog.{reads_unless_cached}
+use Rattle.lfs_thread.specs.Kept.{PairHeader, disk_of_device}
+use Rattle.lfs_thread.specs.ThreadDevice.{LossLeavesCleanly}
+use Rattle.lfs_thread.proofs.CachedLogs.{current_but_two}
+use Rattle.lfs_thread.proofs.CachedPair.{cached_beside, count_there, reading_there}
+use Rattle.lfs_thread.proofs.Changing.{at_there}
+use Rattle.lfs_thread.proofs.Coming.{second_held}
+use Rattle.lfs_thread.proofs.Parting.{placed}
+use Rattle.lfs_thread.proofs.Reported.{changes_by_fresh, changes_by_both, errors_again}
+use Rattle.lfs_thread.proofs.Unloading.{can_load, device_is_unloaded, device_leave_can, device_left_by_load, device_never_full, device_unload_stops, device_unloaded_kept, gone_count}
+use Rattle.lfs_thread.proofs.unloads.unload_pair.Goals as goal
+
+pub overflow_sub-count : goal.overflow_sub-count
+overflow_sub-count g c =
+    let disk = disk_of_device g.D.BlockDevice c.args.device.now in
+    let history = g.D.BlockDevice.history c.args.device.now in
+    let h = c.index.result.now in
+    let a = at_there disk c.args.pairs.now.items c.args.index h c.requires.can.below c.index.ensures in
+    let held = count_there disk history c.args.pairs.now.items c.args.map.now c.args.index h a c.requires.kept in
+    let all = c.requires.can.slots in
+    let from = c.from.ensures in
+    omega (arith, held, all, from)
+
+pub copy-requires : goal.copy-requires
+copy-requires g c =
+    let disk = disk_of_device g.D.BlockDevice c.args.device.now in
+    let history = g.D.BlockDevice.history c.args.device.now in
+    let h = c.index.result.now in
+    let a = at_there disk c.args.pairs.now.items c.args.index h c.requires.can.below c.index.ensures in
+    let held = count_there disk history c.args.pairs.now.items c.args.map.now c.args.index h a c.requires.kept in
+    let all = c.requires.can.slots in
+    let from = c.from.ensures in
+    let count = h.slot_count - c.from.result in
+    let counted = gone_count held from all in
+    let few : length (g.D.BlockDevice.blocks c.args.device.now) ≤ 65536 = let s = (g.met.D.BlockDevice.shape c.args.device.now).count in let m = (g.D.BlockDevice.geometry c.args.device.now).valid.no_more in omega arith in
+    subst (λ (m : Gstate). CanCopyPair disk history h (array_address c.args.fresh) (PutMove m ∷ [])) (sym c.none.ensures)
+    (can_load disk history c.args.pairs.now.items c.args.map.now c.args.index h (array_address c.args.fresh) c.args.keep count few a c.requires.kept c.requires.can counted)
+
+pub returns-in_err-loaded-clause-current : goal.returns-in_err-loaded-clause-current
+returns-in_err-loaded-clause-current g c =
+    current_but_two _ _ _ _ (array_address c.args.fresh) c.requires.current c.forget_cached_pair.ensures c.in_err-loaded.ensures.device.only.others
+
+pub commit_with_cache-requires-clause-current : goal.commit_with_cache-requires-clause-current
+commit_with_cache-requires-clause-current g c =
+    current_but_two _ _ _ _ (array_address c.args.fresh) c.requires.current c.forget_cached_pair.ensures c.in_ok-loaded.ensures.device.only.others
+
+pub returns-in_err-loaded-clause-device : goal.returns-in_err-loaded-clause-device
+returns-in_err-loaded-clause-device g c =
+    let e = c.in_err-loaded.ensures in
+    record { only = changes_by_fresh g.D.BlockDevice _ (array_address c.args.fresh) e.device.only; few = let first = e.device.few in omega (arith, first) }
+
+pub returns-in_err-loaded-clause-stops : goal.returns-in_err-loaded-clause-stops
+returns-in_err-loaded-clause-stops g c cleanly =
+    let disk = disk_of_device g.D.BlockDevice c.args.device.now in
+    let history = g.D.BlockDevice.history c.args.device.now in
+    let h = c.index.result.now in
+    let a = at_there disk c.args.pairs.now.items c.args.index h c.requires.can.below c.index.ensures in
+    let held = count_there disk history c.args.pairs.now.items c.args.map.now c.args.index h a c.requires.kept in
+    let all = c.requires.can.slots in
+    let from = c.from.ensures in
+    let count = h.slot_count - c.from.result in
+    let counted = gone_count held from all in
+    let few : length (g.D.BlockDevice.blocks c.args.device.now) ≤ 65536 = let s = (g.met.D.BlockDevice.shape c.args.device.now).count in let m = (g.D.BlockDevice.geometry c.args.device.now).valid.no_more in omega arith in
+    let e = c.in_err-loaded.ensures in
+    device_left_by_load _ _ _ _ _ _ c.args.pairs.now.items c.args.map.now c.args.index h (array_address c.args.fresh) c.args.keep count few e.device.only.geometry a c.requires.kept c.requires.can counted e.device.only.others e.device.only.elsewhere e.device.only.at_worst
+
+pub commit_with_cache-requires-clause-can : goal.commit_with_cache-requires-clause-can
+commit_with_cache-requires-clause-can g c =
+    let disk = disk_of_device g.D.BlockDevice c.args.device.now in
+    let history = g.D.BlockDevice.history c.args.device.now in
+    let h = c.index.result.now in
+    let a = at_there disk c.args.pairs.now.items c.args.index h c.requires.can.below c.index.ensures in
+    let held = count_there disk history c.args.pairs.now.items c.args.map.now c.args.index h a c.requires.kept in
+    let all = c.requires.can.slots in
+    let from = c.from.ensures in
+    let count = h.slot_count - c.from.result in
+    let counted = gone_count held from all in
+    let few : length (g.D.BlockDevice.blocks c.args.device.now) ≤ 65536 = let s = (g.met.D.BlockDevice.shape c.args.device.now).count in let m = (g.D.BlockDevice.geometry c.args.device.now).valid.no_more in omega arith in
+    let made = ap changes_view c.deref.ensures.value ∙ c.in_ok-changes.ensures.changes in
+    let e = c.in_ok-loaded.ensures in
+    subst (λ (changes : List PairChange). CanCommit (disk_of_device g.D.BlockDevice c.copy.new.dev) (g.D.BlockDevice.history c.copy.new.dev) h changes) (sym made)
+    (device_leave_can _ _ _ _ _ _ c.args.pairs.now.items c.args.map.now c.args.index h (array_address c.args.fresh) c.args.keep count few e.device.only.geometry a c.requires.kept c.requires.can counted e.device.only.others e.device.only.elsewhere)
+
+pub returns-in_err-outcome-clause-device : goal.returns-in_err-outcome-clause-device
+returns-in_err-outcome-clause-device g c =
+    let disk = disk_of_device g.D.BlockDevice c.args.device.now in
+    let history = g.D.BlockDevice.history c.args.device.now in
+    let h = c.index.result.now in
+    let a = at_there disk c.args.pairs.now.items c.args.index h c.requires.can.below c.index.ensures in
+    let copy = c.in_ok-loaded.ensures.device in
+    let commit = c.in_err-outcome.ensures.device in
+    let same = cached_beside disk history c.args.pairs.now.items c.args.map.now c.args.index h a c.requires.kept (array_address c.args.fresh) c.requires.can.held c.args.cache.now c.forget_cached_pair.new.cache c.forget_cached_pair.ensures in
+    let reads = ap reads_unless_cached same in
+    reading_there disk history c.args.pairs.now.items c.args.map.now c.args.index h a c.requires.kept
+    g.D.BlockDevice c.args.device.now c.commit_with_cache.new.device (λ at. addresses_blocks at (array_address c.args.fresh)) 4 c.args.cache.now
+    (record {
+      only = changes_by_both g.D.BlockDevice (header_address h) (array_address c.args.fresh) copy.only commit.only;
+      few = let first = copy.few in let second = commit.few in omega (arith, first, second, reads);
+    })
+
+pub returns-in_err-outcome-clause-errors : goal.returns-in_err-outcome-clause-errors
+returns-in_err-outcome-clause-errors g c =
+    let p = err_from_is_err_and c.from_residual-in_err-outcome.result c.from_residual-in_err-outcome.ensures.1 in
+    let t = errors_again c.in_err-outcome.field-0.0 _ c.from_residual-in_err-outcome.result c.in_err-outcome.was (p.1 ∙ ap Err p.2) c.commit_with_cache.ensures.errors in
+    let so_far = fault_count-since c.in_ok-loaded.ensures.device.only.at_worst in
+    record {
+      errors = t.errors;
+      faults = record {
+        fault = λ e. let rose = t.faults.fault e in omega arith;
+        no_fault = λ e. t.faults.no_fault e ∙ c.in_ok-loaded.ensures.faults.no_fault (λ gives. absurd (cc));
+      };
+      beside = λ e. subst (λ blocks. SameExceptThese (address_blocks (array_address c.args.fresh)) (g.D.BlockDevice.blocks c.args.device.now) blocks) (sym (t.unwritten e).same) c.in_ok-loaded.ensures.device.only.others;
+    }
+
+pub returns-in_err-outcome-clause-stops : goal.returns-in_err-outcome-clause-stops
+returns-in_err-outcome-clause-stops g c =
+    let disk = disk_of_device g.D.BlockDevice c.args.device.now in
+    let history = g.D.BlockDevice.history c.args.device.now in
+    let h = c.index.result.now in
+    let a = at_there disk c.args.pairs.now.items c.args.index h c.requires.can.below c.index.ensures in
+    let held = count_there disk history c.args.pairs.now.items c.args.map.now c.args.index h a c.requires.kept in
+    let all = c.requires.can.slots in
+    let from = c.from.ensures in
+    let count = h.slot_count - c.from.result in
+    let counted = gone_count held from all in
+    let few : length (g.D.BlockDevice.blocks c.args.device.now) ≤ 65536 = let s = (g.met.D.BlockDevice.shape c.args.device.now).count in let m = (g.D.BlockDevice.geometry c.args.device.now).valid.no_more in omega arith in
+    let made = ap changes_view c.deref.ensures.value ∙ c.in_ok-changes.ensures.changes in
+    let later = disk_of_device g.D.BlockDevice c.copy.new.dev in
+    let then = g.D.BlockDevice.history c.copy.new.dev in
+    let e = c.in_ok-loaded.ensures in
+    let k = c.in_err-outcome.ensures in
+    let copied = subst (λ (m : Gstate). IsPairCopied disk history (PutMove m ∷ []) h later then (array_address c.args.fresh) c.in_ok-loaded.loaded) c.none.ensures e.copied in
+    device_unload_stops _ _ _ _ _ _ c.args.pairs.now.items c.args.map.now c.args.index h (array_address c.args.fresh) c.args.keep count few e.device.only.geometry a c.requires.kept c.requires.can counted e.device.only.others e.device.only.elsewhere _ copied
+    _ e.device.only.at_worst k.device.only.at_worst
+    (subst (λ (changes : List PairChange). LossLeavesCleanly then (g.D.BlockDevice.history c.commit_with_cache.new.device) (LossLeavesChanged later (header_address h) changes)) made k.stops)
+
+pub unreachable-requires : goal.unreachable-requires
+unreachable-requires g c =
+    let disk = disk_of_device g.D.BlockDevice c.args.device.now in
+    let history = g.D.BlockDevice.history c.args.device.now in
+    let h = c.index.result.now in
+    let a = at_there disk c.args.pairs.now.items c.args.index h c.requires.can.below c.index.ensures in
+    let held = count_there disk history c.args.pairs.now.items c.args.map.now c.args.index h a c.requires.kept in
+    let all = c.requires.can.slots in
+    let from = c.from.ensures in
+    let count = h.slot_count - c.from.result in
+    let counted = gone_count held from all in
+    let few : length (g.D.BlockDevice.blocks c.args.device.now) ≤ 65536 = let s = (g.met.D.BlockDevice.shape c.args.device.now).count in let m = (g.D.BlockDevice.geometry c.args.device.now).valid.no_more in omega arith in
+    let made = ap changes_view c.deref.ensures.value ∙ c.in_ok-changes.ensures.changes in
+    let e = c.in_ok-loaded.ensures in
+    device_never_full _ _ _ _ _ _ c.args.pairs.now.items c.args.map.now c.args.index h (array_address c.args.fresh) c.args.keep count few e.device.only.geometry a c.requires.kept c.requires.can counted e.device.only.others e.device.only.elsewhere
+    (subst (λ (changes : List PairChange). RefusesCommit g.D.BlockDevice changes c.copy.new.dev c.commit_with_cache.new.device h c.commit_with_cache.new.pair) made (c.in_ok-outcome.ensures.full (ap Ok c.in-Full.is))).completed
+
+pub settle-requires-2 : goal.settle-requires-2
+settle-requires-2 g c =
+    subst (λ (sets : BlockStates). IsInFlight sets (array_address c.args.fresh).1) (sym c.settle.ensures) (second_held c.args.map.now (array_address c.args.fresh) c.requires.can.held)
+
+pub returns-clause-kept : goal.returns-clause-kept
+returns-clause-kept g c =
+    let disk = disk_of_device g.D.BlockDevice c.args.device.now in
+    let history = g.D.BlockDevice.history c.args.device.now in
+    let h = c.index.result.now in
+    let a = at_there disk c.args.pairs.now.items c.args.index h c.requires.can.below c.index.ensures in
+    let held = count_there disk history c.args.pairs.now.items c.args.map.now c.args.index h a c.requires.kept in
+    let all = c.requires.can.slots in
+    let from = c.from.ensures in
+    let count = h.slot_count - c.from.result in
+    let counted = gone_count held from all in
+    let few : length (g.D.BlockDevice.blocks c.args.device.now) ≤ 65536 = let s = (g.met.D.BlockDevice.shape c.args.device.now).count in let m = (g.D.BlockDevice.geometry c.args.device.now).valid.no_more in omega arith in
+    let made = ap changes_view c.deref.ensures.value ∙ c.in_ok-changes.ensures.changes in
+    let later = disk_of_device g.D.BlockDevice c.copy.new.dev in
+    let then = g.D.BlockDevice.history c.copy.new.dev in
+    let e = c.in_ok-loaded.ensures in
+    let k = c.in_ok-outcome.ensures in
+    let copied = subst (λ (m : Gstate). IsPairCopied disk history (PutMove m ∷ []) h later then (array_address c.args.fresh) c.in_ok-loaded.loaded) c.none.ensures e.copied in
+    device_unloaded_kept _ _ _ _ _ _ c.args.pairs.now.items c.args.map.now c.args.index h (array_address c.args.fresh) c.args.keep count few e.device.only.geometry a c.requires.kept c.requires.can counted e.device.only.others e.device.only.elsewhere _ copied
+    _ _ _ _ k.device.only.geometry
+    (subst (λ (changes : List PairChange). CommitsChanges later then changes h (disk_of_device g.D.BlockDevice c.commit_with_cache.new.device) (g.D.BlockDevice.history c.commit_with_cache.new.device) c.commit_with_cache.new.pair) made (k.done (ap Ok c.in_default.is)))
+    k.device.only.others k.device.only.elsewhere
+    _ (ap (λ (z : List PairHeader). set (set z c.args.index c.commit_with_cache.new.pair) (c.args.index + 1) c.in_ok-loaded.loaded) c.in_ok-insert.ensures.items ∙ placed _ _ _ _ _ c.in_ok-loaded.loaded a)
+    _ (c.settle-2.ensures ∙ ap (λ (s : BlockStates). set s (array_address c.args.fresh).1 Used) c.settle.ensures)
+
+pub returns-clause-is_unloaded : goal.returns-clause-is_unloaded
+returns-clause-is_unloaded g c =
+    let disk = disk_of_device g.D.BlockDevice c.args.device.now in
+    let history = g.D.BlockDevice.history c.args.device.now in
+    let h = c.index.result.now in
+    let a = at_there disk c.args.pairs.now.items c.args.index h c.requires.can.below c.index.ensures in
+    let held = count_there disk history c.args.pairs.now.items c.args.map.now c.args.index h a c.requires.kept in
+    let all = c.requires.can.slots in
+    let from = c.from.ensures in
+    let count = h.slot_count - c.from.result in
+    let counted = gone_count held from all in
+    let few : length (g.D.BlockDevice.blocks c.args.device.now) ≤ 65536 = let s = (g.met.D.BlockDevice.shape c.args.device.now).count in let m = (g.D.BlockDevice.geometry c.args.device.now).valid.no_more in omega arith in
+    let made = ap changes_view c.deref.ensures.value ∙ c.in_ok-changes.ensures.changes in
+    let later = disk_of_device g.D.BlockDevice c.copy.new.dev in
+    let then = g.D.BlockDevice.history c.copy.new.dev in
+    let e = c.in_ok-loaded.ensures in
+    let k = c.in_ok-outcome.ensures in
+    let copied = subst (λ (m : Gstate). IsPairCopied disk history (PutMove m ∷ []) h later then (array_address c.args.fresh) c.in_ok-loaded.loaded) c.none.ensures e.copied in
+    device_is_unloaded _ _ _ _ _ _ c.args.pairs.now.items c.args.map.now c.args.index h (array_address c.args.fresh) c.args.keep count few e.device.only.geometry a c.requires.kept c.requires.can counted e.device.only.others e.device.only.elsewhere _ copied
+    _ _ _ _ k.device.only.geometry
+    (subst (λ (changes : List PairChange). CommitsChanges later then changes h (disk_of_device g.D.BlockDevice c.commit_with_cache.new.device) (g.D.BlockDevice.history c.commit_with_cache.new.device) c.commit_with_cache.new.pair) made (k.done (ap Ok c.in_default.is)))
+    k.device.only.others k.device.only.elsewhere
+    _ (ap (λ (z : List PairHeader). set (set z c.args.index c.commit_with_cache.new.pair) (c.args.index + 1) c.in_ok-loaded.loaded) c.in_ok-insert.ensures.items ∙ placed _ _ _ _ _ c.in_ok-loaded.loaded a)
+    _ (c.settle-2.ensures ∙ ap (λ (s : BlockStates). set s (array_address c.args.fresh).1 Used) c.settle.ensures)
+
+pub returns-clause-device : goal.returns-clause-device
+returns-clause-device g c =
+    let disk = disk_of_device g.D.BlockDevice c.args.device.now in
+    let history = g.D.BlockDevice.history c.args.device.now in
+    let h = c.index.result.now in
+    let a = at_there disk c.args.pairs.now.items c.args.index h c.requires.can.below c.index.ensures in
+    let copy = c.in_ok-loaded.ensures.device in
+    let commit = c.in_ok-outcome.ensures.device in
+    let same = cached_beside disk history c.args.pairs.now.items c.args.map.now c.args.index h a c.requires.kept (array_address c.args.fresh) c.requires.can.held c.args.cache.now c.forget_cached_pair.new.cache c.forget_cached_pair.ensures in
+    let reads = ap reads_unless_cached same in
+    reading_there disk history c.args.pairs.now.items c.args.map.now c.args.index h a c.requires.kept
+    g.D.BlockDevice c.args.device.now c.commit_with_cache.new.device (λ at. addresses_blocks at (array_address c.args.fresh)) 4 c.args.cache.now
+    (record {
+      only = changes_by_both g.D.BlockDevice (header_address h) (array_address c.args.fresh) copy.only commit.only;
+      few = let first = copy.few in let second = commit.few in omega (arith, first, second, reads);
+    })
+
+pub returns-clause-errors : goal.returns-clause-errors
+returns-clause-errors g c =
+    record {
+      errors = tt;
+      faults = record {
+        fault = λ gives. absurd (cc);
+        no_fault = λ e. c.in_ok-outcome.ensures.errors.faults.no_fault (λ gives. absurd (cc)) ∙ c.in_ok-loaded.ensures.faults.no_fault (λ gives. absurd (cc));
+      };
+      beside = λ e. absurd (cc);
+    }
+
+pub returns-clause-stops : goal.returns-clause-stops
+returns-clause-stops g c =
+    let disk = disk_of_device g.D.BlockDevice c.args.device.now in
+    let history = g.D.BlockDevice.history c.args.device.now in
+    let h = c.index.result.now in
+    let a = at_there disk c.args.pairs.now.items c.args.index h c.requires.can.below c.index.ensures in
+    let held = count_there disk history c.args.pairs.now.items c.args.map.now c.args.index h a c.requires.kept in
+    let all = c.requires.can.slots in
+    let from = c.from.ensures in
+    let count = h.slot_count - c.from.result in
+    let counted = gone_count held from all in
+    let few : length (g.D.BlockDevice.blocks c.args.device.now) ≤ 65536 = let s = (g.met.D.BlockDevice.shape c.args.device.now).count in let m = (g.D.BlockDevice.geometry c.args.device.now).valid.no_more in omega arith in
+    let made = ap changes_view c.deref.ensures.value ∙ c.in_ok-changes.ensures.changes in
+    let later = disk_of_device g.D.BlockDevice c.copy.new.dev in
+    let then = g.D.BlockDevice.history c.copy.new.dev in
+    let e = c.in_ok-loaded.ensures in
+    let k = c.in_ok-outcome.ensures in
+    let copied = subst (λ (m : Gstate). IsPairCopied disk history (PutMove m ∷ []) h later then (array_address c.args.fresh) c.in_ok-loaded.loaded) c.none.ensures e.copied in
+    device_unload_stops _ _ _ _ _ _ c.args.pairs.now.items c.args.map.now c.args.index h (array_address c.args.fresh) c.args.keep count few e.device.only.geometry a c.requires.kept c.requires.can counted e.device.only.others e.device.only.elsewhere _ copied
+    _ e.device.only.at_worst k.device.only.at_worst
+    (subst (λ (changes : List PairChange). LossLeavesCleanly then (g.D.BlockDevice.history c.commit_with_cache.new.device) (LossLeavesChanged later (header_address h) changes)) made k.stops)

@@ -90,3 +90,4 @@ pub mod AlteredAcross
 pub mod AlteredLater
 pub mod AlteredOnto
 pub mod AlteredLast
+pub mod WornMoves

@@ -19,3 +19,4 @@ pub mod Deltas
 pub mod Recovering
 pub mod EndingMove
 pub mod RenamingOver
+pub mod Wear

@@ -16,6 +16,7 @@ mod renames;
 mod replacements;
 mod slot_copies;
 mod structs;
+mod wear;
 
 pub use attributes::{remove_attribute, set_attribute};
 pub use directory_removals::remove_directory;
@@ -27,3 +28,4 @@ pub use removals::remove_file;
 pub use renames::{rename, rename_onto_file};
 pub use replacements::rename_onto_directory;
 pub use structs::set_struct;
+pub use wear::move_pair;

@@ -1,6 +1,6 @@
 -- What a step does to a thread, said of the same thread with its names in an order.
-use Rattle.std.proofs.Common.{ℕ, List, ap, inl, inr, refl, Result, Ok, Err}
-use Rattle.std.specs.Prelude.{OnOk}
+use Rattle.std.proofs.Common.{◌≡◌, ℕ, false, List, ap, inl, inr, refl, Result, Ok, Err}
+use Rattle.std.specs.Prelude.{OnOk, is_err}
 use Rattle.lfs_device.specs.declared.error.Error.{Error}
 use Rattle.lfs_device.specs.declared.device.BlockDevice.{Ghosts}
 use Rattle.lfs_model.specs.layers.BlockSets.{BlockStates}
@@ -110,7 +110,7 @@ module _ (order : NameOrder) where
   }
 
   pub moved_in : (old new : KeptThread) (index : ℕ) (fresh : ℕ × ℕ) → IsNextMoved old index fresh new → IsNextMoved (in_order order old) index fresh (in_order order new)
-  moved_in old new index fresh is = record { pairs = is.pairs; thread = is.thread; first = is.first; revision = is.revision; map = is.map }
+  moved_in old new index fresh is = record { pairs = is.pairs; thread = is.thread; first = is.first; anew = is.anew; revision = is.revision; map = is.map }
 
   pub unloaded_in : (old new : KeptThread) (index : ℕ) (fresh : ℕ × ℕ) (keep : ℕ) → IsUnloaded old index fresh keep new → IsUnloaded (in_order order old) index fresh keep (in_order order new)
   unloaded_in old new index fresh keep is = record { pairs = is.pairs; thread = is.thread; first = is.first; revision = is.revision; map = is.map }
@@ -165,7 +165,7 @@ module _ (order : NameOrder) where
     content = elim is.content [
       | inl has ↦ inl (old_in old index (record old.disk { blocks = left }) has)
       | inr both ↦
-          let there : NextMovedOnDisk (in_order order old) index fresh (record (ordered_disk order old.disk) { blocks = left }) = record { leads = both.leads; moved = both.moved; first = both.first } in
+          let there : NextMovedOnDisk (in_order order old) index fresh (record (ordered_disk order old.disk) { blocks = left }) = record { leads = both.leads; moved = both.moved; first = both.first; anew = both.anew } in
           inr there
     ];
   }
@@ -187,6 +187,11 @@ leaves_in g order t device map later later_map leaves = record { geometry = leav
 
 pub stops_in : {before after : List CallEvent} {P Q : Blocks → Type 0} → ((left : Blocks) → P left → Q left) → LossLeavesCleanly before after P → LossLeavesCleanly before after Q
 stops_in f stops clean = HoldsAtLosses-weaker f (stops clean)
+
+-- what holds at Ok holds where the result isn't an error
+pub at_ok : {X : Type 0} (r : Result X Error) {P : Type 0} → OnOk r P → is_err r ≡ false → P
+at_ok (Ok x) h ok = h
+at_ok (Err e) h ok = absurd (cc)
 
 pub on_ok : {X : Type 0} (r : Result X Error) {P Q : Type 0} → (P → Q) → OnOk r P → OnOk r Q
 on_ok (Ok x) f h = f h

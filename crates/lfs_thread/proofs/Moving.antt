@@ -1,5 +1,5 @@
 -- The pair behind another one moves: its copy stands beside the thread, and then the other's tail names the copy.
-use Rattle.std.proofs.Common.{ℕ, suc, ◌≡◌, ◌⊎◌, inl, inr, get_or, ◌+◌, ◌%◌, ◌^◌, ◌<◌, ◌≤◌, ◌==◌, ◌&&◌, true, false, cond, List, [], ◌∷◌, ◌++◌, length, Option, Some, None, refl, sym, ap, ap₂, subst, ◌∙◌, arith, set}
+use Rattle.std.proofs.Common.{ℕ, suc, ◌≡◌, ◌⊎◌, inl, inr, get_or, ◌+◌, ◌%◌, ◌^◌, ◌<◌, ◌≤◌, ◌==◌, ◌&&◌, true, false, cond, List, [], ◌∷◌, ◌++◌, length, Option, Some, None, refl, sym, ap, ap₂, subst, ◌∙◌, arith, set, not, slice_get, flat_map}
 use Rattle.std.proofs.lemmas.Bool.{ne_eqb}
 use Rattle.std.proofs.lemmas.Option.{same_Some}
 use Rattle.std.proofs.lemmas.List.{length-map, length-set, map-append}
@@ -10,19 +10,22 @@ use Rattle.lfs_device.specs.DeviceDisk.{disk_of_blocks}
 use Rattle.lfs_device.specs.declared.geometry.Geometry.{Geometry}
 use Rattle.lfs_model.specs.crash.Stops.{LeftByLoss}
 use Rattle.lfs_model.specs.format.Blocks.{Blocks}
-use Rattle.lfs_model.specs.format.Content.{RawContent, raw_content, content_at, complete_content}
-use Rattle.lfs_model.specs.format.Disk.{Disk, block_count}
+use Rattle.lfs_model.specs.format.Content.{RawContent, raw_content, content_at, complete_content, current_block, current_of_two, has_commit, is_later}
+use Rattle.lfs_model.specs.format.Disk.{Disk, block_count, disk_block}
 use Rattle.lfs_model.specs.format.EntryTypes.{tail_to_pair}
-use Rattle.lfs_model.specs.format.Log.{block_revision}
+use Rattle.lfs_model.specs.format.Log.{LogEntry, block_revision}
 use Rattle.lfs_model.specs.format.Slots.{FitsInPair, PairContent, Tail, null_address}
 use Rattle.lfs_model.specs.format.Thread.{Pair, AreLinked, tail_address_of, blocks_of_pairs}
 use Rattle.lfs_model.specs.layers.BlockSets.{BlockStates, Free, IsUsedBlock}
 use Rattle.lfs_model.specs.layers.Changes.{PairChange, PutTail, changed_content_of}
-use Rattle.lfs_model.specs.layers.LoggedContent.{AreNamed, IsAllowedTail}
+use Rattle.lfs_model.specs.layers.LoggedContent.{AreNamed, AreWellFormed, IsAllowedTail}
+use Rattle.lfs_model.specs.layers.WrittenContent.{content_entries}
+use Rattle.lfs_model.specs.tree.View.{BeginsWith, superblock_entry}
 use Rattle.lfs_model.specs.session.History.{LossLeavesAtWorst, CallEvent, HoldsAtLosses}
 use Rattle.lfs_model.proofs.Completed.{completed_from, completed_parts, fits_raw}
 use Rattle.lfs_model.proofs.Counts.{number_count, count_here, once_from_distinct}
 use Rattle.lfs_model.proofs.Effects.{does_first, does_nothing, puts_tail}
+use Rattle.lfs_model.proofs.FirstEntries.{superblock_anew}
 use Rattle.lfs_model.proofs.Histories.{AllCallsSince-behind, HoldsAtLosses-weaker, HoldsAtLosses-worst, goes_on_by}
 use Rattle.lfs_model.proofs.Staying.{AreElsewhere, raw_content-stays}
 use Rattle.lfs_pair.specs.Commits.{AddressIsOnDisk, CanCommit, CommitsChanges, HasContentMade, HasOldContent, LossLeavesChanged, changed_pair, content_made, KeepsOutsidePair, OutsideStaysUnprogrammed}
@@ -30,10 +33,10 @@ use Rattle.lfs_pair.specs.Copies.{CanCopyPair, IsPairCopied}
 use Rattle.lfs_pair.specs.Pair.{header_address}
 use Rattle.lfs_pair.specs.Split.{AreApart, KeepsOutsideBoth}
 use Rattle.lfs_thread.specs.Kept.{KeptThread, PairHeader, kept_view, disk_pair_at, pairs_of_headers, IsHeader, AllBlocksUsed, IsKeptOnDisk}
-use Rattle.lfs_thread.specs.Moves.{CanMoveNext, IsNextMoved, LossLeavesNextMoved, NextMovedOnDisk, pair_leading_to, pair_moved_to, pair_revision, pairs_with_next_moved}
+use Rattle.lfs_thread.specs.Moves.{BeginsWithAnySuperblock, CanMoveNext, IsNextMoved, LossLeavesNextMoved, NextMovedOnDisk, pair_leading_to, pair_moved_to, pair_revision, pairs_with_next_moved}
 use Rattle.lfs_thread.specs.ThreadDevice.{LossLeavesCleanly}
-use Rattle.lfs_thread.specs.ThreadSteps.{thread_pair_at, empty_anchor, complete_after, CanThreadIn, HasOldPair, map_freeing, map_using}
-use Rattle.lfs_thread.proofs.Keeping.{kept_thread, header-stays, header_content, pair_on_content, blocks_append, used_left, used_right, fresh_elsewhere, IsReplaced, pairs_are, kept_replaced}
+use Rattle.lfs_thread.specs.ThreadSteps.{thread_pair_at, empty_anchor, complete_after, CanThreadIn, HasOldPair, HasSuperblockOf, map_freeing, map_using}
+use Rattle.lfs_thread.proofs.Keeping.{kept_thread, header-stays, header_content, pair_on_content, blocks_append, first_stays, used_left, used_right, fresh_elsewhere, IsReplaced, pairs_are, kept_replaced}
 use Rattle.lfs_thread.proofs.Changing.{IsAt, completes, header_at_index, pair_at_index}
 use Rattle.lfs_thread.proofs.Coming.{SettlesTwo, count_other, held_address, settles_two, two_unused, used_still}
 use Rattle.lfs_thread.proofs.Dropped.{HasNext, both_released, get_behind, here_at, there_at}
@@ -74,6 +77,15 @@ pub revision_there : (disk : Disk) (history : List CallEvent) (hs : List PairHea
     → pair_revision disk (thread_pair_at (kept_view disk history hs sets) index).at ≡ Some h.revision
 revision_there disk history hs sets index h a kept =
     ap (λ (p : Pair). pair_revision disk p.at) (pair_at_index disk history hs sets index h a) ∙ revision_at disk history h (header_at_index disk history hs index h a kept.each)
+
+first_of : (xs ys : List LogEntry) (e : LogEntry) → slice_get xs 0 ≡ Some e → slice_get (xs ++ ys) 0 ≡ Some e
+first_of [] ys e h = absurd (cc)
+first_of (x ∷ xs) ys e h = h
+
+-- the first block holds, since no log is in the second
+first_holds : (a b : List ℕ) → has_commit a ≡ true → has_commit b ≡ false → current_of_two a b ≡ Some a
+first_holds a b first second =
+    ap₂ (λ p q. cond (not p) (cond q (Some b) None) (cond (q && is_later (block_revision a) (block_revision b)) (Some b) (Some a))) first second
 
 -- the header of a copy
 pub record IsCopyHeader (disk : Disk) (history : List CallEvent) (f : PairHeader) (fresh : ℕ × ℕ) (c : PairContent) : Type 0 where
@@ -200,6 +212,18 @@ module _ (disk : Disk) (history : List CallEvent) (hs : List PairHeader) (sets :
       f_elsewhere : AreElsewhere (header_address f) ((header_address h).0 ∷ (header_address h).1 ∷ [])
       f_elsewhere = subst (λ x. AreElsewhere x ((header_address h).0 ∷ (header_address h).1 ∷ [])) (sym copied.holds.same) (fresh_elsewhere apart_from)
 
+      -- a log that was written anew begins with the superblock's entry, where slot 0 is the superblock
+      log_first : HasSuperblockOf (pair_moved_to old (index + 1) fresh).content → BeginsWith (current_block beside fresh) superblock_entry
+      log_first has =
+          let full = subst HasSuperblockOf (sym next_content) has in
+          subst (λ o. BeginsWith o superblock_entry) (sym (first_holds (disk_block beside fresh.0) (disk_block beside fresh.1) copied.fresh_is.anew.has_commit copied.fresh_is.cleared))
+          (ap (λ (cs : List (List LogEntry)). slice_get (flat_map (λ c. c) cs) 0) copied.fresh_is.anew.commits
+          ∙ first_of (content_entries copied.held ++ copied.fresh_is.anew.checksum ∷ []) [] superblock_entry (first_of (content_entries copied.held) (copied.fresh_is.anew.checksum ∷ []) superblock_entry
+          (superblock_anew copied.held is_next.content (subst (λ (r : RawContent). AreWellFormed r.slots) (sym same_held) is_next.is_pair.describes.logged.slots) copy_is.header.complete full.0 full.1)))
+
+      begins_anew : (left : Blocks) → KeepsOutsidePair (header_address h) mid left → BeginsWithAnySuperblock (pair_moved_to old (index + 1) fresh) (record disk { blocks = left })
+      begins_anew left keeps has = first_stays beside (fresh_elsewhere apart_from) keeps superblock_entry (log_first has)
+
       -- ---- a stop in the commit
 
       pub left_by_lead : (left : Blocks) → LossLeavesChanged beside (header_address h) changes left → LossLeavesNextMoved old index fresh left
@@ -220,6 +244,7 @@ module _ (disk : Disk) (history : List CallEvent) (hs : List PairHeader) (sets :
             leads = content_made_there disk history hs sets index h fresh changes here kept can_lead mid then others stay left k.new k.made k.now.content;
             moved = moved;
             first = first_made disk history hs sets index h fresh changes here kept can_lead mid then others stay left k.new k.made k.logged k.now.first;
+            anew = begins_anew left l.others;
           })
 
       -- ---- after the commit
@@ -368,6 +393,7 @@ module _ (disk : Disk) (history : List CallEvent) (hs : List PairHeader) (sets :
           pairs = moved_pairs;
           thread = kept_thread left after headers now moved_kept;
           first = first_made disk history hs sets index h fresh changes here kept can_lead mid then others stay blocks commits.new commits.made commits.logged commits.first;
+          anew = begins_anew blocks keeps;
           revision = ap (pair_revision left) (sym copied.holds.same) ∙ revision_at left after f f_header ∙ ap Some copied.fresh_is.revision_is
               ∙ sym (ap (option_map (λ r. (r + 1) % 2 ^ 32)) (ap (λ (x : Pair). pair_revision disk x.at) next_pair ∙ revision_at disk history n.next is_next));
           map = ap (λ (x : Pair). map_freeing (map_using sets fresh) x.at) (sym next_pair);

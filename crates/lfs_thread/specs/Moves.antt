@@ -6,9 +6,10 @@ use Rattle.lfs_model.specs.format.Disk.{Disk, block_count}
 use Rattle.lfs_model.specs.format.Log.{block_revision}
 use Rattle.lfs_model.specs.format.Slots.{FitsInPair}
 use Rattle.lfs_model.specs.format.Thread.{IsThread, Pair, is_hard_tail}
+use Rattle.lfs_model.specs.tree.View.{BeginsWith, superblock_entry}
 use Rattle.lfs_pair.specs.Split.{KeepsOutsideBoth}
 use Rattle.lfs_thread.specs.Kept.{KeptThread}
-use Rattle.lfs_thread.specs.ThreadSteps.{FreshInFlight, HasOldPair, KeepsSuperblockFirst, map_freeing, map_using, thread_pair_at}
+use Rattle.lfs_thread.specs.ThreadSteps.{FreshInFlight, HasOldPair, HasSuperblockOf, KeepsSuperblockFirst, map_freeing, map_using, thread_pair_at}
 
 -- the revision of the block that is active, of the pair at an address
 abbrev pub pair_revision : Disk → ℕ × ℕ → Option ℕ
@@ -33,12 +34,17 @@ pair_moved_to t index fresh = record (thread_pair_at t index) { at = fresh }
 abbrev pub pairs_with_next_moved : KeptThread → ℕ → ℕ × ℕ → List Pair
 pairs_with_next_moved t index fresh = slice_set (slice_set t.pairs index (pair_leading_to t index fresh)) (index + 1) (pair_moved_to t (index + 1) fresh)
 
+-- If the pair has the superblock in slot 0, its log begins with that entry.
+abbrev pub BeginsWithAnySuperblock : Pair → Disk → Type 0
+BeginsWithAnySuperblock p disk = HasSuperblockOf p.content → BeginsWith (current_block disk p.at) superblock_entry
+
 -- A move that is done: the pair at the index leads to the two blocks. The pair after it has its content there, and the next
 -- revision. Its old blocks are free.
 pub record IsNextMoved (old : KeptThread) (index : ℕ) (fresh : ℕ × ℕ) (new : KeptThread) : Type 0 where
   pub pairs : new.pairs ≡ pairs_with_next_moved old index fresh
   pub thread : IsThread (content_at new.disk) (block_count new.disk) new.pairs
   pub first : KeepsSuperblockFirst old.disk (thread_pair_at old index).at (pair_leading_to old index fresh).content new.disk
+  pub anew : BeginsWithAnySuperblock (pair_moved_to old (index + 1) fresh) new.disk
   pub revision : pair_revision new.disk fresh ≡ option_map (λ r. (r + 1) % 2 ^ 32) (pair_revision old.disk (thread_pair_at old (index + 1)).at)
   pub map : new.map ≡ map_freeing (map_using old.map fresh) (thread_pair_at old (index + 1)).at
 
@@ -47,6 +53,7 @@ pub record NextMovedOnDisk (old : KeptThread) (index : ℕ) (fresh : ℕ × ℕ)
   pub leads : content_at disk (thread_pair_at old index).at ≡ Some (pair_leading_to old index fresh).content
   pub moved : content_at disk fresh ≡ Some (pair_moved_to old (index + 1) fresh).content
   pub first : KeepsSuperblockFirst old.disk (thread_pair_at old index).at (pair_leading_to old index fresh).content disk
+  pub anew : BeginsWithAnySuperblock (pair_moved_to old (index + 1) fresh) disk
 
 -- What a stop leaves of a move: the pair at the index with its old content, or the pair after it moved.
 pub record LossLeavesNextMoved (old : KeptThread) (index : ℕ) (fresh : ℕ × ℕ) (left : Blocks) : Type 0 where

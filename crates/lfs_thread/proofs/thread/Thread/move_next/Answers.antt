@@ -1,4 +1,4 @@
-use Rattle.std.proofs.Common.{◌+◌, subst, sym}
+use Rattle.std.proofs.Common.{◌+◌, ◌∙◌, subst, sym}
 use Rattle.std.specs.Prelude.{OnOk}
 use Rattle.lfs_model.specs.format.Slots.{array_address}
 use Rattle.lfs_model.specs.format.Thread.{address_blocks, addresses_blocks}
@@ -7,7 +7,7 @@ use Rattle.lfs_thread.specs.Kept.{ThreadView, kept_in_order, kept_of_device}
 use Rattle.lfs_thread.specs.Moves.{CanMoveNext, IsNextMoved, LossLeavesNextMoved}
 use Rattle.lfs_thread.specs.ThreadDevice.{LossLeavesCleanly}
 use Rattle.lfs_thread.specs.ThreadSteps.{IoMeantFaultNoMemoryKeptOtherBlocks, ChangesWithinReads, thread_pair_at}
-use Rattle.lfs_thread.proofs.InOrder.{can_move, left_moved_in, moved_in, on_ok, stops_in}
+use Rattle.lfs_thread.proofs.InOrder.{at_ok, can_move, left_moved_in, moved_in, on_ok, stops_in}
 use Rattle.lfs_thread.proofs.Reported.{reported_beside_from, reading_from}
 use Rattle.lfs_thread.proofs.thread.Thread.move_next.Goals as goal
 
@@ -15,6 +15,11 @@ pub move_next_pair-result-requires-clause-can : goal.move_next_pair-result-requi
 move_next_pair-result-requires-clause-can g c =
     can_move c.self.inside.order (kept_of_device g.D.BlockDevice c.self.inside.device c.self.inside.pairs.items c.self.inside.map) c.args.index (array_address c.args.fresh)
     (subst (λ (v : ThreadView). CanMoveNext v.kept c.args.index (array_address c.args.fresh)) (sym c.self.view_is) c.requires.can)
+
+pub invariant_of-self : goal.invariant_of-self
+invariant_of-self g c ok =
+    let e = c.move_next_pair-result.ensures in
+    (at_ok c.move_next_pair-result.result e.kept (sym c.is_err-self-inside.ensures.value ∙ ok), e.current)
 
 pub returns-clause-done : goal.returns-clause-done
 returns-clause-done g c =

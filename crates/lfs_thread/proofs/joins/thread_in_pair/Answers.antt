@@ -1,4 +1,4 @@
-use Rattle.std.proofs.Common.{rules, ◌≤◌, ◌+◌, ◌∙◌, Err, Ok, List, ap, ap₂, arith, subst, sym, set, length, remove}
+use Rattle.std.proofs.Common.{◌≤◌, ◌+◌, ◌∙◌, Err, Ok, List, ap, ap₂, arith, subst, sym, set, length, remove}
 use Rattle.std.proofs.lemmas.Result.{err_from_is_err_and}
 use Rattle.lfs_device.specs.DeviceDisk.{disk_of_blocks}
 use Rattle.lfs_model.specs.format.Blocks.{SameExceptThese}

@@ -1,4 +1,4 @@
-use Rattle.std.proofs.Common.{rules, ◌+◌, sym, ap, ap₂, subst, ◌∙◌, inl, inr, set}
+use Rattle.std.proofs.Common.{◌+◌, sym, ap, ap₂, subst, ◌∙◌, inl, inr, set}
 use Rattle.lfs_device.specs.DeviceDisk.{disk_of_blocks}
 use Rattle.lfs_pair.specs.ChangeView.{changes_view}
 use Rattle.lfs_model.proofs.Histories.{HoldsAtLosses-weaker}

@@ -44,17 +44,15 @@ pub record ReportsIoOrNoMemory {D X : Type 0} (g : Ghosts D) (old new : D) (resu
   pub faults : ReportsFaults g old new result
   pub errors : IfErr result (λ e. (e ≡ Io) ⊎ (e ≡ NoMemory))
 
--- The device is only read. `Io` comes with a fault of the device, success without one, and no other error comes.
+-- The device was only read, and the only error is `Io`.
 pub record OnlyReadsOrIo {D X : Type 0} (g : Ghosts D) (old new : D) (result : Result X Error) : Type 0 where
   pub device : ReadsOnly g old new
-  pub faults : ReportsFaults g old new result
-  pub errors : IfErr result (λ e. e ≡ Io)
+  pub reports : ReportsNoErrorButIo g old new result
 
--- the same of a call that takes memory: `NoMemory` comes without a fault
+-- the same, and `NoMemory` may come too
 pub record OnlyReadsOrNoMemory {D X : Type 0} (g : Ghosts D) (old new : D) (result : Result X Error) : Type 0 where
   pub device : ReadsOnly g old new
-  pub faults : ReportsFaults g old new result
-  pub errors : IfErr result (λ e. (e ≡ Io) ⊎ (e ≡ NoMemory))
+  pub reports : ReportsIoOrNoMemory g old new result
 
 -- There is one read, which fails where the result is `Io`. There is none where memory wasn't granted.
 pub record ReadsOnce {D X : Type 0} (g : Ghosts D) (b off len : ℕ) (old new : D) (result : Result X Error) : Type 0 where

@@ -1,5 +1,5 @@
 -- What the calls on one block, or on the blocks of a list, give.
-use Rattle.std.specs.Prelude.{◌≡◌, ◌≤◌, ◌<◌, ◌+◌, ◌-◌, ◌*◌, ◌^◌, ◌++◌, ◌∷◌, [], ℕ, List, Result, Err, IfOk, IsErrOf, OnOk, drop, length, slice_index, take}
+use Rattle.std.specs.Prelude.{◌≡◌, ◌≤◌, ◌<◌, ◌+◌, ◌-◌, ◌*◌, ◌^◌, ◌++◌, ◌∷◌, [], ℕ, List, Result, IfOk, IsErrOf, OnOk, drop, length, slice_index, take}
 use Rattle.lfs_device.specs.declared.error.Error.{Error}
 use Rattle.lfs_device.specs.declared.error.Error.TheVariants.{Corrupt}
 use Rattle.lfs_model.specs.format.Blocks.{Blocks, block_bytes}

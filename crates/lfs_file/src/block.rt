@@ -1,13 +1,9 @@
-ghost use Rattle.std.specs.Prelude.{[], ◌∷◌, ◌≡◌, ◌≤◌, ◌<◌, ◌+◌, ◌-◌, ◌*◌, ◌%◌, ◌^◌, ◌++◌, ℕ, List, length, take, drop, OnOk, slice_index};
+ghost use Rattle.std.specs.Prelude.{[], ◌∷◌, ◌≡◌, ◌≤◌, ◌<◌, ◌+◌, ◌-◌, ◌*◌, ◌^◌, ◌++◌, ℕ, List, length, take, drop, OnOk, slice_index};
 ghost use Rattle.byteorder.specs.Endian.{little_bytes};
-ghost use Rattle.lfs_file.specs.Appended.{IsBlockAppended};
 ghost use Rattle.lfs_device.specs.DeviceCalls.{ChangesOnlyThisBlock, ReadsOnly, ReportsNoErrorButIo};
-ghost use Rattle.lfs_file.specs.Counts.{WritesOnce};
-ghost use Rattle.lfs_file.specs.Extending.{IsDeviceBlockOutsideFullBlocksOfList};
 ghost use Rattle.lfs_file.specs.Front.{KeepsFullBlocks, ReadsUnknownPointers};
 ghost use Rattle.lfs_file.specs.Known.{ArePointersKnown, OnlyBelowKnown, AreKnownBlocks, ArePointedKnown};
-ghost use Rattle.lfs_model.specs.format.Blocks.{block_bytes};
-ghost use Rattle.lfs_model.specs.format.SkipLists.{AreListBlocks, blocks_to_head, pointer_count, word_at};
+ghost use Rattle.lfs_model.specs.format.SkipLists.{blocks_to_head, pointer_count, word_at};
 ghost use Rattle.lfs_file.specs.CallPremises.{CanPutPointers, CanWriteBlock};
 ghost use Rattle.lfs_file.specs.BlockCalls.{IsAppendedWith, PutsPointers, WritesOneBlock};
 

@@ -1,18 +1,15 @@
-ghost use Rattle.std.specs.Prelude.{◌≡◌, ◌≤◌, ◌<◌, ◌+◌, ◌-◌, ◌*◌, ◌^◌, ◌++◌, ◌∷◌, [], length, take, drop, replicate, OnOk, IfOk, IfErr};
+ghost use Rattle.std.specs.Prelude.{◌≡◌, ◌≤◌, ◌<◌, ◌+◌, ◌-◌, ◌*◌, ◌^◌, ◌++◌, ◌∷◌, [], length, take, replicate, OnOk, IfOk, IfErr};
 ghost use Rattle.std.specs.Bool.{OnFalse, OnTrue};
-ghost use Rattle.lfs_file.specs.Appended.{IsBlockAppended};
 ghost use Rattle.lfs_device.specs.DeviceCalls.{ChangesOnlyTheseBlocks, ChangesOnlyThisBlock, ReadsOnly, ReportsIoOrNoMemory, ReportsNoErrorButIo};
 ghost use Rattle.lfs_file.specs.Counts.{WritesOnce};
-ghost use Rattle.lfs_file.specs.Extended.{ListHasBytes};
-ghost use Rattle.lfs_file.specs.Extending.{CanFinishGrowingList, IsDeviceBlockOutsideFullBlocksOfList, CanPushBytesToList, CanResumeList, IsBufferOf, HasPushedBytes, IsResumedList, IsEmptyList};
+ghost use Rattle.lfs_file.specs.Extending.{CanFinishGrowingList, CanPushBytesToList, CanResumeList, IsBufferOf, HasPushedBytes, IsResumedList, IsEmptyList};
 ghost use Rattle.lfs_file.specs.FewReads.{FillsFew, ResumesFew, WritesLastFew};
 ghost use Rattle.lfs_file.specs.Fields.{IsExtender, growing_view};
 ghost use Rattle.lfs_file.specs.Finished.{IsListOf};
 ghost use Rattle.lfs_file.specs.Growing.{IsAllBuffered, HasUnwrittenAmong, growing_blocks, fit_unwritten, growing_bytes, growing_size, appended_count, block_for_next, unwritten_block};
-ghost use Rattle.lfs_file.specs.Known.{AreKnownBlocks};
-ghost use Rattle.lfs_model.specs.format.Blocks.{block_bytes, overwritten_at};
+ghost use Rattle.lfs_model.specs.format.Blocks.{overwritten_at};
 ghost use Rattle.lfs_model.specs.session.Writers.{written_contents as with_bytes};
-ghost use Rattle.lfs_model.specs.format.SkipLists.{blocks_to_head, block_count_for, pointer_count};
+ghost use Rattle.lfs_model.specs.format.SkipLists.{block_count_for};
 ghost use Rattle.lfs_file.specs.CallPremises.{CanFillBlock, CanWriteLastBlock};
 ghost use Rattle.lfs_file.specs.BlockCalls.{FillsOneBlock, FinishCalls, HasFilledBlock, IsAppendedWith};
 

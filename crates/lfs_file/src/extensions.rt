@@ -1,11 +1,8 @@
 // Extensions of lists in hand, in blocks of the map.
 
-ghost use Rattle.std.specs.Prelude.{◌≡◌, ◌≤◌, ◌<◌, ◌+◌, ◌++◌, ◌^◌, ℕ, length, OnOk};
-ghost use Rattle.lfs_model.specs.layers.BlockSets.{in_flight_count, used_count};
-ghost use Rattle.lfs_model.specs.format.SkipLists.{block_count_for};
+ghost use Rattle.std.specs.Prelude.{◌<◌, ◌+◌, ◌++◌, length, OnOk};
 ghost use Rattle.lfs_device.specs.DeviceCalls.{ReportsIoOrNoMemory};
-ghost use Rattle.lfs_file.specs.Growing.{IsOnDisk, kept_blocks, unwritten_block, growing_bytes, growing_size};
-ghost use Rattle.lfs_file.specs.BlocksApart.{HasBlocksTaken};
+ghost use Rattle.lfs_file.specs.Growing.{unwritten_block, growing_bytes, growing_size};
 ghost use Rattle.lfs_file.specs.ContentsCalls.{CallKeepsTakenBlocksExceptUnwritten};
 ghost use Rattle.lfs_file.specs.Extensions.{IsExtended};
 ghost use Rattle.lfs_file.specs.TakenBlocks.{ChangesOnlyFree};

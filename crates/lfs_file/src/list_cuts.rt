@@ -1,6 +1,6 @@
 // Cuts of finished lists.
 
-ghost use Rattle.std.specs.Prelude.{◌≡◌, ◌≤◌, take, IfOk};
+ghost use Rattle.std.specs.Prelude.{◌≤◌, take, IfOk};
 ghost use Rattle.lfs_device.specs.DeviceCalls.{OnlyReadsOrIo};
 ghost use Rattle.lfs_file.specs.Hand.{FinishedListOnDisk, KeepsUsedBlocks, stored_list_bytes};
 ghost use Rattle.lfs_file.specs.HandWrites.{IsFinishedOf};

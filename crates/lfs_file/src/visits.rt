@@ -1,11 +1,10 @@
-ghost use Rattle.std.specs.Prelude.{◌≡◌, ◌≤◌, ◌<◌, ◌+◌, ◌*◌, ◌^◌, ℕ, true, false, length, OnOk, IfOk, IsErrOf, reverse};
+ghost use Rattle.std.specs.Prelude.{◌≡◌, ◌≤◌, ◌<◌, ◌+◌, ◌*◌, true, false, length, OnOk, IfOk, IsErrOf, reverse};
 ghost use Rattle.std.specs.List.{FoldsTo};
 ghost use Rattle.lfs_model.specs.format.Blocks.{block_bytes};
 ghost use Rattle.lfs_model.specs.format.SkipLists.{IsSkipList, blocks_to_head, block_count_for, word_at};
 ghost use Rattle.lfs_file.specs.FileCalls.{OnlyReadsOrCorrupt};
 ghost use Rattle.lfs_file.specs.Right.{LaterPointersName, ArePointersCopied};
-ghost use Rattle.lfs_file.specs.Way.{HasNotedPointers, ReadsUnlessNoted};
-ghost use Rattle.lfs_model.specs.session.History.{read_count};
+ghost use Rattle.lfs_file.specs.Way.{ReadsUnlessNoted};
 ghost use Rattle.lfs_file.specs.CallPremises.{CanCheckBlock};
 ghost use Rattle.lfs_file.specs.BlockCalls.{ChecksBlock, IsListReadOnce};
 

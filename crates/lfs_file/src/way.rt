@@ -6,7 +6,7 @@ ghost use Rattle.lfs_model.specs.session.History.{read_count};
 ghost use Rattle.lfs_model.specs.format.SkipLists.{AreListBlocks, blocks_to_head, word_at};
 ghost use Rattle.lfs_file.specs.FileCalls.{OnlyReadsOrCorrupt};
 ghost use Rattle.lfs_file.specs.Right.{ArePointersCopied};
-ghost use Rattle.lfs_file.specs.Way.{HasNotedPointers, IsIndexVisited, HasNotedWalk, ReadsUnlessNoted, visit_count};
+ghost use Rattle.lfs_file.specs.Way.{IsIndexVisited, HasNotedWalk, ReadsUnlessNoted, visit_count};
 ghost use Rattle.lfs_file.specs.CallPremises.{CanCopyPointers};
 
 use crate::read::{pointer_count_at, read_into_range};

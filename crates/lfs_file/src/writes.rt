@@ -1,16 +1,13 @@
 // Bytes that are written at a place.
 
-ghost use Rattle.std.specs.Prelude.{◌≡◌, ◌≤◌, ◌<◌, ◌+◌, ◌++◌, ◌^◌, ◌&&◌, ◌==◌, length, min, OnOk};
+ghost use Rattle.std.specs.Prelude.{◌≡◌, ◌<◌, ◌+◌, ◌++◌, ◌^◌, ◌&&◌, ◌==◌, length, OnOk};
 ghost use Rattle.std.specs.Bool.{OnFalse, OnTrue};
-ghost use Rattle.lfs_model.specs.layers.BlockSets.{used_count};
-ghost use Rattle.lfs_model.specs.format.SkipLists.{block_count_for};
 ghost use Rattle.lfs_model.specs.session.Writers.{written_contents};
 ghost use Rattle.lfs_device.specs.DeviceCalls.{ReportsIoOrNoMemory};
 ghost use Rattle.lfs_file.specs.Growing.{fit_unwritten, growing_size};
 ghost use Rattle.lfs_file.specs.ContentsCalls.{CallKeepsUsedBytes};
 ghost use Rattle.lfs_file.specs.Hand.{KeepsUsedBlocks};
-ghost use Rattle.lfs_file.specs.BaseRoom.{in_flight_limit};
-ghost use Rattle.lfs_file.specs.HandWrites.{UnfinishedListOnDisk, IsWrittenTo, unfinished_bytes, unfinished_length};
+ghost use Rattle.lfs_file.specs.HandWrites.{IsWrittenTo, unfinished_bytes};
 ghost use Rattle.lfs_file.specs.BlockOwners.{KeepsStoredBlocks};
 ghost use Rattle.lfs_file.specs.CallPremises.{CanAppendToUnfinished, CanFillAndWrite};
 

@@ -1,15 +1,12 @@
 // Gaps that are filled with zeros.
 
-ghost use Rattle.std.specs.Prelude.{◌≡◌, ◌≤◌, ◌<◌, ◌+◌, ◌^◌, length, replicate, OnOk};
-ghost use Rattle.lfs_model.specs.layers.BlockSets.{used_count};
-ghost use Rattle.lfs_model.specs.format.SkipLists.{block_count_for};
+ghost use Rattle.std.specs.Prelude.{◌<◌, ◌+◌, replicate, OnOk};
 ghost use Rattle.lfs_model.specs.session.Writers.{written_contents};
 ghost use Rattle.lfs_device.specs.DeviceCalls.{ReportsIoOrNoMemory};
 ghost use Rattle.lfs_file.specs.Growing.{growing_size};
 ghost use Rattle.lfs_file.specs.ContentsCalls.{CallKeepsUsedBytes};
 ghost use Rattle.lfs_file.specs.Hand.{KeepsUsedBlocks};
-ghost use Rattle.lfs_file.specs.BaseRoom.{in_flight_limit};
-ghost use Rattle.lfs_file.specs.HandWrites.{UnfinishedListOnDisk, EndsInZeros, unfinished_bytes};
+ghost use Rattle.lfs_file.specs.HandWrites.{EndsInZeros, unfinished_bytes};
 ghost use Rattle.lfs_file.specs.BlockOwners.{KeepsStoredBlocks};
 ghost use Rattle.lfs_file.specs.CallPremises.{CanWriteZeros};
 

@@ -2,6 +2,7 @@ pub mod Kept
 pub mod ThreadDevice
 pub mod ThreadSteps
 pub mod CachedLog
+pub mod CachedCalls
 pub mod Begun
 pub mod HeaderReading
 pub mod MountErrors

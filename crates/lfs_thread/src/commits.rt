@@ -4,14 +4,16 @@ ghost use Rattle.std.specs.Prelude.{◌≡◌, ◌+◌, IfOk, option_map};
 ghost use Rattle.lfs_model.specs.layers.Cache.{cached_bytes, cache_without_block};
 ghost use Rattle.lfs_model.specs.format.Slots.{array_address};
 ghost use Rattle.lfs_pair.specs.ChangeView.{changes_view};
-ghost use Rattle.lfs_pair.specs.Commits.{CanCommit, CommitsChanges, RefusesCommit, LossLeavesChanged};
+ghost use Rattle.lfs_pair.specs.Commits.{LossLeavesChanged};
 ghost use Rattle.lfs_pair.specs.Pair.{header_address};
-ghost use Rattle.lfs_pair.specs.Split.{CanSplitPair, LossLeavesSplit, SplitsPair};
+ghost use Rattle.lfs_pair.specs.Split.{LossLeavesSplit, SplitsPair};
 ghost use Rattle.lfs_pair.specs.Writing.{ChangesOnlyBlocksWithinReadLimit};
 ghost use Rattle.lfs_thread.specs.Kept.{IsCacheCurrent, disk_of_device};
 ghost use Rattle.lfs_thread.specs.CachedLog.{reads_unless_cached};
 ghost use Rattle.lfs_thread.specs.ThreadDevice.{LossLeavesCleanly, IoMeansFaultNoMemoryWritesNothing};
 ghost use Rattle.lfs_model.specs.format.Thread.{address_blocks, addresses_blocks};
+ghost use Rattle.lfs_thread.specs.CachedCalls.{CanCommitCached, CanSplitCached};
+ghost use Rattle.lfs_pair.specs.Endings.{CommitEnds};
 
 use lfs_blocks::Cache;
 use lfs_device::{BlockDevice, Error};
@@ -27,11 +29,8 @@ pub(crate) fn commit_with_cache<D: BlockDevice>(
     pair: &mut Pair,
     changes: &[Change<'_>],
 ) -> Result<Outcome, Error>
-    requires can { CanCommit (disk_of_device D.BlockDevice device.old) (D.history device.old) pair.old (changes_view changes.now) }
-    requires current { IsCacheCurrent (D.blocks device.old) cache.old }
-    ensures done { result ≡ Ok Outcome.Done
-        → CommitsChanges (disk_of_device D.BlockDevice device.old) (D.history device.old) (changes_view changes.now) pair.old (disk_of_device D.BlockDevice device.new) (D.history device.new) pair.new }
-    ensures full { result ≡ Ok Outcome.Full → RefusesCommit D.BlockDevice (changes_view changes.now) device.old device.new pair.old pair.new }
+    requires { CanCommitCached D.BlockDevice device.old cache.old pair.old (changes_view changes.now) }
+    ensures ends { CommitEnds D.BlockDevice (changes_view changes.now) device.old device.new pair.old pair.new result }
     ensures current { IsCacheCurrent (D.blocks device.new) cache.new }
     ensures device { ChangesOnlyBlocksWithinReadLimit D.BlockDevice (1 + reads_unless_cached (cached_bytes cache.old pair.old.active)) (address_blocks (header_address pair.old)) device.old device.new }
     ensures errors { IoMeansFaultNoMemoryWritesNothing D.BlockDevice device.old device.new result }
@@ -54,8 +53,7 @@ pub(crate) fn split_with_cache<D: BlockDevice>(
     fresh: [u32; 2],
     changes: &[Change<'_>],
 ) -> Result<Pair, Error>
-    requires can { CanSplitPair (disk_of_device D.BlockDevice device.old) (D.history device.old) pair.old (array_address fresh) (changes_view changes.now) }
-    requires current { IsCacheCurrent (D.blocks device.old) cache.old }
+    requires { CanSplitCached D.BlockDevice device.old cache.old pair.old (array_address fresh) (changes_view changes.now) }
     ensures splits { IfOk result (λ fresh_pair. SplitsPair (disk_of_device D.BlockDevice device.old) (D.history device.old) (changes_view changes.now) pair.old (array_address fresh)
         (disk_of_device D.BlockDevice device.new) (D.history device.new) pair.new fresh_pair) }
     ensures current { IsCacheCurrent (D.blocks device.new) cache.new }

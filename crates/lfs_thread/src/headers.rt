@@ -1,11 +1,10 @@
 // The headers of a thread, read from a device.
 
-ghost use Rattle.std.specs.Prelude.{◌≡◌, ◌+◌, [], length, replicate, sum_by, IfErr, IfOk, List, OnOk};
+ghost use Rattle.std.specs.Prelude.{◌≡◌, ◌+◌, [], length, sum_by, IfErr, IfOk, List, OnOk};
 ghost use Rattle.std.specs.Option.{option_map};
 ghost use Rattle.lfs_model.specs.format.Slots.{array_address};
 ghost use Rattle.lfs_tag.specs.ContentView.{tail_view};
 ghost use Rattle.lfs_model.specs.layers.BlockSets.{AreInFlight, AreUsed};
-ghost use Rattle.lfs_model.specs.layers.BlockSets.BlockState.{Free};
 ghost use Rattle.lfs_model.specs.session.History.{read_count};
 ghost use Rattle.lfs_model.specs.format.Thread.{Pair as ThreadPair, blocks_of_pairs, tail_address_of};
 ghost use Rattle.lfs_pair.specs.Pair.{header_address, fetch_reads};
@@ -13,6 +12,7 @@ ghost use Rattle.lfs_thread.specs.Begun.{AreBeforeAddress};
 ghost use Rattle.lfs_thread.specs.Kept.{IsKept, disk_of_device, pairs_of_headers};
 ghost use Rattle.lfs_thread.specs.MountErrors.{IsViolationTrue, OnlyReadsUnlessFault};
 ghost use Rattle.lfs_thread.specs.HeaderReading.{IsReadAndMarked};
+ghost use Rattle.lfs_thread.specs.CachedCalls.{IsThreadUnread};
 
 use crate::mount_error::MountError;
 use lfs_blocks::BlockMap;
@@ -29,8 +29,7 @@ pub(crate) fn read_thread_headers<D: BlockDevice>(
     pairs: &mut Vec<Pair>,
     map: &mut BlockMap,
 ) -> Result<(), MountError>
-    requires none { pairs.old.items ≡ [] }
-    requires free { map.old ≡ replicate (D.geometry device.old).block_count Free }
+    requires { IsThreadUnread pairs.old.items map.old (D.geometry device.old).block_count }
     ensures kept { OnOk result (IsKept D.BlockDevice device.new pairs.new.items map.new) }
     ensures marked { OnOk result (AreUsed map.new (blocks_of_pairs (pairs_of_headers (disk_of_device D.BlockDevice device.new) pairs.new.items)) × AreInFlight map.new []) }
     ensures broken { IfErr result (λ e. IsViolationTrue (disk_of_device D.BlockDevice device.old) e) }

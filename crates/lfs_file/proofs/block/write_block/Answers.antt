@@ -1,4 +1,4 @@
-use Rattle.std.proofs.Common.{rules, ℕ, ◌≡◌, ◌-◌, ◌*◌, ◌<◌, ◌^◌, ◌++◌, List, length, take, drop, slice_index, refl, ap, subst, ◌∙◌, arith}
+use Rattle.std.proofs.Common.{ℕ, ◌≡◌, ◌-◌, ◌*◌, ◌<◌, ◌^◌, ◌++◌, List, length, take, drop, slice_index, refl, ap, subst, ◌∙◌, arith}
 use Rattle.lfs_model.proofs.Overwrites.{SameExcept-trans}
 use Rattle.lfs_model.proofs.Histories.{erase_count-read_count, program_count-read_count}
 use Rattle.lfs_model.specs.format.Blocks.{Blocks, SameExcept, block_bytes}

@@ -29,7 +29,7 @@ loop-page-init g c = record {
 pub returns-in_err-prog-clause-device : goal.returns-in_err-prog-clause-device
 returns-in_err-prog-clause-device g c =
     ChangesOnlyThisBlock-trans g.D.BlockDevice c.loop-page.invariant.device
-    (ChangesOnlyThisBlock-program g.D.BlockDevice c.prog.ensures.history c.prog.ensures.others c.prog.ensures.geometry)
+    (ChangesOnlyThisBlock-program g.D.BlockDevice c.prog.ensures.history c.prog.ensures.programs.others c.prog.ensures.geometry)
 
 -- one page more
 front : (g : _) (c : goal.In_ok-prog g) → take ((c.loop-page.page + 1) * c.geometry-geometry.result.page) (block_bytes (g.D.BlockDevice.blocks c.prog.new.self) c.args.to)
@@ -49,7 +49,7 @@ front g c =
     let there : c.args.to < length mid = omega (arith, shape.count, c.loop-page.invariant.device.others.count, c.requires.to) in
     let fits : off ≤ length (block_bytes mid c.args.to) = omega (arith, room, known, c.loop-page.invariant.device.others.size, shape.sizes c.args.to c.requires.to) in
     ap (λ k. take k (block_bytes new c.args.to)) next
-    ∙ ap (λ (d : Blocks). take (off + n) (block_bytes d c.args.to)) c.in_ok-prog.ensures.ok
+    ∙ ap (λ (d : Blocks). take (off + n) (block_bytes d c.args.to)) c.in_ok-prog.ensures.programs.ok
     ∙ ap (λ (b : List ℕ). take (off + n) b) (block_bytes-set mid c.args.to _ there)
     ∙ ap (λ k. take (off + n) (overwritten_at (block_bytes mid c.args.to) off (take k (drop off c.deref.result.now)))) (omega arith)
     ∙ ap (λ (s : List ℕ). take (off + n) (overwritten_at (block_bytes mid c.args.to) off (take n (drop off s)))) source
@@ -59,7 +59,7 @@ front g c =
 pub loop-page-preserved : goal.loop-page-preserved
 loop-page-preserved g c = record {
   device = ChangesOnlyThisBlock-trans g.D.BlockDevice c.loop-page.invariant.device
-      (ChangesOnlyThisBlock-program g.D.BlockDevice c.prog.ensures.history c.prog.ensures.others c.prog.ensures.geometry);
+      (ChangesOnlyThisBlock-program g.D.BlockDevice c.prog.ensures.history c.prog.ensures.programs.others c.prog.ensures.geometry);
   front = front g c;
   unprogrammed = is_unprogrammed_byte-program c.prog.ensures.history c.loop-page.invariant.unprogrammed (grind arith) (grind arith);
   erases = search rules;

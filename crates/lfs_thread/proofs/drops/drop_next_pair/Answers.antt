@@ -1,4 +1,4 @@
-use Rattle.std.proofs.Common.{length, ◌<◌, sym, ap, ap₂, subst, ◌∙◌, set, Ok}
+use Rattle.std.proofs.Common.{rules, length, ◌<◌, sym, ap, ap₂, subst, ◌∙◌, set, Ok}
 use Rattle.std.proofs.lemmas.List.{length-set}
 use Rattle.lfs_device.specs.DeviceDisk.{disk_of_blocks}
 use Rattle.lfs_model.specs.layers.BlockSets.{BlockStates, Free}
@@ -12,10 +12,13 @@ use Rattle.lfs_thread.proofs.Dropped.{next_there, here_at, gone_is, next_used, d
 use Rattle.lfs_thread.proofs.drops.drop_next_pair.Goals as goal
 use Rattle.lfs_model.specs.format.Thread.{address_blocks}
 
-pub commit_with_cache-requires-clause-can : goal.commit_with_cache-requires-clause-can
-commit_with_cache-requires-clause-can g c =
-    let n = next_there (disk_of_blocks (g.D.BlockDevice.geometry c.args.device.now) (g.D.BlockDevice.blocks c.args.device.now)) c.args.pairs.now.items c.args.index c.index_mut.result.now c.requires.can.below c.index_mut.ensures.value in
-    can_commit _ _ c.args.pairs.now.items c.args.map.now c.args.index _ _ (here_at _ _ _ n) c.requires.kept c.requires.can.content c.requires.can.made
+pub commit_with_cache-requires : goal.commit_with_cache-requires
+commit_with_cache-requires g c = record {
+  can =
+      let n = next_there (disk_of_blocks (g.D.BlockDevice.geometry c.args.device.now) (g.D.BlockDevice.blocks c.args.device.now)) c.args.pairs.now.items c.args.index c.index_mut.result.now c.requires.can.below c.index_mut.ensures.value in
+      can_commit _ _ c.args.pairs.now.items c.args.map.now c.args.index _ _ (here_at _ _ _ n) c.requires.kept c.requires.can.content c.requires.can.made;
+  current = search rules;
+}
 
 pub returns-in_err-outcome-clause-stops : goal.returns-in_err-outcome-clause-stops
 returns-in_err-outcome-clause-stops g c cleanly =
@@ -37,14 +40,14 @@ returns-in-Full-clause-kept g c =
     let n = next_there (disk_of_blocks (g.D.BlockDevice.geometry c.args.device.now) (g.D.BlockDevice.blocks c.args.device.now)) c.args.pairs.now.items c.args.index c.index_mut.result.now c.requires.can.below c.index_mut.ensures.value in
     let e = c.in_ok-outcome.ensures in
     let full = ap Ok c.in-Full.is in
-    full_kept _ _ _ _ c.args.pairs.now.items _ c.args.index _ _ (here_at _ _ _ n) c.requires.kept (ap₂ disk_of_blocks (e.full full).device.geometry (e.full full).device.same) (e.full full).pair (e.full full).device.reads
+    full_kept _ _ _ _ c.args.pairs.now.items _ c.args.index _ _ (here_at _ _ _ n) c.requires.kept (ap₂ disk_of_blocks (e.ends.full full).device.geometry (e.ends.full full).device.same) (e.ends.full full).pair (e.ends.full full).device.reads
 
 pub returns-in-Full-clause-full : goal.returns-in-Full-clause-full
 returns-in-Full-clause-full g c _ =
     let n = next_there (disk_of_blocks (g.D.BlockDevice.geometry c.args.device.now) (g.D.BlockDevice.blocks c.args.device.now)) c.args.pairs.now.items c.args.index c.index_mut.result.now c.requires.can.below c.index_mut.ensures.value in
     let e = c.in_ok-outcome.ensures in
     let full = ap Ok c.in-Full.is in
-    refused _ _ _ _ c.args.pairs.now.items _ c.args.index _ _ _ c.requires.can.content (here_at _ _ _ n) c.requires.can.made (e.full full).completed (ap₂ disk_of_blocks (e.full full).device.geometry (e.full full).device.same) (e.full full).pair (e.full full).device.reads
+    refused _ _ _ _ c.args.pairs.now.items _ c.args.index _ _ _ c.requires.can.content (here_at _ _ _ n) c.requires.can.made (e.ends.full full).completed (ap₂ disk_of_blocks (e.ends.full full).device.geometry (e.ends.full full).device.same) (e.ends.full full).pair (e.ends.full full).device.reads
 
 pub release-requires : goal.release-requires
 release-requires g c =
@@ -64,7 +67,7 @@ returns-clause-kept g c =
     let n = next_there (disk_of_blocks (g.D.BlockDevice.geometry c.args.device.now) (g.D.BlockDevice.blocks c.args.device.now)) c.args.pairs.now.items c.args.index c.index_mut.result.now c.requires.can.below c.index_mut.ensures.value in
     let gone = gone_is _ _ _ _ _ n c.remove-gone.ensures.value in
     let e = c.in_ok-outcome.ensures in
-    device_dropped _ _ _ _ _ _ _ _ _ _ _ _ e.device.only.geometry n c.requires.kept c.requires.can (e.done (ap Ok c.in_default.is)) e.device.only.others e.device.only.elsewhere _ c.remove-gone.ensures.items _
+    device_dropped _ _ _ _ _ _ _ _ _ _ _ _ e.device.only.geometry n c.requires.kept c.requires.can (e.ends.done (ap Ok c.in_default.is)) e.device.only.others e.device.only.elsewhere _ c.remove-gone.ensures.items _
     (c.release-2.ensures ∙ ap (λ (s : BlockStates). set s (header_address c.remove-gone.result).1 Free) c.release.ensures ∙ ap (λ (h : PairHeader). map_freeing c.args.map.now (header_address h)) gone)
 
 pub returns-clause-is_dropped : goal.returns-clause-is_dropped
@@ -72,7 +75,7 @@ returns-clause-is_dropped g c _ =
     let n = next_there (disk_of_blocks (g.D.BlockDevice.geometry c.args.device.now) (g.D.BlockDevice.blocks c.args.device.now)) c.args.pairs.now.items c.args.index c.index_mut.result.now c.requires.can.below c.index_mut.ensures.value in
     let gone = gone_is _ _ _ _ _ n c.remove-gone.ensures.value in
     let e = c.in_ok-outcome.ensures in
-    device_is_dropped _ _ _ _ _ _ _ _ _ _ _ _ e.device.only.geometry n c.requires.kept c.requires.can (e.done (ap Ok c.in_default.is)) e.device.only.others e.device.only.elsewhere _ c.remove-gone.ensures.items _
+    device_is_dropped _ _ _ _ _ _ _ _ _ _ _ _ e.device.only.geometry n c.requires.kept c.requires.can (e.ends.done (ap Ok c.in_default.is)) e.device.only.others e.device.only.elsewhere _ c.remove-gone.ensures.items _
     (c.release-2.ensures ∙ ap (λ (s : BlockStates). set s (header_address c.remove-gone.result).1 Free) c.release.ensures ∙ ap (λ (h : PairHeader). map_freeing c.args.map.now (header_address h)) gone)
 
 pub returns-in_err-outcome-clause-device : goal.returns-in_err-outcome-clause-device

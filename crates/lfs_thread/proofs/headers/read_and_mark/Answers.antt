@@ -43,8 +43,8 @@ returns-in-Err-clause-broken g c before is =
     let second : (array_address c.args.at).1 < (g.D.BlockDevice.geometry c.args.device.now).block_count = search rules in
     let on = on_disk (disk_of_device g.D.BlockDevice c.args.device.now) _ (array_address c.args.at) (g.met.D.BlockDevice.shape c.args.device.now).count apart first second in
     subst (IsViolationTrue (disk_of_device g.D.BlockDevice c.args.device.now)) (sym c.of.ensures)
-    (true_of _ c.in-Err.error (NoContent c.args.at) c.in-Err.ensures.errors
-    (λ corrupt. ((before, is.begins), (on.first, on.second), ap (option_and_then complete_content) (c.in-Err.ensures.corrupt (ap Err corrupt)))))
+    (true_of _ c.in-Err.error (NoContent c.args.at) c.in-Err.ensures.fails.errors
+    (λ corrupt. ((before, is.begins), (on.first, on.second), ap (option_and_then complete_content) (c.in-Err.ensures.fails.corrupt (ap Err corrupt)))))
 
 pub returns-else-pair-clause-broken : goal.returns-else-pair-clause-broken
 returns-else-pair-clause-broken g c before is =

@@ -43,14 +43,14 @@ returns-in_err-fresh_pair-clause-stops g c cleanly =
     let e = c.in_err-fresh_pair.ensures in
     device_left_beside _ _ _ _ _ _ c.args.pairs.now.items c.args.map.now c.args.index c.index.result.now (array_address c.args.fresh) _ e.device.only.geometry a c.requires.kept c.requires.can e.device.only.others e.device.only.elsewhere e.device.only.at_worst
 
-pub commit_with_cache-requires-clause-can : goal.commit_with_cache-requires-clause-can
-commit_with_cache-requires-clause-can g c =
-    let a = at_there (disk_of_device g.D.BlockDevice c.args.device.now) c.args.pairs.now.items c.args.index c.index.result.now c.requires.can.below c.index.ensures in
-    let e = c.in_ok-fresh_pair.ensures in
-    device_can _ _ _ _ _ _ c.args.pairs.now.items c.args.map.now c.args.index c.index.result.now (array_address c.args.fresh) _ e.device.only.geometry a c.requires.kept c.requires.can e.device.only.others e.device.only.elsewhere
-
-pub commit_with_cache-requires-clause-current : goal.commit_with_cache-requires-clause-current
-commit_with_cache-requires-clause-current g c = current_but_two _ _ _ _ (array_address c.args.fresh) c.requires.current c.forget_cached_pair.ensures c.in_ok-fresh_pair.ensures.device.only.others
+pub commit_with_cache-requires : goal.commit_with_cache-requires
+commit_with_cache-requires g c = record {
+  can =
+      let a = at_there (disk_of_device g.D.BlockDevice c.args.device.now) c.args.pairs.now.items c.args.index c.index.result.now c.requires.can.below c.index.ensures in
+      let e = c.in_ok-fresh_pair.ensures in
+      device_can _ _ _ _ _ _ c.args.pairs.now.items c.args.map.now c.args.index c.index.result.now (array_address c.args.fresh) _ e.device.only.geometry a c.requires.kept c.requires.can e.device.only.others e.device.only.elsewhere;
+  current = current_but_two _ _ _ _ (array_address c.args.fresh) c.requires.current c.forget_cached_pair.ensures c.in_ok-fresh_pair.ensures.device.only.others;
+}
 
 pub returns-in_err-outcome-clause-device : goal.returns-in_err-outcome-clause-device
 returns-in_err-outcome-clause-device g c =
@@ -96,7 +96,7 @@ returns-in-Full-clause-kept g c =
     let disk = disk_of_device g.D.BlockDevice c.args.device.now in
     let a = at_there disk c.args.pairs.now.items c.args.index c.index.result.now c.requires.can.below c.index.ensures in
     let e = c.in_ok-fresh_pair.ensures in
-    let full = (c.in_ok-outcome.ensures.full (ap Ok c.in-Full.is)).device in
+    let full = (c.in_ok-outcome.ensures.ends.full (ap Ok c.in-Full.is)).device in
     let items = c.remove.ensures.items ∙ ap (λ (z : List PairHeader). remove z (c.args.index + 1)) c.in_ok-insert.ensures.items ∙ unplaced _ _ _ _ a in
     subst (λ (z : List PairHeader). IsKeptOnDisk (disk_of_device g.D.BlockDevice c.commit_with_cache.new.device) (g.D.BlockDevice.history c.commit_with_cache.new.device) z c.args.map.now) (sym items)
     (beside_read _ _ _ _ _ _ c.args.pairs.now.items c.args.map.now c.args.index c.index.result.now (array_address c.args.fresh) _ e.device.only.geometry a c.requires.kept c.requires.can e.device.only.others e.device.only.elsewhere _ _ (ap₂ disk_of_blocks full.geometry full.same) full.reads)
@@ -106,10 +106,10 @@ returns-in-Full-clause-full g c _ =
     let disk = disk_of_device g.D.BlockDevice c.args.device.now in
     let a = at_there disk c.args.pairs.now.items c.args.index c.index.result.now c.requires.can.below c.index.ensures in
     let e = c.in_ok-fresh_pair.ensures in
-    let full = (c.in_ok-outcome.ensures.full (ap Ok c.in-Full.is)).device in
+    let full = (c.in_ok-outcome.ensures.ends.full (ap Ok c.in-Full.is)).device in
     let items = c.remove.ensures.items ∙ ap (λ (z : List PairHeader). remove z (c.args.index + 1)) c.in_ok-insert.ensures.items ∙ unplaced _ _ _ _ a in
     subst (λ (z : List PairHeader). RefusesThreadingIn (kept_of_device g.D.BlockDevice c.args.device.now c.args.pairs.now.items c.args.map.now) c.args.index (array_address c.args.fresh) (changes_view c.args.changes.now) (kept_view (disk_of_device g.D.BlockDevice c.commit_with_cache.new.device) (g.D.BlockDevice.history c.commit_with_cache.new.device) z c.args.map.now)) (sym items)
-    (is_beside _ _ _ _ _ _ c.args.pairs.now.items c.args.map.now c.args.index c.index.result.now (array_address c.args.fresh) _ e.device.only.geometry a c.requires.kept c.requires.can e.device.only.others e.device.only.elsewhere _ (g.D.BlockDevice.history c.commit_with_cache.new.device) (ap₂ disk_of_blocks full.geometry full.same) (c.in_ok-outcome.ensures.full (ap Ok c.in-Full.is)).completed)
+    (is_beside _ _ _ _ _ _ c.args.pairs.now.items c.args.map.now c.args.index c.index.result.now (array_address c.args.fresh) _ e.device.only.geometry a c.requires.kept c.requires.can e.device.only.others e.device.only.elsewhere _ (g.D.BlockDevice.history c.commit_with_cache.new.device) (ap₂ disk_of_blocks full.geometry full.same) (c.in_ok-outcome.ensures.ends.full (ap Ok c.in-Full.is)).completed)
 
 pub returns-in-Full-clause-device : goal.returns-in-Full-clause-device
 returns-in-Full-clause-device g c =
@@ -147,7 +147,7 @@ returns-clause-kept g c =
     let e = c.in_ok-fresh_pair.ensures in
     let k = c.in_ok-outcome.ensures in
     device_joined _ _ _ _ _ _ c.args.pairs.now.items c.args.map.now c.args.index c.index.result.now (array_address c.args.fresh) _ e.device.only.geometry a c.requires.kept c.requires.can e.device.only.others e.device.only.elsewhere _ _ e.fresh c.change_setting_tail-tail.ensures few
-    _ _ _ _ k.device.only.geometry (k.done (ap Ok c.in_default.is)) k.device.only.others k.device.only.elsewhere
+    _ _ _ _ k.device.only.geometry (k.ends.done (ap Ok c.in_default.is)) k.device.only.others k.device.only.elsewhere
     _ (ap (λ (z : List PairHeader). set (set z c.args.index c.commit_with_cache.new.pair) (c.args.index + 1) c.in_ok-fresh_pair.fresh_pair) c.in_ok-insert.ensures.items ∙ placed _ _ _ _ _ c.in_ok-fresh_pair.fresh_pair a)
     _ (c.settle-2.ensures ∙ ap (λ (s : BlockStates). set s (array_address c.args.fresh).1 Used) c.settle.ensures)
 
@@ -158,7 +158,7 @@ returns-clause-is_joined g c _ =
     let e = c.in_ok-fresh_pair.ensures in
     let k = c.in_ok-outcome.ensures in
     device_is_joined _ _ _ _ _ _ c.args.pairs.now.items c.args.map.now c.args.index c.index.result.now (array_address c.args.fresh) _ e.device.only.geometry a c.requires.kept c.requires.can e.device.only.others e.device.only.elsewhere _ _ e.fresh c.change_setting_tail-tail.ensures few
-    _ _ _ _ k.device.only.geometry (k.done (ap Ok c.in_default.is)) k.device.only.others k.device.only.elsewhere
+    _ _ _ _ k.device.only.geometry (k.ends.done (ap Ok c.in_default.is)) k.device.only.others k.device.only.elsewhere
     _ (ap (λ (z : List PairHeader). set (set z c.args.index c.commit_with_cache.new.pair) (c.args.index + 1) c.in_ok-fresh_pair.fresh_pair) c.in_ok-insert.ensures.items ∙ placed _ _ _ _ _ c.in_ok-fresh_pair.fresh_pair a)
     _ (c.settle-2.ensures ∙ ap (λ (s : BlockStates). set s (array_address c.args.fresh).1 Used) c.settle.ensures)
 

@@ -7,7 +7,7 @@ pub read-requires-clause-current : goal.read-requires-clause-current
 read-requires-clause-current g c = current_at _ _ _ c.requires.current
 
 pub returns-in_err-read-clause-current : goal.returns-in_err-read-clause-current
-returns-in_err-read-clause-current g c = subst (λ blocks. IsCacheCurrent blocks c.read.new.self) (sym c.read.ensures.device.same) (current_read _ _ _ _ c.read.ensures.cached c.requires.current)
+returns-in_err-read-clause-current g c = subst (λ blocks. IsCacheCurrent blocks c.read.new.self) (sym c.read.ensures.reading.device.same) (current_read _ _ _ _ c.read.ensures.cached c.requires.current)
 
 pub returns-clause-current : goal.returns-clause-current
-returns-clause-current g c = subst (λ blocks. IsCacheCurrent blocks c.read.new.self) (sym c.read.ensures.device.same) (current_read _ _ _ _ c.read.ensures.cached c.requires.current)
+returns-clause-current g c = subst (λ blocks. IsCacheCurrent blocks c.read.new.self) (sym c.read.ensures.reading.device.same) (current_read _ _ _ _ c.read.ensures.cached c.requires.current)

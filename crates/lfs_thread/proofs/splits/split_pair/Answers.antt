@@ -1,4 +1,4 @@
-use Rattle.std.proofs.Common.{◌+◌, ◌∙◌, Err, List, ap, refl, subst, sym, set}
+use Rattle.std.proofs.Common.{rules, ◌+◌, ◌∙◌, Err, List, ap, refl, subst, sym, set}
 use Rattle.std.proofs.lemmas.Result.{err_from_is_err_and}
 use Rattle.lfs_model.specs.layers.BlockSets.{BlockStates, IsInFlight, Used}
 use Rattle.lfs_model.specs.format.Slots.{array_address}
@@ -12,10 +12,13 @@ use Rattle.lfs_thread.proofs.Reported.{errors_again}
 use Rattle.lfs_thread.proofs.splits.split_pair.Goals as goal
 use Rattle.lfs_model.specs.format.Thread.{addresses_blocks}
 
-pub split_with_cache-requires-clause-can : goal.split_with_cache-requires-clause-can
-split_with_cache-requires-clause-can g c =
-    let a = at_there (disk_of_device g.D.BlockDevice c.args.device.now) c.args.pairs.now.items c.args.index c.index.result.now c.requires.can.can.below c.index.ensures in
-    can_split _ _ _ c.args.map.now c.args.index _ (array_address c.args.fresh) _ a c.requires.kept c.requires.can
+pub split_with_cache-requires : goal.split_with_cache-requires
+split_with_cache-requires g c = record {
+  can =
+      let a = at_there (disk_of_device g.D.BlockDevice c.args.device.now) c.args.pairs.now.items c.args.index c.index.result.now c.requires.can.can.below c.index.ensures in
+      can_split _ _ _ c.args.map.now c.args.index _ (array_address c.args.fresh) _ a c.requires.kept c.requires.can;
+  current = search rules;
+}
 
 pub returns-in_err-fresh_pair-clause-stops : goal.returns-in_err-fresh_pair-clause-stops
 returns-in_err-fresh_pair-clause-stops g c cleanly =

@@ -13,6 +13,5 @@ returns-in-Err-NoMemory-clause-reading g c =
         geometry = second.geometry ∙ first.geometry;
         reads = goes_on_by first.reads (subst (λ blocks. OnlyReadsSince blocks (g.D.BlockDevice.history c.read_block.new.device) (g.D.BlockDevice.history c.read_range.new.device)) first.same second.reads);
       };
-      faults = search rules;
-      errors = search rules;
+      reports = search rules;
     }

@@ -13,17 +13,17 @@ use Rattle.lfs_thread.proofs.Reported.{reported_from, reading_from}
 use Rattle.lfs_thread.proofs.thread.Thread.commit_pair_changes.Goals as goal
 use Rattle.lfs_model.specs.format.Thread.{address_blocks}
 
-pub commit_with_cache-outcome-requires-clause-can : goal.commit_with_cache-outcome-requires-clause-can
-commit_with_cache-outcome-requires-clause-can g c =
-    let works = ap (λ (v : ThreadView). v.failed) c.self.view_is ∙ c.requires.works in
-    let can = can_change c.self.inside.order (kept_of_device g.D.BlockDevice c.self.inside.device c.self.inside.pairs.items c.self.inside.map) c.args.index (changes_view c.args.changes.now) (subst (λ (v : ThreadView). CanChangePair v.kept c.args.index (changes_view c.args.changes.now)) (sym c.self.view_is) c.requires.can) in
-    let a = at_there (disk_of_device g.D.BlockDevice c.self.inside.device) c.self.inside.pairs.items c.args.index c.index_mut.result.now can.below c.index_mut.ensures.value in
-    can_commit _ _ c.self.inside.pairs.items c.self.inside.map c.args.index c.index_mut.result.now _ a (c.self.invariant works).0 can.content can.made
-
-pub commit_with_cache-outcome-requires-clause-current : goal.commit_with_cache-outcome-requires-clause-current
-commit_with_cache-outcome-requires-clause-current g c =
-    let works = ap (λ (v : ThreadView). v.failed) c.self.view_is ∙ c.requires.works in
-    (c.self.invariant works).1
+pub commit_with_cache-outcome-requires : goal.commit_with_cache-outcome-requires
+commit_with_cache-outcome-requires g c = record {
+  can =
+      let works = ap (λ (v : ThreadView). v.failed) c.self.view_is ∙ c.requires.works in
+      let can = can_change c.self.inside.order (kept_of_device g.D.BlockDevice c.self.inside.device c.self.inside.pairs.items c.self.inside.map) c.args.index (changes_view c.args.changes.now) (subst (λ (v : ThreadView). CanChangePair v.kept c.args.index (changes_view c.args.changes.now)) (sym c.self.view_is) c.requires.can) in
+      let a = at_there (disk_of_device g.D.BlockDevice c.self.inside.device) c.self.inside.pairs.items c.args.index c.index_mut.result.now can.below c.index_mut.ensures.value in
+      can_commit _ _ c.self.inside.pairs.items c.self.inside.map c.args.index c.index_mut.result.now _ a (c.self.invariant works).0 can.content can.made;
+  current =
+      let works = ap (λ (v : ThreadView). v.failed) c.self.view_is ∙ c.requires.works in
+      (c.self.invariant works).1;
+}
 
 pub invariant_of-self : goal.invariant_of-self
 invariant_of-self g c ok =
@@ -32,8 +32,8 @@ invariant_of-self g c ok =
     let a = at_there (disk_of_device g.D.BlockDevice c.self.inside.device) c.self.inside.pairs.items c.args.index c.index_mut.result.now can.below c.index_mut.ensures.value in
     let e = c.commit_with_cache-outcome.ensures in (
       elim (ok_outcome c.commit_with_cache-outcome.result (sym c.is_err-self-inside.ensures.value ∙ ok)) [
-        | inl done ↦ device_kept _ _ _ _ _ _ _ _ _ _ _ _ e.device.only.geometry a (c.self.invariant works).0 can (e.done done) e.device.only.others e.device.only.elsewhere
-        | inr full ↦ full_kept _ _ _ _ _ _ _ _ _ a (c.self.invariant works).0 (ap₂ disk_of_blocks (e.full full).device.geometry (e.full full).device.same) (e.full full).pair (e.full full).device.reads
+        | inl done ↦ device_kept _ _ _ _ _ _ _ _ _ _ _ _ e.device.only.geometry a (c.self.invariant works).0 can (e.ends.done done) e.device.only.others e.device.only.elsewhere
+        | inr full ↦ full_kept _ _ _ _ _ _ _ _ _ a (c.self.invariant works).0 (ap₂ disk_of_blocks (e.ends.full full).device.geometry (e.ends.full full).device.same) (e.ends.full full).pair (e.ends.full full).device.reads
       ],
       e.current,
     )
@@ -47,7 +47,7 @@ returns-clause-done g c done =
     subst (λ (v : ThreadView). IsPairCommitted v.kept c.args.index (changes_view c.args.changes.now) (kept_in_order g.D.BlockDevice c.self.inside.order c.commit_with_cache-outcome.new.device (set c.self.inside.pairs.items c.args.index c.commit_with_cache-outcome.new.pair) c.self.inside.map)) c.self.view_is
     (changed_in c.self.inside.order (kept_of_device g.D.BlockDevice c.self.inside.device c.self.inside.pairs.items c.self.inside.map)
     (kept_of_device g.D.BlockDevice c.commit_with_cache-outcome.new.device (set c.self.inside.pairs.items c.args.index c.commit_with_cache-outcome.new.pair) c.self.inside.map) c.args.index (changes_view c.args.changes.now)
-    (device_changed _ _ _ _ _ _ c.self.inside.pairs.items _ c.args.index _ _ _ e.device.only.geometry a (c.self.invariant works).0 can (e.done done) e.device.only.others e.device.only.elsewhere))
+    (device_changed _ _ _ _ _ _ c.self.inside.pairs.items _ c.args.index _ _ _ e.device.only.geometry a (c.self.invariant works).0 can (e.ends.done done) e.device.only.others e.device.only.elsewhere))
 
 pub returns-clause-full : goal.returns-clause-full
 returns-clause-full g c full =
@@ -57,7 +57,7 @@ returns-clause-full g c full =
     subst (λ (v : ThreadView). RefusesCommit v.kept c.args.index (changes_view c.args.changes.now) (kept_in_order g.D.BlockDevice c.self.inside.order c.commit_with_cache-outcome.new.device (set c.self.inside.pairs.items c.args.index c.commit_with_cache-outcome.new.pair) c.self.inside.map)) c.self.view_is
     (refused_in c.self.inside.order (kept_of_device g.D.BlockDevice c.self.inside.device c.self.inside.pairs.items c.self.inside.map)
     (kept_of_device g.D.BlockDevice c.commit_with_cache-outcome.new.device (set c.self.inside.pairs.items c.args.index c.commit_with_cache-outcome.new.pair) c.self.inside.map) c.args.index (changes_view c.args.changes.now)
-    (refused _ _ _ _ c.self.inside.pairs.items _ c.args.index _ _ _ can.content a can.made (e.full full).completed (ap₂ disk_of_blocks (e.full full).device.geometry (e.full full).device.same) (e.full full).pair (e.full full).device.reads))
+    (refused _ _ _ _ c.self.inside.pairs.items _ c.args.index _ _ _ can.content a can.made (e.ends.full full).completed (ap₂ disk_of_blocks (e.ends.full full).device.geometry (e.ends.full full).device.same) (e.ends.full full).pair (e.ends.full full).device.reads))
 
 pub returns-clause-errors : goal.returns-clause-errors
 returns-clause-errors g c =

@@ -24,9 +24,9 @@ pub invariant_of-self : goal.invariant_of-self
 invariant_of-self g c ok =
     let works = ap (λ (v : ThreadView). v.failed) c.self.view_is ∙ c.requires.works in
     let e = c.fill.ensures in (
-      subst (λ d. IsKeptOnDisk d (g.D.BlockDevice.history c.fill.new.device) c.self.inside.pairs.items c.self.inside.map) (sym (ap₂ disk_of_blocks e.device.geometry e.device.same))
-          (kept_read _ _ _ _ c.self.inside.pairs.items c.self.inside.map e.device.reads (c.self.invariant works).0),
-      subst (λ bs. IsCacheCurrent bs c.fill.new.self) (sym e.device.same) (current_filled _ _ _ c.index.result.now.active c.fill.result e.filled e.err (c.self.invariant works).1),
+      subst (λ d. IsKeptOnDisk d (g.D.BlockDevice.history c.fill.new.device) c.self.inside.pairs.items c.self.inside.map) (sym (ap₂ disk_of_blocks e.reading.device.geometry e.reading.device.same))
+          (kept_read _ _ _ _ c.self.inside.pairs.items c.self.inside.map e.reading.device.reads (c.self.invariant works).0),
+      subst (λ bs. IsCacheCurrent bs c.fill.new.self) (sym e.reading.device.same) (current_filled _ _ _ c.index.result.now.active c.fill.result e.filled e.err (c.self.invariant works).1),
     )
 
 pub returns-clause-cached_log : goal.returns-clause-cached_log
@@ -36,8 +36,8 @@ returns-clause-cached_log g c =
     let disk = disk_of_device g.D.BlockDevice c.self.inside.device in
     let a = at_there disk c.self.inside.pairs.items c.args.index c.index.result.now below c.index.ensures in
     let e = c.fill.ensures in
-    let kept = subst (λ d. IsKeptOnDisk d (g.D.BlockDevice.history c.fill.new.device) c.self.inside.pairs.items c.self.inside.map) (sym (ap₂ disk_of_blocks e.device.geometry e.device.same))
-    (kept_read _ _ _ _ c.self.inside.pairs.items c.self.inside.map e.device.reads (c.self.invariant works).0) in
+    let kept = subst (λ d. IsKeptOnDisk d (g.D.BlockDevice.history c.fill.new.device) c.self.inside.pairs.items c.self.inside.map) (sym (ap₂ disk_of_blocks e.reading.device.geometry e.reading.device.same))
+    (kept_read _ _ _ _ c.self.inside.pairs.items c.self.inside.map e.reading.device.reads (c.self.invariant works).0) in
     subst (λ b. OnOk c.fill.result (IsSome (cached_bytes c.fill.new.self b)))
     (active_is (disk_of_device g.D.BlockDevice c.fill.new.device) (g.D.BlockDevice.history c.fill.new.device) c.self.inside.pairs.items c.self.inside.map c.args.index c.index.result.now a kept)
     (filled_there _ _ _ c.index.result.now.active c.fill.result e.filled)
@@ -56,13 +56,13 @@ returns-clause-no_call g c there =
 pub returns-clause-few : goal.returns-clause-few
 returns-clause-few g c =
     subst (λ (v : ThreadView). read_count (g.D.BlockDevice.history c.fill.new.device) ≤ read_count v.kept.history + 1) c.self.view_is
-    (few_reads g.D.BlockDevice _ _ c.self.inside.device c.fill.new.device c.fill.result c.fill.ensures.calls c.fill.ensures.errors)
+    (few_reads g.D.BlockDevice _ _ c.self.inside.device c.fill.new.device c.fill.result c.fill.ensures.calls c.fill.ensures.reading.reports.errors)
 
 pub returns-clause-errors : goal.returns-clause-errors
 returns-clause-errors g c =
     let e = c.fill.ensures in
     subst (λ (v : ThreadView). IoMeantFaultNoMemoryWroteNothing v.kept (kept_in_order g.D.BlockDevice c.self.inside.order c.fill.new.device c.self.inside.pairs.items c.self.inside.map) c.fill.result) c.self.view_is
-    (reported_from g.D.BlockDevice c.self.inside.order c.self.inside.device c.fill.new.device c.self.inside.pairs.items c.self.inside.pairs.items c.self.inside.map c.self.inside.map c.fill.result (record { errors = e.errors; faults = e.faults; unwritten = λ no. e.device }))
+    (reported_from g.D.BlockDevice c.self.inside.order c.self.inside.device c.fill.new.device c.self.inside.pairs.items c.self.inside.pairs.items c.self.inside.map c.self.inside.map c.fill.result (record { errors = e.reading.reports.errors; faults = e.reading.reports.faults; unwritten = λ no. e.reading.device }))
 
 pub returns-clause-recent : goal.returns-clause-recent
 returns-clause-recent g c =

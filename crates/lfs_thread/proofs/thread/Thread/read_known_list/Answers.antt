@@ -11,8 +11,8 @@ use Rattle.lfs_thread.proofs.thread.Thread.read_known_list.Goals as goal
 pub invariant_of-self : goal.invariant_of-self
 invariant_of-self g c works =
     let e = c.read_part_cached.ensures in (
-      subst (λ d. IsKeptOnDisk d (g.D.BlockDevice.history c.read_part_cached.new.device) c.self.inside.pairs.items c.self.inside.map) (sym (ap₂ disk_of_blocks e.device.geometry e.device.same))
-          (kept_read _ _ _ _ c.self.inside.pairs.items c.self.inside.map e.device.reads (c.self.invariant works).0),
+      subst (λ d. IsKeptOnDisk d (g.D.BlockDevice.history c.read_part_cached.new.device) c.self.inside.pairs.items c.self.inside.map) (sym (ap₂ disk_of_blocks e.reading.device.geometry e.reading.device.same))
+          (kept_read _ _ _ _ c.self.inside.pairs.items c.self.inside.map e.reading.device.reads (c.self.invariant works).0),
       e.current,
     )
 

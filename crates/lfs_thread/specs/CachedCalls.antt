@@ -1,0 +1,32 @@
+-- What a call asks of a device and the cache of its blocks.
+use Rattle.std.specs.Prelude.{◌≡◌, ◌≤◌, ◌<◌, ◌+◌, ℕ, List, [], replicate}
+use Rattle.lfs_device.specs.declared.device.BlockDevice.{Ghosts}
+use Rattle.lfs_model.specs.layers.BlockSets.{BlockStates}
+use Rattle.lfs_model.specs.layers.BlockSets.BlockState.{Free}
+use Rattle.lfs_model.specs.layers.Cache.{CachedBlocks}
+use Rattle.lfs_model.specs.layers.Changes.{PairChange}
+use Rattle.lfs_pair.specs.declared.pair.Pair.{Pair}
+use Rattle.lfs_pair.specs.Commits.{CanCommit}
+use Rattle.lfs_pair.specs.Split.{CanSplitPair}
+use Rattle.lfs_thread.specs.Kept.{IsCacheCurrent, disk_of_device}
+
+-- a commit's premises, and a cache that is as the device
+pub record CanCommitCached {D : Type 0} (g : Ghosts D) (device : D) (cache : CachedBlocks) (pair : Pair) (changes : List PairChange) : Type 0 where
+  pub can : CanCommit (disk_of_device g device) (g.history device) pair changes
+  pub current : IsCacheCurrent (g.blocks device) cache
+
+-- the same of a split
+pub record CanSplitCached {D : Type 0} (g : Ghosts D) (device : D) (cache : CachedBlocks) (pair : Pair) (fresh : ℕ × ℕ) (changes : List PairChange) : Type 0 where
+  pub can : CanSplitPair (disk_of_device g device) (g.history device) pair fresh changes
+  pub current : IsCacheCurrent (g.blocks device) cache
+
+-- the same of a read of a part of a block, for which the buffer has room
+pub record CanReadCached {D : Type 0} (g : Ghosts D) (device : D) (cache : CachedBlocks) (b off size len : ℕ) : Type 0 where
+  pub inside : (b < (g.geometry device).block_count) × (off + size ≤ (g.geometry device).block_size)
+  pub room : size ≤ len
+  pub current : IsCacheCurrent (g.blocks device) cache
+
+-- no header is read yet, and no block of so many is marked
+pub record IsThreadUnread (headers : List Pair) (map : BlockStates) (count : ℕ) : Type 0 where
+  pub none : headers ≡ []
+  pub free : map ≡ replicate count Free

@@ -120,8 +120,7 @@ fn put_directory_entry<'a, D: BlockDevice>(
             state: turned_sync_delta(&thread.delta(pair)),
         },
     ];
-    change_or_split(alloc, thread, pair, &changes)?;
-    Ok(())
+    change_or_split(alloc, thread, pair, &changes)
 }
 
 // Puts the entry of the directory that begins at an address into a pair, and clears the sync bit.
@@ -141,8 +140,7 @@ fn put_new_entry<D: BlockDevice>(
     ensures stops { LossLeavesCleanly thread.old.kept.history thread.new.kept.history (LeftByTurn thread.old.kept pair (adding_changes thread.old.kept pair id name.now (array_address at))) }
 {
     let branch = pair_bytes(at);
-    put_directory_entry(alloc, thread, pair, id, name, &branch)?;
-    Ok(())
+    put_directory_entry(alloc, thread, pair, id, name, &branch)
 }
 
 /// Makes an empty directory, whose entry is put in at the id of the pair where its name belongs
@@ -179,6 +177,5 @@ pub fn make_directory<D: BlockDevice>(
     };
     link_pair_after(alloc, thread, last, fresh)?;
     lemma_device_facts(thread);
-    put_new_entry(alloc, thread, pair, id, name, fresh)?;
-    Ok(())
+    put_new_entry(alloc, thread, pair, id, name, fresh)
 }

@@ -1,9 +1,5 @@
-use Rattle.std.proofs.Common.{ap, sym, subst, ◌∙◌, ◌≡◌, ◌∷◌, [], false, Some, Ok, Err}
-use Rattle.lfs_operations.proofs.Common.{err_from_is_err_and, PutMove, PutTail, Gstate, array_address, with_sync_inverted, IsThreadedIn, complete_after, thread_pair_at, address_blocks}
-use Rattle.lfs_pair.specs.declared.commits.Outcome.{Outcome}
+use Rattle.lfs_operations.proofs.Common.{ap, sym, subst, ◌∙◌, ◌≡◌, ◌∷◌, [], false, Some, Ok, Err, err_from_is_err_and, PutMove, PutTail, Gstate, array_address, with_sync_inverted, IsThreadedIn, complete_after, thread_pair_at, address_blocks, Outcome, move_view, threading_changes}
 use Rattle.lfs_pair.specs.declared.commits.Outcome.TheVariants as outcome
-use Rattle.lfs_tag.specs.FieldsView.{move_view}
-use Rattle.lfs_operations.specs.Making.{threading_changes}
 use Rattle.lfs_operations.proofs.MakingReported.{reported_again}
 use Rattle.lfs_operations.proofs.new_directories.link_pair_after.Goals as goal
 

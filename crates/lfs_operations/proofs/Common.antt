@@ -92,7 +92,7 @@ pub use Rattle.lfs_operations.specs.Making.{adding_changes, threading_changes, H
 pub use Rattle.lfs_operations.specs.MoveEnds.{HasEndedAt, written_at_end, gstate_naming, dropped_at_end, map_move_ended, gstate_without_sync, CanEndAt, follows_hard_tail_of, content_move_ended, ending_changes, delta_without_move, pairs_move_ended}
 pub use Rattle.lfs_operations.specs.MovingAcross.{CanRenameAcross, IsRenamedAcross, clearing_changes, moving_changes, tree_moved}
 pub use Rattle.lfs_operations.specs.MovingOnto.{CanMoveAcross, CanReplaceEntryOver, CanReplaceFileOver, CanReplaceDirectoryOver, IsMovedAcross, IsFileReplaced, entry_over_changes, tree_across}
-pub use Rattle.lfs_operations.specs.MovingSteps.{CanEndSecond, second_commit_pair, number_after_insertion, WritesTwoTwo, IsPutEnded, SurvivesBothCommits, ReportsErrorsOfCommitsTakingBlocks, WritesThreadFree}
+pub use Rattle.lfs_operations.specs.MovingSteps.{CanPutAndEnd, CanEndSecond, second_commit_pair, number_after_insertion, WritesTwoTwo, IsPutEnded, SurvivesBothCommits, ReportsErrorsOfCommitsTakingBlocks, WritesThreadFree}
 pub use Rattle.lfs_operations.specs.Ready.{IsReadyImage, ShowsReadyTree, IsRawFormed, KeepsRootBeginning, HasNoneNew, KeepsTakenStates, ShowsUpdatedTree, AreUsedUntilUpdate}
 pub use Rattle.lfs_operations.specs.Recovering.{AreUnreachedNumbers, AreUnreachedFrom, CanClearSync, HasDroppedRecovered, IsSyncCleared, ReportsErrorsOfRecovery, numbered_blocks, numbered_slots, CanDropPairs, gstate_after_drops}
 pub use Rattle.lfs_operations.specs.Removing.{drops_with_its_slot, ReportsErrorsOfCommitTakingNoBlock, CanRemoveIn, IsFileRemoved, tree_without_entry, written_by_removal}

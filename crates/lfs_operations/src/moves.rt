@@ -10,13 +10,12 @@ ghost use Rattle.lfs_model.specs.crash.PowerLoss.{SurvivesLossSince};
 ghost use Rattle.lfs_model.specs.format.Thread.{pairs_gstate, address_blocks, addresses_blocks};
 ghost use Rattle.lfs_model.specs.tree.Shown.{tree_on_disk};
 ghost use Rattle.lfs_tag.specs.FieldsView.{move_view};
-ghost use Rattle.lfs_thread.specs.Kept.{KeptThread};
 ghost use Rattle.lfs_thread.specs.ThreadSteps.{ChangesThreadBlocks, thread_pair_at};
 ghost use Rattle.lfs_pair.specs.ChangeView.{changes_view};
 ghost use Rattle.lfs_operations.specs.Altering.{ChangesGiven};
-ghost use Rattle.lfs_operations.specs.Changing.{CanTurn, IsTurned, WritesThreadTwo};
+ghost use Rattle.lfs_operations.specs.Changing.{WritesThreadTwo};
 ghost use Rattle.lfs_operations.specs.MoveEnds.{CanEndAt, HasEndedAt, written_at_end, gstate_naming, delta_without_move};
-ghost use Rattle.lfs_operations.specs.MovingSteps.{CanEndSecond, IsPutEnded, SurvivesBothCommits, ReportsErrorsOfCommitsTakingBlocks, WritesTwoTwo, second_commit_pair, number_after_insertion};
+ghost use Rattle.lfs_operations.specs.MovingSteps.{CanPutAndEnd, IsPutEnded, SurvivesBothCommits, ReportsErrorsOfCommitsTakingBlocks, WritesTwoTwo, second_commit_pair, number_after_insertion};
 ghost use Rattle.lfs_operations.specs.MovingAcross.{CanRenameAcross, IsRenamedAcross, across_changes, clearing_changes, moving_changes, tree_moved};
 ghost use Rattle.lfs_operations.specs.MovingOnto.{CanMoveAcross, CanReplaceFileOver, CanReplaceDirectoryOver, IsMovedAcross, IsFileReplaced, entry_over_changes, file_over_changes, tree_across};
 ghost use Rattle.lfs_operations.specs.Removing.{ReportsErrorsOfCommitTakingNoBlock};
@@ -153,8 +152,7 @@ fn put_and_end<D: BlockDevice>(
     changes: &[Change<'_>],
 ) -> Result<(), Error>
     requires works { thread.old.failed ≡ false }
-    requires can { CanTurn thread.old.kept route.new_pair (changes_view changes.now) }
-    requires ends { (mid : KeptThread) → IsTurned thread.old.kept route.new_pair (changes_view changes.now) mid → CanEndSecond thread.old.kept route.old_pair route.old_id goes route.new_pair mid }
+    requires can { CanPutAndEnd thread.old.kept route.old_pair route.old_id goes route.new_pair (changes_view changes.now) }
     ensures done { OnOk result (IsPutEnded thread.old.kept route.old_pair route.old_id goes route.new_pair (changes_view changes.now) thread.new.kept) }
     ensures errors { ReportsErrorsOfCommitsTakingBlocks thread.old thread.new route.new_pair (changes_view changes.now) result }
     ensures device { WritesTwoTwo thread.old.kept (written_at_end route.old_pair goes) route.new_pair thread.new.kept }

@@ -1,4 +1,4 @@
-use Rattle.lfs_operations.proofs.Common.{ap, sym, subst, ◌∙◌, ◌<◌, length, Err, on_ok_weaker, err_from_is_err_and, changes_view, CanTurn, IsTurned, written_at_end, CanEndSecond, IsPutEnded, SurvivesBothCommits, ReportsErrorsOfCommitsTakingBlocks, WritesTwoTwo, second_commit_pair, moving_changes, tree_across, tree_on_disk, with_blocks, HasEither, AreWords, thread_pair_at, drops_with_its_slot}
+use Rattle.lfs_operations.proofs.Common.{ap, sym, subst, ◌∙◌, ◌<◌, length, Err, on_ok_weaker, err_from_is_err_and, changes_view, written_at_end, IsPutEnded, SurvivesBothCommits, ReportsErrorsOfCommitsTakingBlocks, WritesTwoTwo, second_commit_pair, moving_changes, tree_across, tree_on_disk, with_blocks, HasEither, AreWords, thread_pair_at, drops_with_its_slot, subst₂, CanPutAndEnd}
 use Rattle.lfs_device.specs.declared.error.Error.TheVariants as Error
 use Rattle.lfs_operations.proofs.MovLater.{aim, stands_across, changes_are, done_after_read, ends_after_read, survives_after_read, reports_after_read, reports_unmade, reports_unread, writes_after_read, writes_read}
 use Rattle.lfs_operations.proofs.MovPlaced.{ends_aimed, shows_aimed}
@@ -82,19 +82,11 @@ put_and_end-requires-clause-can g c =
     let to = c.args.route in
     let are = changes_are t mid only c.args.replaces c.args.sync to.old_pair to.old_id to.new_pair to.new_id c.args.name.now (ap changes_view c.deref.ensures.value ∙ c.in_ok-changes.ensures) c.move_setting_delta-state.ensures.delta c.in_ok-copy.ensures.copied in
     let at = aim t mid only c.args.replaces c.args.sync to.old_pair to.old_id to.first to.new_pair to.new_id c.args.name.now c.requires.can c.move_setting_delta-state.ensures.address in
-    subst (CanTurn mid to.new_pair) (sym are) (can_after_read t mid to.new_pair (moving_changes c.args.replaces c.args.sync t to.old_pair to.old_id to.new_pair to.new_id c.args.name.now) only at.aimed.can)
-
-pub put_and_end-requires-clause-ends : goal.put_and_end-requires-clause-ends
-put_and_end-requires-clause-ends g c last is =
-    let t = c.args.thread.now.kept in
-    let mid = c.copy_pair_slot.new.thread.kept in
-    let only = c.copy_pair_slot.ensures.only in
-    let to = c.args.route in
-    let are = changes_are t mid only c.args.replaces c.args.sync to.old_pair to.old_id to.new_pair to.new_id c.args.name.now (ap changes_view c.deref.ensures.value ∙ c.in_ok-changes.ensures) c.move_setting_delta-state.ensures.delta c.in_ok-copy.ensures.copied in
-    let at = aim t mid only c.args.replaces c.args.sync to.old_pair to.old_id to.first to.new_pair to.new_id c.args.name.now c.requires.can c.move_setting_delta-state.ensures.address in
-    subst (λ b. CanEndSecond mid to.old_pair to.old_id b to.new_pair last) (sym c.drops_with_slot-goes.ensures)
-    (ends_after_read t mid only to.old_pair to.old_id (drops_with_its_slot t to.old_pair to.first) to.new_pair (moving_changes c.args.replaces c.args.sync t to.old_pair to.old_id to.new_pair to.new_id c.args.name.now) last
-    (ends_aimed at.aimed last (put_after_read t mid last to.new_pair (moving_changes c.args.replaces c.args.sync t to.old_pair to.old_id to.new_pair to.new_id c.args.name.now) only (subst (λ z. IsTurned mid to.new_pair z last) are is))))
+    let changes = moving_changes c.args.replaces c.args.sync t to.old_pair to.old_id to.new_pair to.new_id c.args.name.now in
+    subst₂ (λ b z. CanPutAndEnd mid to.old_pair to.old_id b to.new_pair z) (sym c.drops_with_slot-goes.ensures) (sym are) (record {
+      turns = can_after_read t mid to.new_pair changes only at.aimed.can;
+      ends = λ last is. ends_after_read t mid only to.old_pair to.old_id (drops_with_its_slot t to.old_pair to.first) to.new_pair changes last (ends_aimed at.aimed last (put_after_read t mid last to.new_pair changes only is));
+    })
 
 pub returns-clause-moved : goal.returns-clause-moved
 returns-clause-moved g c =

@@ -23,12 +23,12 @@ returns-in_err-change_or_split-clause-device g c = writes_first c.args.thread.no
 
 pub overflow_sub-fresh : goal.overflow_sub-fresh
 overflow_sub-fresh g c =
-    let ends = c.requires.ends c.change_or_split.new.thread.kept c.in_ok-change_or_split.ensures.is_put in
+    let ends = c.requires.can.ends c.change_or_split.new.thread.kept c.in_ok-change_or_split.ensures.is_put in
     omega (arith, ends.grown, c.len-before.ensures, c.len.ensures)
 
 pub number_after_inserted-pair-requires : goal.number_after_inserted-pair-requires
 number_after_inserted-pair-requires g c =
-    let ends = c.requires.ends c.change_or_split.new.thread.kept c.in_ok-change_or_split.ensures.is_put in
+    let ends = c.requires.can.ends c.change_or_split.new.thread.kept c.in_ok-change_or_split.ensures.is_put in
     let same = ap₂ (λ m n. number_after_insertion c.args.route.old_pair c.args.route.new_pair (m - n)) c.len.ensures c.len-before.ensures in
     let below = ends.can.below in
     let fits = c.len.type_inv in
@@ -36,7 +36,7 @@ number_after_inserted-pair-requires g c =
 
 pub end_move-requires-clause-can : goal.end_move-requires-clause-can
 end_move-requires-clause-can g c =
-    let ends = c.requires.ends c.change_or_split.new.thread.kept c.in_ok-change_or_split.ensures.is_put in
+    let ends = c.requires.can.ends c.change_or_split.new.thread.kept c.in_ok-change_or_split.ensures.is_put in
     subst (λ i. CanEndAt c.change_or_split.new.thread.kept i c.args.route.old_id c.args.goes)
     (sym (c.number_after_inserted-pair.ensures ∙ ap₂ (λ m n. number_after_insertion c.args.route.old_pair c.args.route.new_pair (m - n)) c.len.ensures c.len-before.ensures)) ends.can
 
@@ -46,14 +46,14 @@ returns-clause-done g c =
     let index = c.number_after_inserted-pair.ensures ∙ ap₂ (λ m n. number_after_insertion c.args.route.old_pair c.args.route.new_pair (m - n)) c.len.ensures c.len-before.ensures in
     let mid = c.change_or_split.new.thread.kept in
     let new = c.end_move.new.thread.kept in
-    let ends = c.requires.ends mid c.in_ok-change_or_split.ensures.is_put in
+    let ends = c.requires.can.ends mid c.in_ok-change_or_split.ensures.is_put in
     let ended = subst (λ (i : ℕ). HasEndedAt mid i c.args.route.old_id c.args.goes new) index is in
     record {
       mid = mid;
       put = c.in_ok-change_or_split.ensures.is_put;
       ended = ended;
       blocks = end_within c.args.thread.now.kept mid new (number_after_insertion c.args.route.old_pair c.args.route.new_pair (length mid.pairs - length c.args.thread.now.kept.pairs)) c.args.route.old_id c.args.goes
-          (put_within c.args.thread.now.kept mid c.args.route.new_pair (changes_view c.args.changes.now) c.requires.can.can.below c.in_ok-change_or_split.ensures.is_put c.change_or_split.ensures.device) ends.can.below ended
+          (put_within c.args.thread.now.kept mid c.args.route.new_pair (changes_view c.args.changes.now) c.requires.can.turns.can.below c.in_ok-change_or_split.ensures.is_put c.change_or_split.ensures.device) ends.can.below ended
           (subst (λ (i : ℕ). ChangesThreadBlocks (address_blocks (thread_pair_at mid (written_at_end i c.args.goes)).at) mid new) index c.end_move.ensures.device);
     })
     c.end_move.ensures.ended
@@ -66,8 +66,8 @@ returns-clause-errors g c =
 pub returns-clause-device : goal.returns-clause-device
 returns-clause-device g c =
     let index = c.number_after_inserted-pair.ensures ∙ ap₂ (λ m n. number_after_insertion c.args.route.old_pair c.args.route.new_pair (m - n)) c.len.ensures c.len-before.ensures in
-    writes_at_end c.args.thread.now.kept c.change_or_split.new.thread.kept c.end_move.new.thread.kept c.args.route.old_pair c.args.route.old_id c.args.goes c.args.route.new_pair (changes_view c.args.changes.now) c.in_ok-change_or_split.ensures.is_put c.requires.can.can.below
-    (c.requires.ends c.change_or_split.new.thread.kept c.in_ok-change_or_split.ensures.is_put) c.change_or_split.ensures.device
+    writes_at_end c.args.thread.now.kept c.change_or_split.new.thread.kept c.end_move.new.thread.kept c.args.route.old_pair c.args.route.old_id c.args.goes c.args.route.new_pair (changes_view c.args.changes.now) c.in_ok-change_or_split.ensures.is_put c.requires.can.turns.can.below
+    (c.requires.can.ends c.change_or_split.new.thread.kept c.in_ok-change_or_split.ensures.is_put) c.change_or_split.ensures.device
     (subst (λ (i : ℕ). ChangesThreadBlocks (address_blocks (thread_pair_at c.change_or_split.new.thread.kept (written_at_end i c.args.goes)).at) c.change_or_split.new.thread.kept c.end_move.new.thread.kept) index c.end_move.ensures.device)
 
 pub returns-clause-survives : goal.returns-clause-survives

@@ -88,7 +88,7 @@ pub use Rattle.lfs_operations.specs.Deltas.{CanSetGstate, gstate_changes, delta_
 pub use Rattle.lfs_operations.specs.Dropping.{IsPairDropped, content_after_drop, CanDropAt, SameInFlight, LeftByDrop, tail_over_drop, delta_after_drop, tail_after_drop, dropping_changes, ShowsAfterDrops}
 pub use Rattle.lfs_operations.specs.Editing.{CanEditIn, CanSetAttribute, HasRemovedAttribute, HasSetAttribute, editable_slot, tree_with_attributes_set}
 pub use Rattle.lfs_operations.specs.EndingMove.{gstate_without_move, RecoveriesAreAllowed, CanEndMove, HasEndedMove, HasMovedSlot, has_one_follower}
-pub use Rattle.lfs_operations.specs.Making.{adding_changes, threading_changes, HasFreeBlocks, ReportsErrorsOfMakingDirectory, IsRunEnd, WritesPairsFour, AreBothAltered, CanMakeAt, FitsNewTail, IsDirectoryMade, tree_with_directory, entry_changes}
+pub use Rattle.lfs_operations.specs.Making.{CanLink, adding_changes, threading_changes, HasFreeBlocks, ReportsErrorsOfMakingDirectory, IsRunEnd, WritesPairsFour, AreBothAltered, CanMakeAt, FitsNewTail, IsDirectoryMade, tree_with_directory, entry_changes}
 pub use Rattle.lfs_operations.specs.MoveEnds.{HasEndedAt, written_at_end, gstate_naming, dropped_at_end, map_move_ended, gstate_without_sync, CanEndAt, follows_hard_tail_of, content_move_ended, ending_changes, delta_without_move, pairs_move_ended}
 pub use Rattle.lfs_operations.specs.MovingAcross.{CanRenameAcross, IsRenamedAcross, clearing_changes, moving_changes, tree_moved}
 pub use Rattle.lfs_operations.specs.MovingOnto.{CanMoveAcross, CanReplaceEntryOver, CanReplaceFileOver, CanReplaceDirectoryOver, IsMovedAcross, IsFileReplaced, entry_over_changes, tree_across}

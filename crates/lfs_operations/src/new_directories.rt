@@ -1,6 +1,6 @@
 // Empty directories that are made.
 
-ghost use Rattle.std.specs.Prelude.{◌≡◌, ◌<◌, ◌^◌, ℕ, false, is_err, length, Err, OnOk};
+ghost use Rattle.std.specs.Prelude.{◌≡◌, ◌<◌, ◌^◌, ℕ, false, length, Err, OnOk};
 ghost use Rattle.lfs_device.specs.Bytes.{HoldBytes};
 ghost use Rattle.lfs_model.specs.format.Disk.{block_count};
 ghost use Rattle.lfs_model.specs.crash.PowerLoss.{HasEither, SurvivesLossSince};
@@ -9,9 +9,9 @@ ghost use Rattle.lfs_model.specs.tree.Shown.{tree_on_disk};
 ghost use Rattle.lfs_model.specs.layers.Steps.{with_sync_inverted};
 ghost use Rattle.lfs_tag.specs.FieldsView.{move_view};
 ghost use Rattle.lfs_thread.specs.ThreadDevice.{LossLeavesCleanly};
-ghost use Rattle.lfs_thread.specs.ThreadSteps.{CanThreadIn, IoMeantFaultNoMemoryKeptOtherBlocks, IsThreadedIn, LossLeavesThreadedIn, ChangesThreadBlocks, thread_pair_at};
+ghost use Rattle.lfs_thread.specs.ThreadSteps.{IsThreadedIn, LossLeavesThreadedIn, ChangesThreadBlocks, thread_pair_at};
 ghost use Rattle.lfs_operations.specs.Changing.{CanTurn, LeftByTurn, IsTurned, ReportsErrorsOfChangeOrSplit, WritesPairTwo};
-ghost use Rattle.lfs_operations.specs.Making.{AreBothAltered, CanMakeAt, FitsNewTail, IsRunEnd, IsDirectoryMade, ReportsErrorsOfMakingDirectory, WritesPairsFour, entry_changes, adding_changes, threading_changes, tree_with_directory};
+ghost use Rattle.lfs_operations.specs.Making.{AreBothAltered, CanLink, CanMakeAt, IsRunEnd, IsDirectoryMade, ReportsErrorsOfLink, ReportsErrorsOfMakingDirectory, WritesPairsFour, entry_changes, adding_changes, threading_changes, tree_with_directory};
 ghost use Rattle.lfs_model.specs.format.Thread.{address_blocks, addresses_blocks};
 
 use crate::changes::{change_or_split, take_two_blocks};
@@ -67,11 +67,9 @@ fn link_pair_after<D: BlockDevice>(
     fresh: [u32; 2],
 ) -> Result<(), Error>
     requires works { thread.old.failed ≡ false }
-    requires can { CanThreadIn thread.old.kept last (array_address fresh) (threading_changes thread.old.kept last (array_address fresh)) }
-    requires fits { FitsNewTail thread.old.kept last (array_address fresh) }
+    requires can { CanLink thread.old.kept last (array_address fresh) }
     ensures is_joined { OnOk result (IsThreadedIn thread.old.kept last (array_address fresh) (threading_changes thread.old.kept last (array_address fresh)) thread.new.kept) }
-    ensures failed { thread.new.failed ≡ is_err result }
-    ensures errors { IoMeantFaultNoMemoryKeptOtherBlocks (address_blocks (array_address fresh)) thread.old.kept thread.new.kept result }
+    ensures errors { ReportsErrorsOfLink thread.old thread.new (array_address fresh) result }
     ensures device { ChangesThreadBlocks (addresses_blocks (thread_pair_at thread.old.kept last).at (array_address fresh)) thread.old.kept thread.new.kept }
     ensures stops { LossLeavesCleanly thread.old.kept.history thread.new.kept.history (LossLeavesThreadedIn thread.old.kept last (array_address fresh) (threading_changes thread.old.kept last (array_address fresh))) }
 {

@@ -1,4 +1,4 @@
-use Rattle.lfs_operations.proofs.Common.{ap, sym, subst, ◌∙◌, arith, Err, on_ok_weaker, err_from_is_err_and, Disk, HasEither, array_address, tree_on_disk, LossLeavesCleanly, ThreadView, CanThreadIn, IoMeantFaultNoMemoryKeptOtherBlocks, IsThreadedIn, LossLeavesThreadedIn, ChangesThreadBlocks, thread_pair_at, address_blocks, addresses_blocks, map_taking_two, FitsNewTail, ReportsErrorsOfMakingDirectory, threading_changes, tree_with_directory}
+use Rattle.lfs_operations.proofs.Common.{CanLink, ap, sym, subst, ◌∙◌, arith, Err, on_ok_weaker, err_from_is_err_and, Disk, HasEither, array_address, tree_on_disk, LossLeavesCleanly, ThreadView, IoMeantFaultNoMemoryKeptOtherBlocks, IsThreadedIn, LossLeavesThreadedIn, ChangesThreadBlocks, thread_pair_at, address_blocks, addresses_blocks, map_taking_two, ReportsErrorsOfMakingDirectory, threading_changes, tree_with_directory}
 use Rattle.lfs_device.specs.declared.error.Error.TheVariants as Error
 use Rattle.lfs_operations.proofs.MakingCounts.{no_room}
 use Rattle.lfs_operations.proofs.MakingReported.{reports_first, reports_second}
@@ -18,22 +18,22 @@ returns-in_default-clause-survives g c = let room = c.requires.can.room in absur
 
 pub link_pair_after-requires-clause-can : goal.link_pair_after-requires-clause-can
 link_pair_after-requires-clause-can g c =
-    subst (λ (s : ThreadView). CanThreadIn s.kept c.last_directory_pair-last.result (array_address c.in-Some.fresh) (threading_changes s.kept c.last_directory_pair-last.result (array_address c.in-Some.fresh))) (sym c.in-Some.ensures.taken)
-    (can_thread c.args.thread.now.kept c.args.pair c.args.id c.args.name.now c.requires.can c.last_directory_pair-last.result c.last_directory_pair-last.ensures (array_address c.in-Some.fresh) c.in-Some.ensures.were_free
-    c.lemma_device_facts.ensures.bytes c.lemma_device_facts.ensures.count)
-
-pub link_pair_after-requires-clause-fits : goal.link_pair_after-requires-clause-fits
-link_pair_after-requires-clause-fits g c =
-    subst (λ (s : ThreadView). FitsNewTail s.kept c.last_directory_pair-last.result (array_address c.in-Some.fresh)) (sym c.in-Some.ensures.taken)
-    (thread_fits c.args.thread.now.kept c.args.pair c.args.id c.args.name.now c.requires.can c.last_directory_pair-last.result c.last_directory_pair-last.ensures (array_address c.in-Some.fresh) c.in-Some.ensures.were_free
-    c.lemma_device_facts.ensures.bytes c.lemma_device_facts.ensures.count)
+    let t = c.args.thread.now.kept in
+    let last = c.last_directory_pair-last in
+    let fresh = array_address c.in-Some.fresh in
+    let free = c.in-Some.ensures.were_free in
+    let facts = c.lemma_device_facts.ensures in
+    subst (λ (s : ThreadView). CanLink s.kept last.result fresh) (sym c.in-Some.ensures.taken) (record {
+      can = can_thread t c.args.pair c.args.id c.args.name.now c.requires.can last.result last.ensures fresh free facts.bytes facts.count;
+      fits = thread_fits t c.args.pair c.args.id c.args.name.now c.requires.can last.result last.ensures fresh free facts.bytes facts.count;
+    })
 
 pub returns-in_err-link_pair_after-clause-errors : goal.returns-in_err-link_pair_after-clause-errors
 returns-in_err-link_pair_after-clause-errors g c =
     let p = err_from_is_err_and c.from_residual.result c.from_residual.ensures.1 in
     subst (λ r. ReportsErrorsOfMakingDirectory c.args.thread.now c.link_pair_after.new.thread r) (c.in_err-link_pair_after.was ∙ ap Err (sym p.2) ∙ sym p.1)
-    (reports_first c.args.thread.now c.link_pair_after.new.thread (map_taking_two c.args.thread.now.kept.map (array_address c.in-Some.fresh)) (address_blocks (array_address c.in-Some.fresh)) c.link_pair_after.result c.link_pair_after.ensures.failed
-    (subst (λ (s : ThreadView). IoMeantFaultNoMemoryKeptOtherBlocks (address_blocks (array_address c.in-Some.fresh)) s.kept c.link_pair_after.new.thread.kept c.link_pair_after.result) c.in-Some.ensures.taken c.link_pair_after.ensures.errors))
+    (reports_first c.args.thread.now c.link_pair_after.new.thread (map_taking_two c.args.thread.now.kept.map (array_address c.in-Some.fresh)) (address_blocks (array_address c.in-Some.fresh)) c.link_pair_after.result c.link_pair_after.ensures.errors.failed
+    (subst (λ (s : ThreadView). IoMeantFaultNoMemoryKeptOtherBlocks (address_blocks (array_address c.in-Some.fresh)) s.kept c.link_pair_after.new.thread.kept c.link_pair_after.result) c.in-Some.ensures.taken c.link_pair_after.ensures.errors.reported))
 
 pub returns-in_err-link_pair_after-clause-device : goal.returns-in_err-link_pair_after-clause-device
 returns-in_err-link_pair_after-clause-device g c =
@@ -132,7 +132,7 @@ returns-in_err-link_pair_after-clause-stands g c memory can =
     let last = c.last_directory_pair-last.result in
     let fresh = array_address c.in-Some.fresh in
     let p = err_from_is_err_and c.from_residual.result c.from_residual.ensures.1 in
-    let reported = subst (λ (s : ThreadView). IoMeantFaultNoMemoryKeptOtherBlocks (address_blocks fresh) s.kept new c.link_pair_after.result) c.in-Some.ensures.taken c.link_pair_after.ensures.errors in
+    let reported = subst (λ (s : ThreadView). IoMeantFaultNoMemoryKeptOtherBlocks (address_blocks fresh) s.kept new c.link_pair_after.result) c.in-Some.ensures.taken c.link_pair_after.ensures.errors.reported in
     left_unthreaded t c.args.pair c.args.id c.args.name.now can last c.last_directory_pair-last.ensures fresh c.in-Some.ensures.were_free c.lemma_device_facts.ensures.bytes c.lemma_device_facts.ensures.count new
     (subst (λ (s : ThreadView). ChangesThreadBlocks (addresses_blocks (thread_pair_at s.kept last).at fresh) s.kept new) c.in-Some.ensures.taken c.link_pair_after.ensures.device)
     (reported.beside (c.in_err-link_pair_after.was ∙ ap Err (sym p.2) ∙ sym p.1 ∙ memory))
@@ -146,7 +146,7 @@ returns-clause-errors g c =
     let h = threaded_now t c.args.pair c.args.id c.args.name.now c.requires.can last c.last_directory_pair-last.ensures fresh c.in-Some.ensures.were_free c.lemma_device_facts.ensures.bytes c.lemma_device_facts.ensures.count m
     (subst (λ (s : ThreadView). IsThreadedIn s.kept last fresh (threading_changes s.kept last fresh) m) c.in-Some.ensures.taken c.in_ok-link_pair_after.ensures.is_joined)
     (subst (λ (s : ThreadView). ChangesThreadBlocks (addresses_blocks (thread_pair_at s.kept last).at fresh) s.kept m) c.in-Some.ensures.taken c.link_pair_after.ensures.device) in
-    let reported = subst (λ (s : ThreadView). IoMeantFaultNoMemoryKeptOtherBlocks (address_blocks fresh) s.kept m c.link_pair_after.result) c.in-Some.ensures.taken c.link_pair_after.ensures.errors in
+    let reported = subst (λ (s : ThreadView). IoMeantFaultNoMemoryKeptOtherBlocks (address_blocks fresh) s.kept m c.link_pair_after.result) c.in-Some.ensures.taken c.link_pair_after.ensures.errors.reported in
     reports_second c.args.thread.now c.link_pair_after.new.thread c.put_new_entry.new.thread c.put_new_entry.result
     (reported.no_fault (λ io. not_both c.link_pair_after.result c.in_ok-link_pair_after.field-0 Error.Io c.in_ok-link_pair_after.was io))
     (λ none. room_left t c.args.pair c.args.id c.args.name.now c.requires.can last c.last_directory_pair-last.ensures fresh c.in-Some.ensures.were_free c.lemma_device_facts.ensures.bytes c.lemma_device_facts.ensures.count m h

@@ -1,10 +1,6 @@
 -- A pair that gets more slots or fewer, or is cut, doesn't stay with what it held.
-use Rattle.std.proofs.Common.{ℕ, zero, suc, ◌≡◌, ◌≢◌, ◌⊎◌, inl, inr, ◌+◌, ◌<◌, true, false, List, [], ◌∷◌, ◌++◌, length, Option, Some, refl, sym, ap, subst, ◌∙◌, arith, append-nil, append_assoc, length-append}
-use Rattle.std.specs.Prelude.{Contains}
-use Rattle.lfs_operations.proofs.Common.{IsDistinct, same_Some, Disk, Gstate, Slot, same_pair, AreLinked, Pair, anchor_address, blocks_of_pairs, tail_address_of, IsAccepted, pair_with_slots, Became, IsCommit, Each, pair_itself, avoids_behind, avoids_front, all_slots, HoldsOfSome, Site, among_parts, thread_at, KeptThread, thread_pair_at}
+use Rattle.lfs_operations.proofs.Common.{ℕ, zero, suc, ◌≡◌, ◌≢◌, ◌⊎◌, inl, inr, ◌+◌, ◌<◌, true, false, List, [], ◌∷◌, ◌++◌, length, Option, Some, refl, sym, ap, subst, ◌∙◌, arith, append-nil, append_assoc, length-append, IsDistinct, same_Some, Disk, Gstate, Slot, same_pair, AreLinked, Pair, anchor_address, blocks_of_pairs, tail_address_of, IsAccepted, pair_with_slots, Became, IsCommit, Each, pair_itself, avoids_behind, avoids_front, all_slots, HoldsOfSome, Site, among_parts, thread_at, KeptThread, thread_pair_at, Contains, IsPairTouched, IsPairDropped, content_after_drop}
 use Rattle.std.proofs.Common.{nat_eq}
-use Rattle.lfs_operations.specs.Changing.{IsPairTouched}
-use Rattle.lfs_operations.specs.Dropping.{IsPairDropped, content_after_drop}
 use Rattle.lfs_operations.proofs.DroppedTails.{TwoAt, front_is, gone_is, over_next, two_at, without_is}
 
 -- ---- a pair in a thread

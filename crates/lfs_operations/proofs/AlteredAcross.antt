@@ -1,13 +1,6 @@
 -- What the steps of a rename across pairs leave with what it held.
-use Rattle.std.proofs.Common.{ℕ, ◌≡◌, ◌-◌, ◌<◌, ◌≤◌, ◌⊎◌, inl, inr, Bool, true, false, List, [], ◌∷◌, ◌++◌, length, None, refl, sym, ap, subst, ◌∙◌, arith, append_assoc}
-use Rattle.std.specs.Prelude.{Contains}
-use Rattle.lfs_operations.proofs.Common.{AllByRecursion, IsFree, PairChange, Name, pair_with_slots, Slot, gstate_xor, Pair, blocks_of_pairs, address_blocks, Path, IsAccepted, all_slots_not_moved, used_blocks, SameSlots, Each, number_count, count_append, count_here, each_weaker, once_from_distinct, HoldsOfSome, Site, among_right, dirs_at, file_blocks, two, KeptThread, thread_pair_at}
+use Rattle.lfs_operations.proofs.Common.{ℕ, ◌≡◌, ◌-◌, ◌<◌, ◌≤◌, ◌⊎◌, inl, inr, Bool, true, false, List, [], ◌∷◌, ◌++◌, length, None, refl, sym, ap, subst, ◌∙◌, arith, append_assoc, AllByRecursion, IsFree, PairChange, Name, pair_with_slots, Slot, gstate_xor, Pair, blocks_of_pairs, address_blocks, Path, IsAccepted, all_slots_not_moved, used_blocks, SameSlots, Each, number_count, count_append, count_here, each_weaker, once_from_distinct, HoldsOfSome, Site, among_right, dirs_at, file_blocks, two, KeptThread, thread_pair_at, Contains, IsAlteredBlock, IsPairTouched, HasEndedAt, written_at_end, gstate_naming, CanEndSecond, second_commit_pair, number_after_insertion, drops_with_its_slot}
 use Rattle.lfs_model.proofs.BlockSets.{Contains-head, Contains-tail}
-use Rattle.lfs_operations.specs.Altering.{IsAlteredBlock}
-use Rattle.lfs_operations.specs.Changing.{IsPairTouched}
-use Rattle.lfs_operations.specs.MoveEnds.{HasEndedAt, written_at_end, gstate_naming}
-use Rattle.lfs_operations.specs.MovingSteps.{CanEndSecond, second_commit_pair, number_after_insertion}
-use Rattle.lfs_operations.specs.Removing.{drops_with_its_slot}
 use Rattle.lfs_operations.proofs.AlteredBehind.{entered_alters, gone_alters}
 use Rattle.lfs_operations.proofs.MovAcross.{Arranged}
 use Rattle.lfs_operations.proofs.MovStep.{IsFirst, IsLeftOver, arr, last_taken, left_over}
@@ -31,15 +24,15 @@ within_two true chain front os mid q more back = record {
 }
 within_two false chain front os mid q more back = record { before = chain ++ front; behind = mid ++ (os ++ back); is = sym (append_assoc chain front (q ∷ (more ++ (mid ++ (os ++ back))))) }
 
-module _ (t : KeptThread) (sync : Bool) (old_pair : ℕ) (goes : Bool) (new_pair : ℕ) (changes : List PairChange) (wo : Site) (o : Pair) (lo : List Slot) (u : Slot) (ro : List Slot) (w : Site) (p : Pair) (l : List Slot) (v : Slot) (r : List Slot)
-    (old_path new_path : Path) (name : Name) (k : IsFirst t sync old_pair goes new_pair changes wo o lo u ro w p l None v r old_path new_path name)
+module _ {t : KeptThread} {sync : Bool} {old_pair : ℕ} {goes : Bool} {new_pair : ℕ} {changes : List PairChange} {wo : Site} {o : Pair} {lo : List Slot} {u : Slot} {ro : List Slot} {w : Site} {p : Pair} {l : List Slot} {v : Slot} {r : List Slot}
+    {old_path new_path : Path} {name : Name} (k : IsFirst t sync old_pair goes new_pair changes wo o lo u ro w p l None v r old_path new_path name)
     (mid : KeptThread) (x : TurnedTo t w p (l ++ v ∷ r) (gstate_xor (gstate_naming sync o.at (length lo)) p.content.move) mid)
     (last : KeptThread) (e : HasEndedAt mid (number_after_insertion old_pair new_pair (length mid.pairs - length t.pairs)) (length lo) goes last) where
   abbrev a : Arranged t.disk wo o w p x.q x.more
-  a = arr t sync old_pair goes new_pair changes wo o lo u ro w p l None v r old_path new_path name k mid x
+  a = arr k mid x
 
-  left : IsLeftOver t sync old_pair goes new_pair changes wo o lo u ro w p l None v r old_path new_path name k mid x last e
-  left = left_over t sync old_pair goes new_pair changes wo o lo u ro w p l None v r old_path new_path name k mid x last e
+  left : IsLeftOver k mid x last e
+  left = left_over k mid x last e
 
   place : IsWithin (w.chain ++ two a.b a.front left.os a.mid (x.q ∷ x.more) a.back) x.q x.more
   place = within_two a.b w.chain a.front left.os a.mid x.q x.more a.back
@@ -56,7 +49,7 @@ module _ (t : KeptThread) (sync : Bool) (old_pair : ℕ) (goes : Bool) (new_pair
   -- it has one slot more, or is cut
   pub moved_alters : IsPairTouched t new_pair last
   moved_alters has = entered_alters t last t.disk p (pair_with_slots (l ++ v ∷ r) p) x.q x.more place.before place.behind l r v k.ready.accepted
-      (last_taken t sync old_pair goes new_pair changes wo o lo u ro w p l None v r old_path new_path name k mid x last e).follows.accepted
+      (last_taken k mid x last e).follows.accepted
       (subst (λ z. SameSlots z last.pairs) (ap (λ z. w.chain ++ z) (sym (a.cut left.os)) ∙ place.is) left.alike)
       x.turned.at x.turned.is k.setting.was x.turned.became fresh there
       (subst (Contains last.pairs) (pair_is t new_pair changes w p (l ++ v ∷ r) (gstate_xor (gstate_naming sync o.at (length lo)) p.content.move) k.turn) has)

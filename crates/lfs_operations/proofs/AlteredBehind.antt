@@ -1,8 +1,5 @@
 -- Pairs that don't stay with what they held, as tails and slots tell.
-use Rattle.std.proofs.Common.{ℕ, ◌≡◌, ◌+◌, ◌-◌, ◌<◌, ◌≤◌, inl, inr, nat_eq, List, [], ◌∷◌, ◌++◌, length, Option, Some, refl, sym, ap, subst, ◌∙◌, arith, append-nil, length-append}
-use Rattle.std.specs.Prelude.{Contains}
-use Rattle.lfs_operations.proofs.Common.{IsDistinct, same_Some, Disk, Slot, AreLinked, Pair, anchor_address, blocks_of_pairs, tail_address_of, address_blocks, IsAccepted, SameSlots, Became, number_count, count_append, count_here, HoldsOfSome, all_slots, KeptThread, thread_pair_at}
-use Rattle.lfs_operations.specs.Changing.{IsPairTouched}
+use Rattle.lfs_operations.proofs.Common.{ℕ, ◌≡◌, ◌+◌, ◌-◌, ◌<◌, ◌≤◌, inl, inr, nat_eq, List, [], ◌∷◌, ◌++◌, length, Option, Some, refl, sym, ap, subst, ◌∙◌, arith, append-nil, length-append, IsDistinct, same_Some, Disk, Slot, AreLinked, Pair, anchor_address, blocks_of_pairs, tail_address_of, address_blocks, IsAccepted, SameSlots, Became, number_count, count_append, count_here, HoldsOfSome, all_slots, KeptThread, thread_pair_at, Contains, IsPairTouched}
 use Rattle.lfs_operations.proofs.Altered.{among_contains, links_behind, only_there}
 use Rattle.lfs_operations.proofs.DroppedTails.{TwoAt, front_is, gone_is, two_at}
 

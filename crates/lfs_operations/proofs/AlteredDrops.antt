@@ -1,10 +1,5 @@
 -- An empty directory goes: the pairs in front of those that go don't stay with what they held.
-use Rattle.std.proofs.Common.{refl, ℕ, ◌≡◌, ◌+◌, ◌-◌, ◌<◌, ◌≤◌, false, [], ◌∷◌, length, Some, sym, ap, ◌∙◌, arith}
-use Rattle.lfs_operations.proofs.Common.{IsPairCommitted, Gstate, zero_gstate, AreLinked, Pair, anchor_address, blocks_of_pairs, address_blocks, number_count, count_here, once_from_distinct, sync_bit_delta, KeptThread, thread_pair_at}
-use Rattle.lfs_operations.specs.Changing.{IsPairTouched}
-use Rattle.lfs_operations.specs.Dropping.{CanDropAt, IsPairDropped, content_after_drop}
-use Rattle.lfs_operations.specs.Removing.{drops_with_its_slot}
-use Rattle.lfs_operations.specs.Unlinking.{AreBeforeAltered, CanRemoveDirectory, unlink_changes, number_after_drop}
+use Rattle.lfs_operations.proofs.Common.{refl, ℕ, ◌≡◌, ◌+◌, ◌-◌, ◌<◌, ◌≤◌, false, [], ◌∷◌, length, Some, sym, ap, ◌∙◌, arith, IsPairCommitted, Gstate, zero_gstate, AreLinked, Pair, anchor_address, blocks_of_pairs, address_blocks, number_count, count_here, once_from_distinct, sync_bit_delta, KeptThread, thread_pair_at, IsPairTouched, CanDropAt, IsPairDropped, content_after_drop, drops_with_its_slot, AreBeforeAltered, CanRemoveDirectory, unlink_changes, number_after_drop}
 use Rattle.lfs_operations.proofs.AlteredTails.{names_next, tail_goes}
 use Rattle.lfs_operations.proofs.Dropped.{blocks_dropped}
 use Rattle.lfs_operations.proofs.DroppedTails.{gone_is, two_at, without_is}

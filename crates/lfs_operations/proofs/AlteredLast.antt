@@ -1,43 +1,28 @@
 -- What a rename across pairs onto a directory leaves with what it held.
-use Rattle.std.proofs.Common.{ℕ, ◌≢◌, ◌-◌, ◌<◌, ◌≤◌, ◌⊎◌, inl, inr, true, List, ◌∷◌, ◌++◌, subst, arith}
-use Rattle.std.specs.Prelude.{Contains}
-use Rattle.lfs_operations.proofs.Common.{cases_lt, All-from_recursion, recursion_from_All, IsFree, IsPairAt, Name, zero_gstate, blocks_of_pairs, address_blocks, addresses_blocks, Contains-number_count, number_count-Contains, number_count, count_append, each_counted, KeptThread, ChangesThreadBlocks, empty_anchor, thread_pair_at}
-use Rattle.lfs_operations.specs.Altering.{ChangesGiven}
-use Rattle.lfs_operations.specs.Dropping.{IsPairDropped}
-use Rattle.lfs_operations.specs.MovingSteps.{WritesTwoTwo, second_commit_pair}
-use Rattle.lfs_operations.specs.MovingOnto.{CanReplaceDirectoryOver, IsEntryReplaced}
-use Rattle.lfs_operations.proofs.AlteredAcross.{IsKnown, each_known}
+use Rattle.lfs_operations.proofs.Common.{ℕ, ◌≢◌, ◌-◌, ◌<◌, ◌≤◌, ◌⊎◌, inl, inr, true, ◌∷◌, ◌++◌, arith, cases_lt, All-from_recursion, recursion_from_All, IsFree, IsPairAt, Name, zero_gstate, blocks_of_pairs, address_blocks, addresses_blocks, Contains-number_count, number_count-Contains, number_count, count_append, each_counted, KeptThread, ChangesThreadBlocks, empty_anchor, thread_pair_at, Contains, ChangesGiven, IsPairDropped, WritesTwoTwo, second_commit_pair, CanReplaceDirectoryOver, IsMovedAcross}
+use Rattle.lfs_operations.proofs.AlteredAcross.{each_known}
 use Rattle.lfs_operations.proofs.AlteredLater.{onto_known}
 use Rattle.lfs_operations.proofs.AlteredOnto.{last_known}
 use Rattle.lfs_operations.proofs.MovReplace.{onto_directory}
-use Rattle.lfs_operations.proofs.OntoAcross.{can_drop_later, gone_above_later, renamed_directory, replacing_later}
+use Rattle.lfs_operations.proofs.OntoAcross.{gone_above, renamed_onto, replacing_across}
 use Rattle.lfs_operations.proofs.OntoWritten.{there_counted}
-use Rattle.lfs_operations.proofs.Putting.{with_history, writes_trans, writes_wider}
-use Rattle.lfs_operations.proofs.LastDrop.{end_fewer}
+use Rattle.lfs_operations.proofs.Putting.{writes_trans, writes_wider}
+use Rattle.lfs_operations.proofs.LastDrop.{can_drop_last, end_fewer}
 
 module _ (t : KeptThread) (old_pair old_id first new_pair new_id : ℕ) (name : Name) (gone : ℕ) (rename : CanReplaceDirectoryOver t old_pair old_id first new_pair new_id name gone) (m : KeptThread)
-    (h : IsEntryReplaced t true old_pair old_id first new_pair new_id name m) (n : ℕ) (at : IsPairAt m.pairs (thread_pair_at t gone).at n) (new : KeptThread) (g : IsPairDropped m (n - 1) zero_gstate new) where
-  abbrev later : KeptThread
-  later = with_history t h.from.history
-
+    (h : IsMovedAcross t true true old_pair old_id first new_pair new_id name m) (n : ℕ) (at : IsPairAt m.pairs (thread_pair_at t gone).at n) (new : KeptThread) (g : IsPairDropped m (n - 1) zero_gstate new) where
   -- a block of the pair that the last step writes was a pair's, or free
   before : (b : ℕ) → Contains (address_blocks (thread_pair_at m (n - 1)).at) b → (1 ≤ number_count b (blocks_of_pairs t.pairs)) ⊎ IsFree t.map b
-  before b own = go (cases_lt 0 (number_count b (blocks_of_pairs h.from.pairs)))
+  before b own = go (cases_lt 0 (number_count b (blocks_of_pairs t.pairs)))
     where
-      within : Contains (blocks_of_pairs h.from.pairs ++ h.done.blocks.written.fresh) b
+      within : Contains (blocks_of_pairs t.pairs ++ h.done.blocks.written.fresh) b
       within = h.done.blocks.within b (Contains-number_count (blocks_of_pairs m.pairs) b
-          (there_counted m.pairs (n - 1) empty_anchor (let l = (can_drop_later t old_pair old_id first new_pair new_id name gone rename m h n at).below in omega (arith, l)) b (number_count-Contains (address_blocks (thread_pair_at m (n - 1)).at) b own)))
+          (there_counted m.pairs (n - 1) empty_anchor (let l = (can_drop_last (replacing_across t old_pair old_id first new_pair new_id name gone rename m h n at)).below in omega (arith, l)) b (number_count-Contains (address_blocks (thread_pair_at m (n - 1)).at) b own)))
 
-      go : (0 < number_count b (blocks_of_pairs h.from.pairs)) ⊎ (number_count b (blocks_of_pairs h.from.pairs) ≤ 0) → (1 ≤ number_count b (blocks_of_pairs t.pairs)) ⊎ IsFree t.map b
-      go (inl l) = inl (subst (λ ps. 1 ≤ number_count b (blocks_of_pairs ps)) h.only.pairs l)
-      go (inr l) = inr (subst (λ map. IsFree map b) h.only.map (each_counted (IsFree h.from.map) h.done.blocks.written.fresh h.done.blocks.written.free b
-          (let k = number_count-Contains (blocks_of_pairs h.from.pairs ++ h.done.blocks.written.fresh) b within in let c = count_append b (blocks_of_pairs h.from.pairs) h.done.blocks.written.fresh in omega (arith, k, c, l))))
-
-  -- said of the image from before the slot was read
-  earlier : (bs : List ℕ) (b : ℕ) → IsKnown later new bs b → IsKnown t new bs b
-  earlier bs b (inl has) = inl has
-  earlier bs b (inr (inl k)) = inr (inl (record { index = k.index; below = k.below; own = k.own; alters = k.alters }))
-  earlier bs b (inr (inr free)) = inr (inr free)
+      go : (0 < number_count b (blocks_of_pairs t.pairs)) ⊎ (number_count b (blocks_of_pairs t.pairs) ≤ 0) → (1 ≤ number_count b (blocks_of_pairs t.pairs)) ⊎ IsFree t.map b
+      go (inl l) = inl l
+      go (inr l) = inr (each_counted (IsFree t.map) h.done.blocks.written.fresh h.done.blocks.written.free b
+          (let k = number_count-Contains (blocks_of_pairs t.pairs ++ h.done.blocks.written.fresh) b within in let c = count_append b (blocks_of_pairs t.pairs) h.done.blocks.written.fresh in omega (arith, k, c, l)))
 
   pub altered_onto_directory : WritesTwoTwo t (second_commit_pair t old_pair first) new_pair m → ChangesThreadBlocks (address_blocks (thread_pair_at m (n - 1)).at) m new → ChangesGiven t (addresses_blocks (thread_pair_at t old_pair).at (thread_pair_at t new_pair).at) new
   altered_onto_directory w second =
@@ -45,15 +30,12 @@ module _ (t : KeptThread) (old_pair old_id first new_pair new_id : ℕ) (name : 
       let p = (thread_pair_at t new_pair).at in
       let q = (thread_pair_at t (second_commit_pair t old_pair first)).at in
       let bs = p.0 ∷ p.1 ∷ q.0 ∷ q.1 ∷ w.fresh in
-      let k = replacing_later t old_pair old_id first new_pair new_id name gone rename m h n at in
+      let k = replacing_across t old_pair old_id first new_pair new_id name gone rename m h n at in
       record {
         blocks = y.0 ∷ y.1 ∷ bs;
         writes = writes_trans (writes_wider (y.0 ∷ y.1 ∷ bs) (λ b a. All-from_recursion (λ c. c ≢ b) bs (recursion_from_All (λ c. c ≢ b) (y.0 ∷ y.1 ∷ bs) a).1.1) w.writes)
             (writes_wider (y.0 ∷ y.1 ∷ bs) (λ b a. let r = recursion_from_All (λ c. c ≢ b) (y.0 ∷ y.1 ∷ bs) a in All-from_recursion (λ c. c ≢ b) (address_blocks y) (r.0, (r.1.0, tt))) second);
         each = each_known t new (addresses_blocks (thread_pair_at t old_pair).at p) y bs
-            (λ b own. earlier (addresses_blocks (thread_pair_at t old_pair).at p) b (last_known later m gone n (gone_above_later t old_pair old_id first new_pair new_id name gone rename m h) rename.below k new g
-            (addresses_blocks (thread_pair_at t old_pair).at p) b (before b own) own))
-            (onto_known true t h.from h.only old_pair old_id first new_pair new_id name (onto_directory rename) h.address m h.done new
-            (renamed_directory t old_pair old_id first new_pair new_id name gone rename m h n at new g).now.ready.accepted
-            (end_fewer k new g) w);
+            (λ b own. last_known t m gone n (gone_above t old_pair old_id first new_pair new_id name gone rename m h) rename.below k new g (addresses_blocks (thread_pair_at t old_pair).at p) b (before b own) own)
+            (onto_known (onto_directory rename) h new (renamed_onto t old_pair old_id first new_pair new_id name gone rename m h n at new g).now.ready.accepted (end_fewer k new g) w);
       }

@@ -1,10 +1,5 @@
 -- What the last step of a rename onto a directory leaves with what it held: the directory's pair goes.
-use Rattle.std.proofs.Common.{ℕ, zero, suc, ◌≡◌, ◌+◌, ◌-◌, ◌<◌, ◌≤◌, ◌⊎◌, inl, inr, List, [], ◌∷◌, ◌++◌, length, Some, refl, sym, ap, subst, ◌∙◌, arith, get_or}
-use Rattle.std.specs.Prelude.{Contains}
-use Rattle.lfs_operations.proofs.Common.{cases_lt, IsFree, all_slots_not_moved, used_blocks, zero_gstate, Pair, anchor_address, blocks_of_pairs, tail_address_of, address_blocks, addresses_blocks, Tree, IsAccepted, Contains-number_count, number_count-Contains, number_count, count_append, count_here, once_from_distinct, HoldsOfSome, among_right, file_blocks, KeptThread, ChangesThreadBlocks, empty_anchor, thread_pair_at, PathAddresses}
-use Rattle.lfs_operations.specs.Altering.{ChangesGiven}
-use Rattle.lfs_operations.specs.Changing.{IsPairTouched}
-use Rattle.lfs_operations.specs.Dropping.{IsPairDropped}
+use Rattle.lfs_operations.proofs.Common.{ℕ, zero, suc, ◌≡◌, ◌+◌, ◌-◌, ◌<◌, ◌≤◌, ◌⊎◌, inl, inr, List, [], ◌∷◌, ◌++◌, length, Some, refl, sym, ap, subst, ◌∙◌, arith, get_or, cases_lt, IsFree, all_slots_not_moved, used_blocks, zero_gstate, Pair, anchor_address, blocks_of_pairs, tail_address_of, address_blocks, addresses_blocks, Tree, IsAccepted, Contains-number_count, number_count-Contains, number_count, count_append, count_here, once_from_distinct, HoldsOfSome, among_right, file_blocks, KeptThread, ChangesThreadBlocks, empty_anchor, thread_pair_at, PathAddresses, Contains, ChangesGiven, IsPairTouched, IsPairDropped}
 use Rattle.lfs_operations.proofs.Altered.{among_contains}
 use Rattle.lfs_operations.proofs.AlteredAcross.{IsKnown, each_known}
 use Rattle.lfs_operations.proofs.AlteredBehind.{gone_alters, owner_counted, same_next, same_owner}

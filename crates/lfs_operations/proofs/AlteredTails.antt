@@ -1,9 +1,5 @@
 -- A pair whose tail named a pair that goes, or names one that comes, doesn't stay with what it held.
-use Rattle.std.proofs.Common.{ℕ, ◌≡◌, ◌+◌, ◌<◌, ◌≤◌, ◌⊎◌, inl, inr, true, false, nat_eq, List, [], ◌∷◌, ◌++◌, length, Option, Some, sym, ap, subst, ◌∙◌, arith}
-use Rattle.std.specs.Prelude.{Contains}
-use Rattle.lfs_operations.proofs.Common.{IsDistinct, same_Some, AreUsed, IsFree, all_slots_not_moved, used_blocks, AreLinked, Pair, anchor_address, blocks_of_pairs, is_hard_tail, tail_address_of, number_count, count_append, count_here, HoldsOfSome, file_blocks, KeptThread, thread_pair_at}
-use Rattle.lfs_operations.specs.Changing.{IsPairTouched}
-use Rattle.lfs_operations.specs.Ready.{IsReadyImage}
+use Rattle.lfs_operations.proofs.Common.{ℕ, ◌≡◌, ◌+◌, ◌<◌, ◌≤◌, ◌⊎◌, inl, inr, true, false, nat_eq, List, [], ◌∷◌, ◌++◌, length, Option, Some, sym, ap, subst, ◌∙◌, arith, IsDistinct, same_Some, AreUsed, IsFree, all_slots_not_moved, used_blocks, AreLinked, Pair, anchor_address, blocks_of_pairs, is_hard_tail, tail_address_of, number_count, count_append, count_here, HoldsOfSome, file_blocks, KeptThread, thread_pair_at, Contains, IsPairTouched, IsReadyImage}
 use Rattle.lfs_operations.proofs.Altered.{among_contains, links_behind, only_there}
 use Rattle.lfs_operations.proofs.DroppedTails.{front_is, gone_is, two_at}
 use Rattle.lfs_operations.proofs.Placing.{blocks_append}

@@ -1,16 +1,9 @@
 -- A file that comes, as a step of the thread.
-use Rattle.std.proofs.Common.{ℕ, ◌≡◌, ◌≤◌, List, [], ◌∷◌, ◌++◌, length, Some, refl, sym, ap, ap₂, subst, ◌∙◌, arith, length-append, insert}
-use Rattle.std.specs.Prelude.{Contains}
-use Rattle.std.specs.Option.{option_and_then}
-use Rattle.lfs_operations.proofs.Common.{ne_eqb, tree_creating, changed_content_of, RawContent, raw_content, complete_content, file_name_type, CanSplit, Disk, CallEvent, BelongsAt, IsAllowed, Name, SurvivesLossSince, Slot, PairContent, path_or_root, Pair, blocks_of_pairs, tail_address_of, Session, Tree, FileNode, IsAccepted, all_entries, tree_on_disk, IsChangedImage, IsCompletion, no_move_from, recovered_from, commit_step, complete_insert, complete_length, completed_parts, completed_from, creates_with_struct, does_nothing, slot_with, insert_cut, nothing_there, place_at, insert_here, IsPlace, some_filled, site, place_of_belongs, Site, thread_at, logged_changed, tag_type-make_tag, tag_length-make_tag, changed_pair, LossLeavesCleanly, KeptThread, thread_pair_at, complete_after}
+use Rattle.lfs_operations.proofs.Common.{ℕ, ◌≡◌, ◌≤◌, List, [], ◌∷◌, ◌++◌, length, Some, refl, sym, ap, ap₂, subst, ◌∙◌, arith, length-append, insert, ne_eqb, tree_creating, changed_content_of, RawContent, raw_content, complete_content, file_name_type, CanSplit, Disk, CallEvent, BelongsAt, IsAllowed, Name, SurvivesLossSince, Slot, PairContent, path_or_root, Pair, blocks_of_pairs, tail_address_of, Session, Tree, FileNode, IsAccepted, all_entries, tree_on_disk, IsChangedImage, IsCompletion, no_move_from, recovered_from, commit_step, complete_insert, complete_length, completed_parts, completed_from, creates_with_struct, does_nothing, slot_with, insert_cut, nothing_there, place_at, insert_here, IsPlace, some_filled, site, place_of_belongs, Site, thread_at, logged_changed, tag_type-make_tag, tag_length-make_tag, changed_pair, LossLeavesCleanly, KeptThread, thread_pair_at, complete_after, Contains, option_and_then, file_comes, create_completed, IsPairTouched, CanTurn, LeftByTurn, IsTurned, CanCreateIn, IsFileCreated, creation_changes, tree_with_file}
 use Rattle.lfs_model.specs.format.EntryTypes.{inline_type}
 use Rattle.lfs_model.specs.session.Operations as ops
 use Rattle.lfs_model.specs.session.Operations.{FlagsOfOpen}
 use Rattle.lfs_model.specs.session.SlotEdits.{file_slot}
-use Rattle.lfs_model.proofs.Moves.{file_comes}
-use Rattle.lfs_model.proofs.OneCommit.{create_completed}
-use Rattle.lfs_operations.specs.Changing.{IsPairTouched, CanTurn, LeftByTurn, IsTurned}
-use Rattle.lfs_operations.specs.Creating.{CanCreateIn, IsFileCreated, creation_changes, tree_with_file}
 use Rattle.lfs_operations.proofs.Altered.{commit_alters}
 use Rattle.lfs_operations.proofs.Held.{CompletesTo, below, fits_there, here, raw_there}
 use Rattle.lfs_operations.proofs.Splicing.{Commits, IsSplicing}

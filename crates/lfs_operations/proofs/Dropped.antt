@@ -1,9 +1,5 @@
 -- A pair that went from the thread, in an accepted image: what the device holds then, and which blocks the image uses.
-use Rattle.std.proofs.Common.{ℕ, ◌≡◌, ◌≢◌, ◌⊎◌, inl, inr, ◌+◌, ◌-◌, ◌≤◌, Bool, true, false, cond, nat_eq, eqb-true, eq-eqb, List, [], ◌∷◌, ◌++◌, length, Option, Some, refl, sym, ap, ap₂, subst, subst₂, ◌∙◌, arith, append_assoc, length-append, length-set, set, slice_get}
-use Rattle.std.specs.Prelude.{Contains, ◌↔◌}
-use Rattle.lfs_operations.proofs.Common.{All-from_recursion, recursion_from_All, same_Some, AreUsed, BlockStates, BlockState, IsInFlight, IsUsedBlock, Free, InFlight, Used, Blocks, content_at, Disk, MoveStateFits, HasEither, with_blocks, IsWritable, Gstate, FitsInPair, PairContent, Slot, Pair, blocks_of_pairs, pairs_gstate, address_blocks, Tree, IsAccepted, all_slots_not_moved, tree_on_disk, used_blocks, Contains-number_count, number_count-Contains, slice_get-set_other, slice_get-set_same, SameFiles, slots_files, Each, number_count, count_append, count_here, each_append, each_left, each_right, once_from_distinct, SameFileBlocks, HasNoMove, Site, thread_at, IsDevice, count_files, file_blocks, all_slots, unmoved_in, KeptThread, IsPairWritten, BeginWithSuperblock, thread_pair_at, map_freeing}
-use Rattle.lfs_operations.specs.Dropping.{CanDropAt, SameInFlight, LeftByDrop, IsPairDropped, content_after_drop, tail_over_drop}
-use Rattle.lfs_operations.specs.MoveEnds.{dropped_at_end, map_move_ended}
+use Rattle.lfs_operations.proofs.Common.{ℕ, ◌≡◌, ◌≢◌, ◌⊎◌, inl, inr, ◌+◌, ◌-◌, ◌≤◌, Bool, true, false, cond, nat_eq, eqb-true, eq-eqb, List, [], ◌∷◌, ◌++◌, length, Option, Some, refl, sym, ap, ap₂, subst, subst₂, ◌∙◌, arith, append_assoc, length-append, length-set, set, slice_get, All-from_recursion, recursion_from_All, same_Some, AreUsed, BlockStates, BlockState, IsInFlight, IsUsedBlock, Free, InFlight, Used, Blocks, content_at, Disk, MoveStateFits, HasEither, with_blocks, IsWritable, Gstate, FitsInPair, PairContent, Slot, Pair, blocks_of_pairs, pairs_gstate, address_blocks, Tree, IsAccepted, all_slots_not_moved, tree_on_disk, used_blocks, Contains-number_count, number_count-Contains, slice_get-set_other, slice_get-set_same, SameFiles, slots_files, Each, number_count, count_append, count_here, each_append, each_left, each_right, once_from_distinct, SameFileBlocks, HasNoMove, Site, thread_at, IsDevice, count_files, file_blocks, all_slots, unmoved_in, KeptThread, IsPairWritten, BeginWithSuperblock, thread_pair_at, map_freeing, Contains, ◌↔◌, CanDropAt, SameInFlight, LeftByDrop, IsPairDropped, content_after_drop, tail_over_drop, dropped_at_end, map_move_ended}
 use Rattle.lfs_operations.proofs.DroppedTails.{front_is, gone_is, gstate_is, without_is}
 use Rattle.lfs_operations.proofs.Placing.{blocks_append, device, left_still}
 use Rattle.lfs_operations.proofs.Taking.{within}

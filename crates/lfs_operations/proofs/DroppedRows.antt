@@ -1,7 +1,5 @@
 -- Rows of what a pair that goes leaves to the one in front of it, and of numbers once a pair is gone.
-use Rattle.std.proofs.Common.{◌≡◌, true, false, Some, None, refl}
-use Rattle.lfs_operations.specs.Dropping.{tail_over_drop}
-use Rattle.lfs_operations.specs.Unlinking.{number_after_drop}
+use Rattle.lfs_operations.proofs.Common.{◌≡◌, true, false, Some, None, refl, tail_over_drop, number_after_drop}
 
 -- inside a directory
 goes_on : tail_over_drop (Some (record { hard = true; to = (6, 7) })) (Some (record { hard = true; to = (8, 9) })) ≡ Some (record { hard = true; to = (8, 9) })

@@ -1,12 +1,5 @@
 -- What a pair that goes leaves to the one in front of it, as changes of that one.
-use Rattle.std.proofs.Common.{ℕ, zero, suc, ◌≡◌, ◌+◌, ◌<◌, ◌&&◌, Bool, true, false, cond, not, inl, inr, ◌⊎◌, List, [], ◌∷◌, ◌++◌, length, Option, Some, None, refl, sym, ap, ap₂, subst, ◌∙◌, arith, get_or, set, remove}
-use Rattle.std.specs.Option.{option_and_then}
-use Rattle.std.specs.Prelude.{slice_index}
-use Rattle.lfs_operations.proofs.Common.{xor_lt, same_Some, Blocks, PutMove, PutTail, changed_content_of, RawContent, complete_content, content_after, content_at, has_commit, current_of_two, current_block, is_later, empty_raw_content, raw_content, Disk, disk_block, block_entries, block_revision, IsWellFormed, MoveStateFits, PairContent, FitsInPair, Gstate, Tail, gstate_xor, zero_gstate, Pair, pairs_gstate, tail_address_of, completed_from, completed_parts, Each, each_right, each_weaker, Does, does_first, does_nothing, puts_move, puts_tail, gstate_assoc, gstate_comm, gstate_cons, gstate_moved, gstate_right, gstate_self, logged, KeptThread, CanDropNext, IsNextDropped, LossLeavesPairChanged, RefusesCommit, IsPairWritten, complete_after, empty_anchor, thread_pair_at, tail_setting_change, pairs_with}
-use Rattle.lfs_device.specs.Bytes.{HoldBytes}
-use Rattle.lfs_model.specs.layers.LoggedContent.{IsAllowedTail}
-use Rattle.lfs_model.proofs.Effects.{ends_tail}
-use Rattle.lfs_operations.specs.Dropping.{IsPairDropped, LeftByDrop, delta_after_drop, tail_after_drop, tail_over_drop, dropping_changes, content_after_drop}
+use Rattle.lfs_operations.proofs.Common.{ℕ, zero, suc, ◌≡◌, ◌+◌, ◌<◌, ◌&&◌, Bool, true, false, cond, not, inl, inr, ◌⊎◌, List, [], ◌∷◌, ◌++◌, length, Option, Some, None, refl, sym, ap, ap₂, subst, ◌∙◌, arith, get_or, set, remove, xor_lt, same_Some, Blocks, PutMove, PutTail, changed_content_of, RawContent, complete_content, content_after, content_at, has_commit, current_of_two, current_block, is_later, empty_raw_content, raw_content, Disk, disk_block, block_entries, block_revision, IsWellFormed, MoveStateFits, PairContent, FitsInPair, Gstate, Tail, gstate_xor, zero_gstate, Pair, pairs_gstate, tail_address_of, completed_from, completed_parts, Each, each_right, each_weaker, Does, does_first, does_nothing, puts_move, puts_tail, gstate_assoc, gstate_comm, gstate_cons, gstate_moved, gstate_right, gstate_self, logged, KeptThread, CanDropNext, IsNextDropped, LossLeavesPairChanged, RefusesCommit, IsPairWritten, complete_after, empty_anchor, thread_pair_at, tail_setting_change, pairs_with, option_and_then, slice_index, HoldBytes, IsAllowedTail, ends_tail, IsPairDropped, LeftByDrop, delta_after_drop, tail_after_drop, tail_over_drop, dropping_changes, content_after_drop}
 use Rattle.lfs_operations.proofs.Held.{completes_to}
 use Rattle.lfs_operations.proofs.Threads.{get_at, set_at}
 

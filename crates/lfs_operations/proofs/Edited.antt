@@ -1,16 +1,8 @@
 -- An entry whose attributes change, as a step of the thread.
-use Rattle.std.proofs.Common.{ℕ, ◌≡◌, ◌^◌, ◌<◌, ◌≤◌, true, false, List, [], ◌∷◌, ◌++◌, Some, refl, sym, ap, subst, ◌∙◌, arith, inl}
-use Rattle.std.specs.Prelude.{All}
-use Rattle.lfs_operations.proofs.Common.{Name, recursion_from_All, tree_with_change, PairChange, PutAttribute, RawSlot, attributes_with, attributes_without, Disk, CallEvent, Operation, SurvivesLossSince, Session, path_or_root, Attributes, Slot, is_superblock, same_pair, slot_size, Pair, blocks_of_pairs, Tree, IsTreeEntry, IsWellFormedCtz, IsWritableEntry, IsWritableSlot, LeadsTo, all_slots_not_moved, tree_on_disk, IsChangedImage, IsCompletion, recovered_from, commit_step, Each, each_right, number_count, puts_attribute, file_blocks_same, is_list_same, HoldsAtLosses-weaker, some_filled, Site, thread_at, begin_of, LossLeavesCleanly, KeptThread, CanChangePair, IsPairCommitted, LossLeavesPairChanged, RefusesCommit}
+use Rattle.lfs_operations.proofs.Common.{ℕ, ◌≡◌, ◌^◌, ◌<◌, ◌≤◌, true, false, List, [], ◌∷◌, ◌++◌, Some, refl, sym, ap, subst, ◌∙◌, arith, inl, Name, recursion_from_All, tree_with_change, PairChange, PutAttribute, RawSlot, attributes_with, attributes_without, Disk, CallEvent, Operation, SurvivesLossSince, Session, path_or_root, Attributes, Slot, is_superblock, same_pair, slot_size, Pair, blocks_of_pairs, Tree, IsTreeEntry, IsWellFormedCtz, IsWritableEntry, IsWritableSlot, LeadsTo, all_slots_not_moved, tree_on_disk, IsChangedImage, IsCompletion, recovered_from, commit_step, Each, each_right, number_count, puts_attribute, file_blocks_same, is_list_same, HoldsAtLosses-weaker, some_filled, Site, thread_at, begin_of, LossLeavesCleanly, KeptThread, CanChangePair, IsPairCommitted, LossLeavesPairChanged, RefusesCommit, All, removes_attribute, attributes_change, remove_attr_completed, set_attr_completed, CanTurn, LeftByTurn, IsTurned, CanEditIn, CanSetAttribute, HasRemovedAttribute, HasSetAttribute, editable_slot, tree_with_attributes_set, ShowsReadyTree}
 use Rattle.lfs_model.specs.session.TreeEdits.{node_attributes_of, with_attributes}
 use Rattle.lfs_model.specs.layers.Changes.{RemoveAttribute}
 use Rattle.lfs_model.specs.session.Operations as ops
-use Rattle.lfs_model.proofs.Effects.{removes_attribute}
-use Rattle.lfs_model.proofs.Moves.{attributes_change}
-use Rattle.lfs_model.proofs.OneCommit.{remove_attr_completed, set_attr_completed}
-use Rattle.lfs_operations.specs.Changing.{CanTurn, LeftByTurn, IsTurned}
-use Rattle.lfs_operations.specs.Editing.{CanEditIn, CanSetAttribute, HasRemovedAttribute, HasSetAttribute, editable_slot, tree_with_attributes_set}
-use Rattle.lfs_operations.specs.Ready.{ShowsReadyTree}
 use Rattle.lfs_operations.proofs.Held.{each_pair}
 use Rattle.lfs_operations.proofs.Replacing as replacing
 use Rattle.lfs_operations.proofs.Replacing.{Makes, Names, Turns, can_put, entry, leads_there, of_slot, same_there, splicing, there}

@@ -1,11 +1,6 @@
 -- What a pair of an accepted image holds, as its log has it.
-use Rattle.std.proofs.Common.{ℕ, ◌≡◌, ◌+◌, ◌<◌, false, take, drop, List, [], ◌∷◌, ◌++◌, length, Option, Some, None, refl, sym, ap, subst, ◌∙◌, arith, append_assoc, length-append, get_or}
-use Rattle.std.specs.Option.{option_and_then}
-use Rattle.std.specs.Prelude.{slice_index}
 use Rattle.lfs_model.specs.declared.limits.AcceptedVersions.{AcceptedVersions}
-use Rattle.lfs_operations.proofs.Common.{block_entries, logged, recursion_from_All, RawContent, raw_content, content_after, content_at, complete_content, current_block, empty_raw_content, Disk, IsPairOfDirectory, PairContent, FitsInPair, Slot, is_superblock, BeginsWithSuperblock, IsAccepted, IsTreeEntry, take-append-drop, Pair, pair_count_before_root, Each, each_append, each_right, each_weaker, KeptThread, thread_pair_at, empty_anchor}
-use Rattle.std.specs.Prelude.{All}
-use Rattle.lfs_operations.specs.Ready.{IsRawFormed, IsReadyImage}
+use Rattle.lfs_operations.proofs.Common.{ℕ, ◌≡◌, ◌+◌, ◌<◌, false, take, drop, List, [], ◌∷◌, ◌++◌, length, Option, Some, None, refl, sym, ap, subst, ◌∙◌, arith, append_assoc, length-append, get_or, block_entries, logged, recursion_from_All, RawContent, raw_content, content_after, content_at, complete_content, current_block, empty_raw_content, Disk, IsPairOfDirectory, PairContent, FitsInPair, Slot, is_superblock, BeginsWithSuperblock, IsAccepted, IsTreeEntry, take-append-drop, Pair, pair_count_before_root, Each, each_append, each_right, each_weaker, KeptThread, thread_pair_at, empty_anchor, option_and_then, slice_index, All, IsRawFormed, IsReadyImage}
 
 -- a content that is complete comes of one that is there
 pub record CompletesTo (o : Option RawContent) (c : PairContent) : Type 0 where

@@ -1,8 +1,5 @@
 -- The last step of an operation drops a pair that no path leads to any more.
-use Rattle.std.proofs.Common.{ℕ, ◌≡◌, inr, ◌+◌, ◌-◌, ◌≤◌, false, List, [], ◌∷◌, ◌++◌, length, refl, sym, ap, subst, ◌∙◌, arith}
-use Rattle.lfs_operations.proofs.Common.{Blocks, AreUsed, Disk, block_count, HasEither as IsLeftOf, with_blocks, PairContent, zero_gstate, Pair, blocks_of_pairs, pairs_gstate, is_hard_tail, root_address, pair_count_before_root, address_blocks, Tree, IsAccepted, PathAddresses, all_slots_not_moved, tree_on_disk, used_blocks, SameSlots, alike_append, alike_itself, number_count, count_append, count_here, once_from_distinct, HasNoMove, IsGone, file_blocks, IsWritableChange, IsChain, KeptThread, SameGeometryAs, IsPairWritten, thread_pair_at}
-use Rattle.lfs_operations.specs.Dropping.{CanDropAt, IsPairDropped, ShowsAfterDrops, LeftByDrop, SameInFlight, content_after_drop}
-use Rattle.lfs_operations.specs.Ready.{IsReadyImage, KeepsRootBeginning}
+use Rattle.lfs_operations.proofs.Common.{ℕ, ◌≡◌, inr, ◌+◌, ◌-◌, ◌≤◌, false, List, [], ◌∷◌, ◌++◌, length, refl, sym, ap, subst, ◌∙◌, arith, Blocks, AreUsed, Disk, block_count, HasEither as IsLeftOf, with_blocks, PairContent, zero_gstate, Pair, blocks_of_pairs, pairs_gstate, is_hard_tail, root_address, pair_count_before_root, address_blocks, Tree, IsAccepted, PathAddresses, all_slots_not_moved, tree_on_disk, used_blocks, SameSlots, alike_append, alike_itself, number_count, count_append, count_here, once_from_distinct, HasNoMove, IsGone, file_blocks, IsWritableChange, IsChain, KeptThread, SameGeometryAs, IsPairWritten, thread_pair_at, CanDropAt, IsPairDropped, ShowsAfterDrops, LeftByDrop, SameInFlight, content_after_drop, IsReadyImage, KeepsRootBeginning}
 use Rattle.lfs_operations.proofs.Dropped.{HasMapWithout, IsToBeDropped, can_drop_pair, device_left, front_there, gone_there, left_dropped, map_dropped, pairs_left, slots_left, state_left, tail_left, used_left}
 use Rattle.lfs_operations.proofs.DroppedTails.{no_move_state}
 use Rattle.lfs_operations.proofs.Placing.{left_after}

@@ -1,15 +1,7 @@
 -- What the two steps of a mkdir make of a pair.
-use Rattle.std.proofs.Common.{ℕ, ◌≡◌, ◌≢◌, ◌≤◌, ◌<◌, ◌==◌, ◌&&◌, not, Bool, true, false, cond, eqb-true, List, [], ◌∷◌, length, Option, Some, None, refl, sym, ap, ap₂, subst, ◌∙◌, arith, insert}
-use Rattle.std.specs.Prelude.{slice_index}
-use Rattle.std.specs.Option.{option_and_then}
-use Rattle.lfs_operations.proofs.Common.{and_parts, ne_eqb, PutMove, PutTail, changed_content_of, RawContent, raw_content, content_at, content_after, complete_content, complete_slot, has_commit, current_of_two, current_block, is_later, empty_raw_content, directory_name_type, directory_type, Disk, disk_block, charge_limit, block_entries, block_revision, AreWords, IsWellFormed, MoveStateFits, IsAllowed, Name, PairContent, FitsInPair, Gstate, Tail, slot_size, directory_slot, Pair, tail_address_of, address_bytes, IsCompleted, complete_insert, complete_length, completed_parts, completed_from, creates_with_struct, does_first, puts_move, puts_tail, slot_with, with_sync_inverted, insert_cut, logged_changed, tag_type-make_tag, tag_length-make_tag, changed_pair, KeptThread, thread_pair_at, complete_after}
-use Rattle.lfs_device.specs.Bytes.{HoldBytes}
+use Rattle.lfs_operations.proofs.Common.{ℕ, ◌≡◌, ◌≢◌, ◌≤◌, ◌<◌, ◌==◌, ◌&&◌, not, Bool, true, false, cond, eqb-true, List, [], ◌∷◌, length, Option, Some, None, refl, sym, ap, ap₂, subst, ◌∙◌, arith, insert, and_parts, ne_eqb, PutMove, PutTail, changed_content_of, RawContent, raw_content, content_at, content_after, complete_content, complete_slot, has_commit, current_of_two, current_block, is_later, empty_raw_content, directory_name_type, directory_type, Disk, disk_block, charge_limit, block_entries, block_revision, AreWords, IsWellFormed, MoveStateFits, IsAllowed, Name, PairContent, FitsInPair, Gstate, Tail, slot_size, directory_slot, Pair, tail_address_of, address_bytes, IsCompleted, complete_insert, complete_length, completed_parts, completed_from, creates_with_struct, does_first, puts_move, puts_tail, slot_with, with_sync_inverted, insert_cut, logged_changed, tag_type-make_tag, tag_length-make_tag, changed_pair, KeptThread, thread_pair_at, complete_after, slice_index, option_and_then, HoldBytes, null_address, CanTurn, adding_changes, threading_changes, IsRawFormed}
 use Rattle.lfs_model.specs.format.EntryTypes.{tail_to_pair}
-use Rattle.lfs_model.specs.format.Slots.{null_address}
 use Rattle.lfs_model.proofs.WrittenAnew.{read_address-address_bytes}
-use Rattle.lfs_operations.specs.Changing.{CanTurn}
-use Rattle.lfs_operations.specs.Making.{adding_changes, threading_changes}
-use Rattle.lfs_operations.specs.Ready.{IsRawFormed}
 use Rattle.lfs_operations.proofs.Held.{CompletesTo, completes_to, logged_at}
 
 -- ---- blocks of bytes

@@ -1,10 +1,7 @@
 -- Which blocks an image uses after a step in which no file came or went, and how many are free.
-use Rattle.std.proofs.Common.{ℕ, ◌≡◌, ◌+◌, List, [], ◌∷◌, ◌++◌, refl, sym, subst, ◌∙◌, arith, length-set, set, Bool, true, false, eqb-true, eq-eqb, nat_eq}
-use Rattle.lfs_operations.proofs.Common.{BlockStates, IsFree, IsInFlight, Free, InFlight, Used, Disk, Slot, Pair, blocks_of_pairs, pairs_gstate, used_blocks, slice_get-set_same, slice_get-set_other, number_count, HasNoMove, Site, thread_at, IsDevice, file_blocks, all_slots, map_using}
+use Rattle.lfs_operations.proofs.Common.{ℕ, ◌≡◌, ◌+◌, List, [], ◌∷◌, ◌++◌, refl, sym, subst, ◌∙◌, arith, length-set, set, Bool, true, false, eqb-true, eq-eqb, nat_eq, BlockStates, IsFree, IsInFlight, Free, InFlight, Used, Disk, Slot, Pair, blocks_of_pairs, pairs_gstate, used_blocks, slice_get-set_same, slice_get-set_other, number_count, HasNoMove, Site, thread_at, IsDevice, file_blocks, all_slots, map_using, AreTwoFree, HasTwoFree, map_taking_two, HasFreeBlocks}
 use Rattle.lfs_model.specs.layers.BlockSets.{is_used, state_in_flight}
 use Rattle.lfs_model.proofs.BlockSets.{count_by-set, counts_from_none_free}
-use Rattle.lfs_operations.specs.Changing.{AreTwoFree, HasTwoFree, map_taking_two}
-use Rattle.lfs_operations.specs.Making.{HasFreeBlocks}
 use Rattle.lfs_operations.proofs.Owning.{elsewhere, turned_count}
 use Rattle.lfs_operations.proofs.Taking.{two_free, within}
 

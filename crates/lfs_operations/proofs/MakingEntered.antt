@@ -1,9 +1,6 @@
 -- A directory's slot comes into a pair, and the sync bit goes: what a change or a split comes to, and what a stop in it leaves.
-use Rattle.std.proofs.Common.{ℕ, ◌≡◌, ◌+◌, ◌⊎◌, inl, inr, true, false, List, [], ◌∷◌, ◌++◌, length, Some, refl, sym, ap, subst, ◌∙◌, arith, append-nil, ⊎_elim}
-use Rattle.lfs_operations.proofs.Common.{Blocks, AreUsed, PairChange, Disk, block_count, Name, with_blocks, Slot, PairContent, zero_gstate, gstate_xor, pair_with_slots, directory_slot, Pair, blocks_of_pairs, pairs_gstate, starts_superblock, IsAccepted, IsTreeEntry, IsWritable, IsWritableSlot, used_blocks, became_front, became_shape, no_move_from, number_count, count_append, HasNoMove, gstate_append, gstate_cons, gstate_kept, gstate_right, IsStep, some_filled, Site, thread_at, IsSite, IsDevice, KeptThread, complete_after, BeginWithSuperblock}
+use Rattle.lfs_operations.proofs.Common.{ℕ, ◌≡◌, ◌+◌, ◌⊎◌, inl, inr, true, false, List, [], ◌∷◌, ◌++◌, length, Some, refl, sym, ap, subst, ◌∙◌, arith, append-nil, ⊎_elim, Blocks, AreUsed, PairChange, Disk, block_count, Name, with_blocks, Slot, PairContent, zero_gstate, gstate_xor, pair_with_slots, directory_slot, Pair, blocks_of_pairs, pairs_gstate, starts_superblock, IsAccepted, IsTreeEntry, IsWritable, IsWritableSlot, used_blocks, became_front, became_shape, no_move_from, number_count, count_append, HasNoMove, gstate_append, gstate_cons, gstate_kept, gstate_right, IsStep, some_filled, Site, thread_at, IsSite, IsDevice, KeptThread, complete_after, BeginWithSuperblock, LeftByTurn, IsTurned, HasNoneNew, KeepsTakenStates}
 use Rattle.lfs_model.proofs.StepsTaken as taken
-use Rattle.lfs_operations.specs.Changing.{LeftByTurn, IsTurned}
-use Rattle.lfs_operations.specs.Ready.{HasNoneNew, KeepsTakenStates}
 use Rattle.lfs_operations.proofs.MakingCounts.{used_count_now}
 use Rattle.lfs_operations.proofs.Owning.{used_same}
 use Rattle.lfs_operations.proofs.MovTurned.{IsMapped, IsTurn, TurnedOn, TurnedTo, left_put, put_turned}

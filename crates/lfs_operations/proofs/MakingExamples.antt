@@ -1,7 +1,5 @@
 -- A directory of two pairs in front of another one, and a map of six blocks of which four are free.
-use Rattle.std.proofs.Common.{true, false, [], ◌∷◌, Some, arith}
-use Rattle.lfs_operations.proofs.Common.{Free, InFlight, Used, zero_gstate, Pair}
-use Rattle.lfs_operations.specs.Making.{HasFreeBlocks}
+use Rattle.lfs_operations.proofs.Common.{true, false, [], ◌∷◌, Some, arith, Free, InFlight, Used, zero_gstate, Pair, HasFreeBlocks}
 
 abbrev goes_on : Pair
 goes_on = record { at = (0, 1); content = record { slots = []; tail = Some (record { hard = true; to = (2, 3) }); move = zero_gstate } }

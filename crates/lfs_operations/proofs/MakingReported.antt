@@ -1,11 +1,5 @@
 -- What the steps of a mkdir tell, together.
-use Rattle.std.proofs.Common.{ℕ, ◌≡◌, ◌⊎◌, inl, inr, List, Result, Ok, Err, arith, refl, sym, ap, subst, ◌∙◌}
-use Rattle.std.specs.Prelude.{IfErr, is_err}
-use Rattle.lfs_device.specs.declared.error.Error.{Error}
-use Rattle.lfs_device.specs.declared.error.Error.TheVariants.{Io, NoMemory, NoSpace}
-use Rattle.lfs_operations.proofs.Common.{BlockStates, fault_count, KeptThread, ThreadView, IoMeantFaultNoMemoryKeptOtherBlocks}
-use Rattle.lfs_operations.specs.Changing.{ReportsErrorsOfCommitTakingBlocks, has_failed_after}
-use Rattle.lfs_operations.specs.Making.{ReportsErrorsOfMakingDirectory}
+use Rattle.lfs_operations.proofs.Common.{ℕ, ◌≡◌, ◌⊎◌, inl, inr, List, Result, Ok, Err, arith, refl, sym, ap, subst, ◌∙◌, BlockStates, fault_count, KeptThread, ThreadView, IoMeantFaultNoMemoryKeptOtherBlocks, IfErr, is_err, Error, Io, NoMemory, NoSpace, ReportsErrorsOfCommitTakingBlocks, has_failed_after, ReportsErrorsOfMakingDirectory}
 use Rattle.lfs_operations.proofs.Putting.{with_map, same_err}
 
 -- the same answer, passed on

@@ -1,10 +1,8 @@
 -- Where the two steps of a mkdir change a directory: behind its last pair, and in the pair where the name belongs, which may be that one.
-use Rattle.std.proofs.Common.{ℕ, ◌≡◌, ◌⊎◌, inl, inr, ◌+◌, true, cond, List, [], ◌∷◌, ◌++◌, length, drop, refl, sym, ap, subst, ◌∙◌, arith, append_assoc, length-append}
-use Rattle.lfs_operations.proofs.Common.{Disk, joined_count, Name, Session, Slot, zero_gstate, same_pair, directory_slot, path_or_root, Pair, blocks_of_pairs, first_address, pairs_gstate, Path, LeadsTo, all_entries, tree_on_disk, last_site, IsCompletion, IsRun, IsStep, place_at, IsPlace, HoldsOfSome, Site, among_right, begin_of, dirs_at, run_changed, thread_at, IsSite, IsChain, KeptThread}
+use Rattle.lfs_operations.proofs.Common.{ℕ, ◌≡◌, ◌⊎◌, inl, inr, ◌+◌, true, cond, List, [], ◌∷◌, ◌++◌, length, drop, refl, sym, ap, subst, ◌∙◌, arith, append_assoc, length-append, Disk, joined_count, Name, Session, Slot, zero_gstate, same_pair, directory_slot, path_or_root, Pair, blocks_of_pairs, first_address, pairs_gstate, Path, LeadsTo, all_entries, tree_on_disk, last_site, IsCompletion, IsRun, IsStep, place_at, IsPlace, HoldsOfSome, Site, among_right, begin_of, dirs_at, run_changed, thread_at, IsSite, IsChain, KeptThread, IsRunEnd}
 use Rattle.lfs_model.specs.session.Operations as ops
 use Rattle.lfs_model.proofs.MkdirSteps.{mkdir_in_two_completed}
 use Rattle.lfs_model.proofs.StepsTaken as taken
-use Rattle.lfs_operations.specs.Making.{IsRunEnd}
 use Rattle.lfs_operations.proofs.MakingThreaded.{IsEnd, IsThreaded, IsThreading, fresh_pair, naming_pair}
 use Rattle.lfs_operations.proofs.MkdirAtLast.{mkdir_at_last_completed}
 

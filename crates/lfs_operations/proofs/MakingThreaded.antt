@@ -1,14 +1,8 @@
 -- A fresh pair is threaded behind the last one of a directory, and the sync bit set: what that comes to, and what a stop in it leaves.
-use Rattle.std.proofs.Common.{ℕ, ◌≡◌, ◌≢◌, ◌+◌, ◌<◌, ◌⊎◌, inl, inr, Bool, true, false, nat_eq, List, [], ◌∷◌, ◌++◌, length, Some, refl, sym, ap, ap₂, subst, ◌∙◌, ◌≤◌, arith, append_assoc, append-nil, flat_map}
-use Rattle.std.specs.Prelude.{All}
-use Rattle.lfs_operations.proofs.Common.{IsDistinct, same_Some, All-from_recursion, recursion_from_All, Blocks, SameExceptThese, AreUsed, content_at, current_of_two, current_block, Disk, disk_block, block_count, HasEither, with_blocks, PairContent, FitsInPair, Gstate, zero_gstate, gstate_xor, same_pair, Pair, blocks_of_pairs, pairs_gstate, is_hard_tail, address_blocks, addresses_blocks, Path, Tree, BeginsWith, superblock_entry, IsAccepted, HasNoEmpties, IsWritable, LeadsTo, all_slots_not_moved, all_entries, struct_blocks, tree_on_disk, used_blocks, fits_same, IsStepBeside, last_site, threaded, no_move_from, each_right, number_count, count_append, count_here, once_from_distinct, HasNoMove, gstate_assoc, gstate_cons, gstate_left, gstate_moved, gstate_right, sync_bit_delta, with_sync_inverted, turned_is, shown_before, shown_behind, pair_itself, Site, begin_of, dirs_at, thread_at, IsSite, IsPutBeside, IsWritableChange, beside_taken, taken_before, within_at, pairs_behind, ends_joined, KeepsOutsideBoth, KeptThread, SameGeometryAs, HasOldPair, IsThreadedIn, LossLeavesThreadedIn, ChangesThreadBlocks, complete_after, thread_pair_at, map_using}
+use Rattle.lfs_operations.proofs.Common.{ℕ, ◌≡◌, ◌≢◌, ◌+◌, ◌<◌, ◌⊎◌, inl, inr, Bool, true, false, nat_eq, List, [], ◌∷◌, ◌++◌, length, Some, refl, sym, ap, ap₂, subst, ◌∙◌, ◌≤◌, arith, append_assoc, append-nil, flat_map, IsDistinct, same_Some, All-from_recursion, recursion_from_All, Blocks, SameExceptThese, AreUsed, content_at, current_of_two, current_block, Disk, disk_block, block_count, HasEither, with_blocks, PairContent, FitsInPair, Gstate, zero_gstate, gstate_xor, same_pair, Pair, blocks_of_pairs, pairs_gstate, is_hard_tail, address_blocks, addresses_blocks, Path, Tree, BeginsWith, superblock_entry, IsAccepted, HasNoEmpties, IsWritable, LeadsTo, all_slots_not_moved, all_entries, struct_blocks, tree_on_disk, used_blocks, fits_same, IsStepBeside, last_site, threaded, no_move_from, each_right, number_count, count_append, count_here, once_from_distinct, HasNoMove, gstate_assoc, gstate_cons, gstate_left, gstate_moved, gstate_right, sync_bit_delta, with_sync_inverted, turned_is, shown_before, shown_behind, pair_itself, Site, begin_of, dirs_at, thread_at, IsSite, IsPutBeside, IsWritableChange, beside_taken, taken_before, within_at, pairs_behind, ends_joined, KeepsOutsideBoth, KeptThread, SameGeometryAs, HasOldPair, IsThreadedIn, LossLeavesThreadedIn, ChangesThreadBlocks, complete_after, thread_pair_at, map_using, All, ThreadedInOnDisk, KeepsSuperblockFirst, fresh_with_tail, AreTwoFree, map_taking_two, threading_changes, IsReadyImage}
 use Rattle.lfs_model.proofs.Beside.{beside_shape, other_entries, own_entries}
 use Rattle.lfs_model.proofs.Devices.{content_same}
 use Rattle.lfs_model.proofs.Pairs.{put_at}
-use Rattle.lfs_thread.specs.ThreadSteps.{ThreadedInOnDisk, KeepsSuperblockFirst, fresh_with_tail}
-use Rattle.lfs_operations.specs.Changing.{AreTwoFree, map_taking_two}
-use Rattle.lfs_operations.specs.Making.{threading_changes}
-use Rattle.lfs_operations.specs.Ready.{IsReadyImage}
 use Rattle.lfs_operations.proofs.MakingCounts.{used_count_now}
 use Rattle.lfs_operations.proofs.Threads.{at_is, fresh_distinct, fresh_range, pair_is, placed_still, same_four, shape_same, two_now}
 use Rattle.lfs_operations.proofs.Owning.{count_pairs, length_now, used_more}

@@ -1,37 +1,11 @@
 -- Which blocks the two steps of a mkdir write, together.
-use Rattle.std.proofs.Common.{ℕ, ◌≡◌, ◌≢◌, List, [], ◌∷◌, subst, ◌∙◌, arith}
-use Rattle.std.specs.Prelude.{All}
-use Rattle.lfs_operations.proofs.Common.{All-from_recursion, recursion_from_All, Blocks, SameExceptThese, IsFree, SurvivesLossSince, HasEither as IsLeftOf, with_blocks, Tree, CallEvent, Disk, survives_then, each_weaker, HoldsAtLosses-trans, HoldsAtLosses-weaker, StayUnprogrammed-trans, StayUnprogrammed-wider, LossLeavesCleanly, KeptThread, ChangesThreadBlocks, thread_pair_at, map_using, addresses_blocks}
-use Rattle.lfs_operations.specs.Changing.{AreTwoFree, WritesPairTwo, map_taking_two}
-use Rattle.lfs_operations.specs.Making.{IsRunEnd, WritesPairsFour}
+use Rattle.lfs_operations.proofs.Common.{ℕ, ◌≡◌, ◌≢◌, List, [], ◌∷◌, subst, arith, All-from_recursion, recursion_from_All, IsFree, SurvivesLossSince, Tree, survives_then, each_weaker, KeptThread, ChangesThreadBlocks, thread_pair_at, map_using, addresses_blocks, All, AreTwoFree, WritesPairTwo, map_taking_two, IsRunEnd, WritesPairsFour}
 use Rattle.lfs_operations.proofs.MakingCounts.{freed}
-use Rattle.lfs_operations.proofs.Putting.{with_map}
+use Rattle.lfs_operations.proofs.Putting.{with_map, writes_trans, writes_wider}
 
 -- of more blocks
 abbrev Covers : List ℕ → List ℕ → Type 0
 Covers cs bs = (b : ℕ) → All (λ c. c ≢ b) cs → All (λ c. c ≢ b) bs
-
-same_wider : {bs cs : List ℕ} {old new : Blocks} → Covers cs bs → SameExceptThese bs old new → SameExceptThese cs old new
-same_wider wider s = record { count = s.count; sizes = s.sizes; others = λ b apart. s.others b (wider b apart) }
-
-same_then : {bs : List ℕ} {old mid new : Blocks} → SameExceptThese bs old mid → SameExceptThese bs mid new → SameExceptThese bs old new
-same_then f s = record { count = s.count ∙ f.count; sizes = λ b. s.sizes b ∙ f.sizes b; others = λ b apart. s.others b apart ∙ f.others b apart }
-
-writes_wider : {bs cs : List ℕ} {old new : KeptThread} → Covers cs bs → ChangesThreadBlocks bs old new → ChangesThreadBlocks cs old new
-writes_wider {bs = bs} {cs = cs} wider w = record {
-  others = same_wider wider w.others;
-  elsewhere = StayUnprogrammed-wider cs wider w.elsewhere;
-  shape = w.shape;
-  at_worst = HoldsAtLosses-weaker (λ blocks s. same_wider wider s) w.at_worst;
-}
-
-writes_then : {bs : List ℕ} {old mid new : KeptThread} → ChangesThreadBlocks bs old mid → ChangesThreadBlocks bs mid new → ChangesThreadBlocks bs old new
-writes_then f s = record {
-  others = same_then f.others s.others;
-  elsewhere = StayUnprogrammed-trans f.elsewhere s.elsewhere;
-  shape = record { block_size = s.shape.block_size ∙ f.shape.block_size; page = s.shape.page ∙ f.shape.page; order = s.shape.order ∙ f.shape.order; profile = s.shape.profile ∙ f.shape.profile; count = s.shape.count ∙ f.shape.count };
-  at_worst = HoldsAtLosses-trans f.at_worst (HoldsAtLosses-weaker (λ blocks k. same_then f.others k) s.at_worst);
-}
 
 module _ (t : KeptThread) (index last : ℕ) (is_last : IsRunEnd t.pairs index last) (fresh : ℕ × ℕ) (two : AreTwoFree t.map fresh) where
   abbrev own : List ℕ → List ℕ
@@ -49,7 +23,7 @@ module _ (t : KeptThread) (index last : ℕ) (is_last : IsRunEnd t.pairs index l
 
   first_wider : (new : KeptThread) (more : List ℕ) → ChangesThreadBlocks (addresses_blocks (thread_pair_at t last).at fresh) (with_map t (map_taking_two t.map fresh)) new → ChangesThreadBlocks (own more) t new
   first_wider new more w =
-      let k = writes_wider {bs = addresses_blocks (thread_pair_at t last).at fresh} {cs = own more} {old = with_map t (map_taking_two t.map fresh)} {new = new} (covers_first more) w in
+      let k = writes_wider (own more) (covers_first more) w in
       record { others = k.others; elsewhere = k.elsewhere; shape = record { block_size = k.shape.block_size; page = k.shape.page; order = k.shape.order; profile = k.shape.profile; count = k.shape.count }; at_worst = k.at_worst }
 
   pub writes_first : (new : KeptThread) → ChangesThreadBlocks (addresses_blocks (thread_pair_at t last).at fresh) (with_map t (map_taking_two t.map fresh)) new → WritesPairsFour t index new
@@ -70,8 +44,8 @@ module _ (t : KeptThread) (index last : ℕ) (is_last : IsRunEnd t.pairs index l
     fresh = fresh.0 ∷ fresh.1 ∷ second.fresh;
     few = let f = second.few in omega arith;
     free = (two.first, (two.second, each_weaker (IsFree mid.map) (IsFree t.map) (λ b free. freed t.map fresh two b (subst (λ s. IsFree s b) map free)) second.fresh second.free));
-    writes = writes_then {bs = own second.fresh} {old = t} {mid = mid} {new = new} (first_wider mid second.fresh first)
-        (writes_wider {bs = (thread_pair_at t index).at.0 ∷ (thread_pair_at t index).at.1 ∷ second.fresh} {cs = own second.fresh} {old = mid} {new = new} (covers_second second.fresh)
+    writes = writes_trans (first_wider mid second.fresh first)
+        (writes_wider (own second.fresh) (covers_second second.fresh)
         (subst (λ (a : ℕ × ℕ). ChangesThreadBlocks (a.0 ∷ a.1 ∷ second.fresh) mid new) at second.writes));
   }
 
@@ -79,7 +53,3 @@ module _ (t : KeptThread) (index last : ℕ) (is_last : IsRunEnd t.pairs index l
   pub survives_both : (mid new : KeptThread) (before after : Tree) → ChangesThreadBlocks (addresses_blocks (thread_pair_at t last).at fresh) (with_map t (map_taking_two t.map fresh)) mid → WritesPairTwo mid index new
       → SurvivesLossSince t.disk t.history mid.history before after → SurvivesLossSince t.disk mid.history new.history before after → SurvivesLossSince t.disk t.history new.history before after
   survives_both mid new before after first second a b = survives_then t.disk t.history mid.history new.history before after first.at_worst second.writes.at_worst a b
-
-pub survives_by : (disk : Disk) (old new : List CallEvent) (before after : Tree) (P : Blocks → Type 0) → ((left : Blocks) → P left → IsLeftOf (with_blocks left disk) before after) → LossLeavesCleanly old new P
-    → SurvivesLossSince disk old new before after
-survives_by disk old new before after P f stops clean = HoldsAtLosses-weaker f (stops clean)

@@ -1,15 +1,9 @@
 -- A directory that comes, as two steps of the thread.
-use Rattle.std.proofs.Common.{ℕ, ◌≡◌, ◌+◌, ◌<◌, ◌≤◌, ◌^◌, ◌⊎◌, inl, inr, true, List, [], ◌∷◌, ◌++◌, length, Some, refl, sym, ap, ap₂, subst, ◌∙◌, arith, append_assoc, length-append, insert, slice_get}
-use Rattle.std.specs.Prelude.{All, Contains}
-use Rattle.lfs_operations.proofs.Common.{recursion_from_All, tree_creating, Blocks, SameExceptThese, IsFree, IsInFlight, Free, content_at, Disk, block_count, charge_limit, BelongsAt, AreWords, Name, HasEither as IsLeftOf, with_blocks, PairContent, FitsInPair, Gstate, Slot, zero_gstate, gstate_xor, same_pair, directory_slot, pair_with_slots, Pair, blocks_of_pairs, pairs_gstate, is_hard_tail, tail_address_of, pair_count_before_root, address_blocks, addresses_blocks, DirectoryNode, IsWritableEntry, IsWritable, IsAccepted, LeadsTo, all_entries, tree_on_disk, Became, last_site, chain_now, InTwo, mkdir_in_two, IsCompletion, no_move_from, recovered_from, each_right, HasNoMove, gstate_assoc, gstate_cons, gstate_moved, gstate_self, sync_bit_delta, with_sync_inverted, turned_is, entry_small, place_at, insert_here, IsPlace, step_writable, site, place_of_belongs, HoldsOfSome, Site, among_left, among_right, begin_of, dirs_at, thread_at, IsSite, IsChain, KeptThread, CanThreadIn, IsThreadedIn, LossLeavesThreadedIn, ChangesThreadBlocks, thread_pair_at, complete_after}
-use Rattle.lfs_device.specs.Bytes.{HoldBytes}
+use Rattle.lfs_operations.proofs.Common.{ℕ, ◌≡◌, ◌+◌, ◌<◌, ◌≤◌, ◌^◌, ◌⊎◌, inl, inr, true, List, [], ◌∷◌, ◌++◌, length, Some, refl, sym, ap, ap₂, subst, ◌∙◌, arith, append_assoc, length-append, insert, slice_get, recursion_from_All, tree_creating, Blocks, SameExceptThese, IsFree, IsInFlight, Free, content_at, Disk, block_count, charge_limit, BelongsAt, AreWords, Name, HasEither as IsLeftOf, with_blocks, PairContent, FitsInPair, Gstate, Slot, zero_gstate, gstate_xor, same_pair, directory_slot, pair_with_slots, Pair, blocks_of_pairs, pairs_gstate, is_hard_tail, tail_address_of, pair_count_before_root, address_blocks, addresses_blocks, DirectoryNode, IsWritableEntry, IsWritable, IsAccepted, LeadsTo, all_entries, tree_on_disk, Became, last_site, chain_now, InTwo, mkdir_in_two, IsCompletion, no_move_from, recovered_from, each_right, HasNoMove, gstate_assoc, gstate_cons, gstate_moved, gstate_self, sync_bit_delta, with_sync_inverted, turned_is, entry_small, place_at, insert_here, IsPlace, step_writable, site, place_of_belongs, HoldsOfSome, Site, among_left, among_right, begin_of, dirs_at, thread_at, IsSite, IsChain, KeptThread, CanThreadIn, IsThreadedIn, LossLeavesThreadedIn, ChangesThreadBlocks, thread_pair_at, complete_after, All, Contains, HoldBytes, entry_charge, IsPairTouched, AreTwoFree, CanTurn, HasTwoFree, LeftByTurn, IsTurned, map_taking_two, AreBothAltered, CanMakeAt, FitsNewTail, HasFreeBlocks, IsRunEnd, IsDirectoryMade, adding_changes, threading_changes, tree_with_directory}
 use Rattle.lfs_model.specs.declared.limits.Profile.{Profile}
 use Rattle.lfs_model.specs.session.Operations as ops
-use Rattle.lfs_model.specs.format.Slots.{entry_charge}
 use Rattle.lfs_model.proofs.Beside.{change}
 use Rattle.lfs_model.proofs.StepsTaken as taken
-use Rattle.lfs_operations.specs.Changing.{IsPairTouched, AreTwoFree, CanTurn, HasTwoFree, LeftByTurn, IsTurned, map_taking_two}
-use Rattle.lfs_operations.specs.Making.{AreBothAltered, CanMakeAt, FitsNewTail, HasFreeBlocks, IsRunEnd, IsDirectoryMade, adding_changes, threading_changes, tree_with_directory}
 use Rattle.lfs_operations.proofs.Altered.{put_alters}
 use Rattle.lfs_operations.proofs.AlteredTails.{other_tail}
 use Rattle.lfs_operations.proofs.MakingCounts.{freed, less_room, no_room}

@@ -1,10 +1,8 @@
 -- A directory is made whose entry comes into the last pair of its parent: its pair is threaded behind that one, with the sync bit set,
 -- and then the entry comes.
-use Rattle.std.proofs.Common.{ℕ, ◌≡◌, true, List, [], ◌∷◌, ◌++◌, refl, sym, ap, subst, ◌∙◌, append_assoc, append-nil, subst₂}
-use Rattle.lfs_operations.proofs.Common.{Disk, Name, Slot, zero_gstate, same_pair, FitsInPair, Pair, first_address, pairs_gstate, Path, DirectoryNode, IsWritable, LeadsTo, all_entries, tree_on_disk, tree_creating, Session, path_or_root, pair_with_slots, directory_slot, FitsPair, IsPlace, Site, thread_at, begin_of, IsStep, place_at, last_site, IsStepBeside, threaded, SameSlots, alike_itself, IsCompletion, recovered_from, Became, step_writable, InTwo, mkdir_in_two, IsWritableChange, IsPut, IsPutBeside, beside_taken}
+use Rattle.lfs_operations.proofs.Common.{ℕ, ◌≡◌, true, List, [], ◌∷◌, ◌++◌, refl, sym, ap, subst, ◌∙◌, append_assoc, append-nil, subst₂, Disk, Name, Slot, zero_gstate, same_pair, FitsInPair, Pair, first_address, pairs_gstate, Path, DirectoryNode, IsWritable, LeadsTo, all_entries, tree_on_disk, tree_creating, Session, path_or_root, pair_with_slots, directory_slot, FitsPair, IsPlace, Site, thread_at, begin_of, IsStep, place_at, last_site, IsStepBeside, threaded, SameSlots, alike_itself, IsCompletion, recovered_from, Became, step_writable, InTwo, mkdir_in_two, IsWritableChange, IsPut, IsPutBeside, beside_taken, put_within, put_filled}
 use Rattle.lfs_model.specs.session.Operations as ops
 use Rattle.lfs_model.proofs.MadeDirectory.{Cut, IsMkdir, mkdir_completed, none_there}
-use Rattle.lfs_model.proofs.StepsTaken.{put_within, put_filled}
 
 -- the same site with the fresh pair's directory behind it
 abbrev pub ahead_of : List Pair → List Pair → List Pair → Pair → List Pair → Site

@@ -1,13 +1,9 @@
 -- A rename across pairs, of two steps: where the old pair stands between them, and what the operation comes to.
-use Rattle.std.proofs.Common.{ℕ, ◌≡◌, ◌+◌, ◌<◌, ◌⊎◌, inl, inr, Bool, true, false, List, [], ◌∷◌, ◌++◌, length, Option, Some, None, refl, sym, ap, subst, ◌∙◌, arith, append_assoc, length-append}
-use Rattle.std.specs.Prelude.{is_some}
-use Rattle.lfs_operations.proofs.Common.{Disk, Name, Slot, gstate_xor, zero_gstate, pair_with_slots, slot_of, Pair, pairs_gstate, is_hard_tail, pair_count_before_root, Path, last_name, tree_renaming, Session, path_or_root, IsAccepted, IsWritable, tree_on_disk, SameSlots, Became, IsChangedImage, IsCompletion, onward_all, IsNoDirectory, target_slots, Site, thread_at, IsWritableChange, OldStays, two, from_old, ends_joined}
+use Rattle.lfs_operations.proofs.Common.{ℕ, ◌≡◌, ◌+◌, ◌<◌, ◌⊎◌, inl, inr, Bool, true, false, List, [], ◌∷◌, ◌++◌, length, Option, Some, None, refl, sym, ap, subst, ◌∙◌, arith, append_assoc, length-append, Disk, Name, Slot, gstate_xor, zero_gstate, pair_with_slots, slot_of, Pair, pairs_gstate, is_hard_tail, pair_count_before_root, Path, last_name, tree_renaming, Session, path_or_root, IsAccepted, IsWritable, tree_on_disk, SameSlots, Became, IsChangedImage, IsCompletion, onward_all, IsNoDirectory, target_slots, Site, thread_at, IsWritableChange, OldStays, two, from_old, ends_joined, is_some, PathAddresses, gstate_naming}
 use Rattle.lfs_model.specs.session.Operations as ops
-use Rattle.lfs_model.proofs.Laws.{PathAddresses}
 use Rattle.lfs_model.proofs.RenamedAcross.{IsRenameAcross, across_completed}
 use Rattle.lfs_operations.proofs.MovPlaces.{InTurn, ahead, behind}
 use Rattle.lfs_operations.proofs.MovSet.{HasTurned, IsSetting, turns}
-use Rattle.lfs_operations.specs.MoveEnds.{gstate_naming}
 use Rattle.lfs_operations.proofs.RmdirPlaces.{flag_from}
 
 pub flag_append : (b : Bool) (xs ys : List Pair) → ends_joined b (xs ++ ys) ≡ ends_joined (ends_joined b xs) ys

@@ -1,12 +1,8 @@
 -- A set move ends: the slot that it hides goes.
-use Rattle.std.proofs.Common.{ℕ, ◌≡◌, ◌≢◌, ◌+◌, true, false, cond, nat_eq, ◌&&◌, List, [], ◌∷◌, ◌++◌, length, refl, sym, ap, ap₂, subst, ◌∙◌, arith, flat_map, append_assoc, append-nil, remove}
-use Rattle.lfs_operations.proofs.Common.{IsDistinct, flat_map-append, recursion_from_All, Disk, Slot, Gstate, is_superblock, same_pair, gstate_xor, pair_with_slots, pairs_without_moved, Pair, blocks_of_pairs, pairs_gstate, starts_superblock, slots_not_moved, is_hard_tail, pair_count_before_root, all_directories, used_blocks, all_slots_not_moved, set_move_kind, IsAccepted, IsWritable, became_front, became_shape, slots_files, chain_now, Each, each_append, each_left, each_right, each_weaker, number_count, count_append, SameFileBlocks, HasNoMove, gstate_cons, gstate_right, flip_false, remove_here, pair_back, IsMoveEnd, move_ends, site_gstate_moved, unmoved_elsewhere, end_change, avoids_front, avoids_behind, Site, thread_at, IsSite, all_slots, file_blocks, unmoved_in, IsWritableChange, IsPut, ends_joined, first_pair_addresses}
+use Rattle.lfs_operations.proofs.Common.{ℕ, ◌≡◌, ◌≢◌, ◌+◌, true, false, cond, nat_eq, ◌&&◌, List, [], ◌∷◌, ◌++◌, length, refl, sym, ap, ap₂, subst, ◌∙◌, arith, flat_map, append_assoc, append-nil, remove, IsDistinct, flat_map-append, recursion_from_All, Disk, Slot, Gstate, is_superblock, same_pair, gstate_xor, pair_with_slots, pairs_without_moved, Pair, blocks_of_pairs, pairs_gstate, starts_superblock, slots_not_moved, is_hard_tail, pair_count_before_root, all_directories, used_blocks, all_slots_not_moved, set_move_kind, IsAccepted, IsWritable, became_front, became_shape, slots_files, chain_now, Each, each_append, each_left, each_right, each_weaker, number_count, count_append, SameFileBlocks, HasNoMove, gstate_cons, gstate_right, flip_false, remove_here, pair_back, IsMoveEnd, move_ends, site_gstate_moved, unmoved_elsewhere, end_change, avoids_front, avoids_behind, Site, thread_at, IsSite, all_slots, file_blocks, unmoved_in, IsWritableChange, IsPut, ends_joined, first_pair_addresses, end_taken, gstate_without_sync, gstate_without_move}
 use Rattle.std.specs.Int.Bits.{xor_self}
-use Rattle.lfs_model.proofs.StepsTaken.{end_taken}
-use Rattle.lfs_operations.specs.MoveEnds.{gstate_without_sync}
 use Rattle.lfs_operations.proofs.MovSet.{HasTurned}
 use Rattle.lfs_operations.proofs.MovFirsts.{end_firsts}
-use Rattle.lfs_operations.specs.EndingMove.{gstate_without_move}
 use Rattle.lfs_operations.proofs.Owning.{count_pairs}
 use Rattle.lfs_operations.proofs.RecoverBefore.{AreKin, hidden, hidden_append, hidden_far, kin_append}
 

@@ -1,8 +1,5 @@
 -- The end of a set move where the pair goes with the slot, as a step of the thread.
-use Rattle.std.proofs.Common.{ℕ, ◌≡◌, ◌≢◌, ◌⊎◌, inl, inr, ◌-◌, true, false, List, [], ◌∷◌, ◌++◌, length, refl, sym, ap, ap₂, subst, ◌∙◌, arith, append-nil, length-append, remove, subst₂}
-use Rattle.lfs_operations.proofs.Common.{Disk, CallEvent, MoveStateFits, SurvivesLossSince, PairContent, Gstate, Slot, same_pair, Pair, pairs_gstate, is_hard_tail, pair_count_before_root, IsAccepted, IsWritable, all_directories, tree_on_disk, used_blocks, SameSlots, alike_append, alike_itself, number_count, HoldsAtLosses-weaker, HasSite, site_of_number, first_pair_addresses, HoldsOfSome, Site, among_left, among_parts, among_right, thread_at, IsWritableChange, ends_joined, LossLeavesCleanly, KeptThread, IsPairWritten, empty_anchor, thread_pair_at, map_freeing, HasNoMove}
-use Rattle.lfs_operations.specs.Dropping.{CanDropAt, IsPairDropped, LeftByDrop, content_after_drop}
-use Rattle.lfs_operations.specs.MoveEnds.{CanEndAt, HasEndedAt, follows_hard_tail_of}
+use Rattle.lfs_operations.proofs.Common.{ℕ, ◌≡◌, ◌≢◌, ◌⊎◌, inl, inr, ◌-◌, true, false, List, [], ◌∷◌, ◌++◌, length, refl, sym, ap, ap₂, subst, ◌∙◌, arith, append-nil, length-append, remove, subst₂, Disk, CallEvent, MoveStateFits, SurvivesLossSince, PairContent, Gstate, Slot, same_pair, Pair, pairs_gstate, is_hard_tail, pair_count_before_root, IsAccepted, IsWritable, all_directories, tree_on_disk, used_blocks, SameSlots, alike_append, alike_itself, number_count, HoldsAtLosses-weaker, HasSite, site_of_number, first_pair_addresses, HoldsOfSome, Site, among_left, among_parts, among_right, thread_at, IsWritableChange, ends_joined, LossLeavesCleanly, KeptThread, IsPairWritten, empty_anchor, thread_pair_at, map_freeing, HasNoMove, CanDropAt, IsPairDropped, LeftByDrop, content_after_drop, CanEndAt, HasEndedAt, follows_hard_tail_of, gstate_without_move}
 use Rattle.lfs_operations.proofs.Dropped.{IsToBeDropped, can_drop_pair, device_left, grouped, is, left_dropped, pairs_left, slots_left, state_left, tail_left}
 use Rattle.lfs_operations.proofs.DroppedTails.{remove_next}
 use Rattle.lfs_operations.proofs.MovEnding.{get_from, led_is}
@@ -10,7 +7,6 @@ use Rattle.lfs_operations.proofs.MovEndWhole.{HasTakenOver, IsEndingWhole, whole
 use Rattle.lfs_operations.proofs.Placing.{left_after}
 use Rattle.lfs_operations.proofs.Removed.{flag_ends}
 use Rattle.lfs_operations.proofs.RemovedWhole.{only_slot, over_hard, StandsBehind, stands_behind}
-use Rattle.lfs_operations.specs.EndingMove.{gstate_without_move}
 use Rattle.lfs_operations.proofs.RecoverBefore.{go_alike}
 
 sync_state : (g : Gstate) → MoveStateFits (gstate_without_move g)

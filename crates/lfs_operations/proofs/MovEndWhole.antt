@@ -1,10 +1,7 @@
 -- A set move ends where the slot that it hides is all that its pair holds: the pair goes with it, and the one in front of it takes over its tail.
-use Rattle.std.proofs.Common.{ℕ, ◌≡◌, ◌+◌, true, false, cond, nat_eq, ◌&&◌, List, [], ◌∷◌, ◌++◌, sym, ap, ap₂, subst, ◌∙◌, arith, flat_map, append_assoc, remove, length, length-append}
-use Rattle.lfs_operations.proofs.Common.{IsDistinct, Disk, Slot, Gstate, is_superblock, same_pair, Pair, blocks_of_pairs, pairs_gstate, starts_superblock, slots_not_moved, is_hard_tail, pair_count_before_root, IsAccepted, IsWritable, all_directories, used_blocks, set_move_kind, Each, each_append, each_left, each_right, each_weaker, number_count, HasNoMove, flip_false, pair_back, IsMoveEnd, move_ends, unmoved_elsewhere, avoids_behind, avoids_front, Site, thread_at, IsSite, drop_shape, IsDevice, IsWritableChange, first_pair_addresses, IsDirectoryGone, pair_with_slots, pairs_without_moved, KeptThread}
+use Rattle.lfs_operations.proofs.Common.{ℕ, ◌≡◌, ◌+◌, true, false, cond, nat_eq, ◌&&◌, List, [], ◌∷◌, ◌++◌, sym, ap, ap₂, subst, ◌∙◌, arith, flat_map, append_assoc, remove, length, length-append, IsDistinct, Disk, Slot, Gstate, is_superblock, same_pair, Pair, blocks_of_pairs, pairs_gstate, starts_superblock, slots_not_moved, is_hard_tail, pair_count_before_root, IsAccepted, IsWritable, all_directories, used_blocks, set_move_kind, Each, each_append, each_left, each_right, each_weaker, number_count, HasNoMove, flip_false, pair_back, IsMoveEnd, move_ends, unmoved_elsewhere, avoids_behind, avoids_front, Site, thread_at, IsSite, drop_shape, IsDevice, IsWritableChange, first_pair_addresses, IsDirectoryGone, pair_with_slots, pairs_without_moved, KeptThread, end_drop_taken, gstate_without_move, RecoveriesAreAllowed}
 use Rattle.lfs_model.specs.session.Operations as ops
-use Rattle.lfs_model.proofs.StepsTaken.{end_drop_taken}
 use Rattle.lfs_operations.proofs.MovFirsts.{end_firsts}
-use Rattle.lfs_operations.specs.EndingMove.{gstate_without_move, RecoveriesAreAllowed}
 use Rattle.lfs_operations.proofs.MovEnd.{end_count, end_chain}
 use Rattle.lfs_operations.proofs.RecoverBefore.{GoAlike, hidden, hidden_append, hidden_far, hidden_length, laid_out_gap}
 

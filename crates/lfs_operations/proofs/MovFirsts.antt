@@ -1,7 +1,5 @@
 -- Where directories begin once a set move has ended: where they did.
-use Rattle.std.proofs.Common.{ℕ, ◌≡◌, List, [], ◌∷◌, ◌++◌, refl, sym, ap, ◌∙◌}
-use Rattle.lfs_operations.proofs.Common.{Disk, Gstate, Slot, Pair, pair_directories, pairs_gstate, unmoved_entries, all_directories, chain_now, rearranged_chain, each_always, IsRun, SameVisible, IsMoveSet, SameAround, first_pair_addresses, set_rearranged, IsMoveEnd, end_change, Site, dirs_at, run_changed, thread_at, IsChain, pairs_behind}
-use Rattle.lfs_model.proofs.MoveSets.{firsts_same, site_firsts}
+use Rattle.lfs_operations.proofs.Common.{ℕ, ◌≡◌, List, [], ◌∷◌, ◌++◌, refl, sym, ap, ◌∙◌, Disk, Gstate, Slot, Pair, pair_directories, pairs_gstate, unmoved_entries, all_directories, chain_now, rearranged_chain, each_always, IsRun, SameVisible, IsMoveSet, SameAround, first_pair_addresses, set_rearranged, IsMoveEnd, end_change, Site, dirs_at, run_changed, thread_at, IsChain, pairs_behind, firsts_same, site_firsts}
 
 module _ (disk new : Disk) (w : Site) (p : Pair) (mid : List Pair) (q : Pair) (more : List Pair) (l : List Slot) (u : Slot) (r : List Slot) (step : IsMoveEnd disk new w p mid q more l u r) where
   abbrev g : Gstate

@@ -1,168 +1,96 @@
 -- A rename across pairs after the old slot was read.
-use Rattle.std.proofs.Common.{ℕ, ◌≡◌, ◌⊎◌, inl, inr, Bool, false, List, ◌∷◌, Result, Err, refl, sym, ap, subst, ◌∙◌, arith}
-use Rattle.std.specs.Prelude.{IfErr}
-use Rattle.lfs_device.specs.declared.error.Error.{Error}
-use Rattle.lfs_device.specs.declared.error.Error.TheVariants.{Io, NoMemory, NoSpace}
-use Rattle.lfs_operations.proofs.Common.{PairChange, Disk, CallEvent, fault_count, Name, SurvivesLossSince, tree_on_disk, AreWords, survives_then, LossLeavesAtWorst-read, HoldsAtLosses-read_count, HoldsAtLosses-trans, OnlyReadsSince-trans, StayUnprogrammed-read_count, StayUnprogrammed-trans, KeptThread, ThreadView, IoMeantFaultNoMemoryWroteNothing, OnlyReadsThread, thread_pair_at}
-use Rattle.lfs_operations.specs.Changing.{CanTurn, IsTurned, ChangeIsTooLarge, HasTwoFree, has_failed_after}
-use Rattle.lfs_operations.specs.Editing.{CanEditIn}
-use Rattle.lfs_operations.specs.MovingSteps.{CanEndSecond, IsPutEnded, SurvivesBothCommits, ReportsErrorsOfCommitsTakingBlocks, WritesTwoTwo}
-use Rattle.lfs_operations.specs.MovingAcross.{CanRenameAcross, IsRenamedAcross, across_changes, tree_moved}
-use Rattle.lfs_operations.specs.MovingOnto.{CanReplaceEntryOver, IsFileReplaced, entry_over_changes}
-use Rattle.lfs_operations.specs.Ready.{IsReadyImage}
-use Rattle.lfs_operations.specs.Removing.{drops_with_its_slot}
-use Rattle.lfs_operations.specs.RenamingSlots.{nameless_at}
-use Rattle.lfs_operations.proofs.MovRename.{can_put_across, ends_across, renamed_across, shows_across, survives_across}
-use Rattle.lfs_operations.proofs.MovReplace.{can_put_onto, ends_onto, replaced_across, shows_onto, survives_onto}
+use Rattle.lfs_operations.proofs.Common.{ℕ, ◌≡◌, ◌⊎◌, ◌<◌, length, inl, inr, Bool, true, false, List, ◌∷◌, ◌++◌, Option, None, Some, Result, Err, refl, sym, ap, ap₂, subst, ◌∙◌, arith, PairChange, PutMove, Disk, Blocks, Slot, Pair, Site, Gstate, Path, Tree, gstate_xor, blocks_of_pairs, with_blocks, HasEither, fault_count, Name, SurvivesLossSince, tree_on_disk, AreWords, survives_then, LossLeavesAtWorst-read, HoldsAtLosses-read_count, HoldsAtLosses-trans, HoldsAtLosses-weaker, OnlyReadsSince-trans, StayUnprogrammed-read_count, StayUnprogrammed-trans, KeptThread, ThreadView, IoMeantFaultNoMemoryWroteNothing, OnlyReadsThread, thread_pair_at, IfErr, Error, Io, NoMemory, NoSpace, IsTurned, LeftByTurn, ChangeIsTooLarge, HasTwoFree, has_failed_after, CanEditIn, CanEndSecond, IsPutEnded, SurvivesBothCommits, ReportsErrorsOfCommitsTakingBlocks, WritesTwoTwo, tree_moved, CanMoveAcross, clearing_changes, moving_changes, tree_across, gstate_naming, IsReadyImage, nameless_at, NamelessSlot, slot_changes}
+use Rattle.lfs_operations.proofs.Held.{below}
+use Rattle.lfs_operations.proofs.MovPlaced.{IsAimed}
+use Rattle.lfs_operations.proofs.MovRename.{aimed_new}
+use Rattle.lfs_operations.proofs.MovReplace.{aimed_onto}
 use Rattle.lfs_operations.proofs.MovReporting.{writes_first}
 use Rattle.lfs_operations.proofs.Putting.{read_is, with_history}
-use Rattle.lfs_operations.proofs.RenameRead.{moves_unread, read_survives, read_writes}
+use Rattle.lfs_operations.proofs.RenameRead.{left_earlier, moves_unread, put_earlier, read_survives, read_writes}
+use Rattle.lfs_operations.proofs.RenameReadOver.{writes_earlier}
 
--- ---- what is known before
+-- ---- the steps
 
-module _ (t : KeptThread) (h : List CallEvent) where
-  abbrev later : KeptThread
-  later = with_history t h
+pub changes_are : (t mid : KeptThread) (only : OnlyReadsThread t mid) (replaces sync : Bool) (old_pair old_id new_pair new_id : ℕ) (name : Name) {cs : List PairChange} {m : Gstate} {z : NamelessSlot} → cs ≡ PutMove m ∷ (clearing_changes replaces new_id ++ slot_changes new_id name z)
+    → m ≡ gstate_xor (gstate_naming sync (thread_pair_at mid old_pair).at old_id) (thread_pair_at mid new_pair).content.move → z ≡ nameless_at t old_pair old_id → cs ≡ moving_changes replaces sync t old_pair old_id new_pair new_id name
+changes_are t mid only replaces sync old_pair old_id new_pair new_id name are move parts =
+    are ∙ ap₂ (λ m z. PutMove m ∷ (clearing_changes replaces new_id ++ slot_changes new_id name z))
+    (move ∙ ap (λ k. gstate_xor (gstate_naming sync (thread_pair_at k old_pair).at old_id) (thread_pair_at k new_pair).content.move) (read_is t mid only)) parts
 
-  pub ready_later : IsReadyImage t → IsReadyImage later
-  ready_later r = record { accepted = r.accepted; writable = r.writable; settled = r.settled; used = r.used; size = r.size; large = r.large }
+module _ (t mid : KeptThread) (only : OnlyReadsThread t mid) (old_pair old_id : ℕ) (goes : Bool) (new_pair : ℕ) (changes : List PairChange) where
+  pub ends_after_read : (last : KeptThread) → CanEndSecond t old_pair old_id goes new_pair last → CanEndSecond mid old_pair old_id goes new_pair last
+  ends_after_read last x = subst (λ k. CanEndSecond k old_pair old_id goes new_pair last) (sym (read_is t mid only)) (record { apart = x.apart; grown = x.grown; can = x.can; at = x.at })
 
-  abbrev pub edit_later : {pair id : ℕ} → CanEditIn t pair id → CanEditIn (with_history t h) pair id
-  edit_later c = record {
-    ready = ready_later c.ready;
-    path = c.path;
-    at = c.at;
-    leads = c.leads;
-    first = c.first;
-    begins = c.begins;
-    name = c.name;
-    stands = c.stands;
-    logged = c.logged;
-  }
+  pub done_after_read : (new : KeptThread) → IsPutEnded mid old_pair old_id goes new_pair changes new → IsPutEnded t old_pair old_id goes new_pair changes new
+  done_after_read new is = earlier (subst (λ k. IsPutEnded k old_pair old_id goes new_pair changes new) (read_is t mid only) is)
+    where
+      earlier : IsPutEnded (with_history t mid.history) old_pair old_id goes new_pair changes new → IsPutEnded t old_pair old_id goes new_pair changes new
+      earlier f = record {
+        mid = f.mid;
+        put = put_earlier t mid.history only.reads new_pair changes f.mid f.put;
+        ended = f.ended;
+        blocks = record {
+          written = record {
+            fresh = f.blocks.written.fresh;
+            few = f.blocks.written.few;
+            free = f.blocks.written.free;
+            writes = writes_earlier t mid.history new (blocks_of_pairs t.pairs ++ f.blocks.written.fresh) only.reads f.blocks.written.writes;
+          };
+          within = f.blocks.within;
+        };
+      }
 
-  abbrev pub across_later : {old_pair old_id first new_pair new_id : ℕ} {name : Name} → CanRenameAcross t old_pair old_id first new_pair new_id name → CanRenameAcross (with_history t h) old_pair old_id first new_pair new_id name
-  across_later r = record {
-    old = edit_later r.old;
-    begins_old = r.begins_old;
-    path = r.path;
-    at = r.at;
-    leads = r.leads;
-    to_first = r.to_first;
-    begins = r.begins;
-    belongs = r.belongs;
-    logged = r.logged;
-    apart = r.apart;
-    not_beneath = r.not_beneath;
-    is_name = r.is_name;
-    fits = r.fits;
-  }
+  pub survives_after_read : (one : ℕ) (new : KeptThread) (after : Tree) → WritesTwoTwo mid one new_pair new → SurvivesBothCommits mid new_pair changes new → IsReadyImage t
+      → ((left : Blocks) → LeftByTurn t new_pair changes left → HasEither (with_blocks left t.disk) (tree_on_disk t.disk t.pairs) after) → ((last : KeptThread) → IsTurned t new_pair changes last → tree_on_disk last.disk last.pairs ≡ after)
+      → SurvivesLossSince t.disk t.history new.history (tree_on_disk t.disk t.pairs) after
+  survives_after_read one new after w both ready left shows =
+      survives_then t.disk t.history mid.history new.history (tree_on_disk t.disk t.pairs) after only.reads w.writes.at_worst (read_survives t mid.history only.reads ready after)
+      (subst (λ k. SurvivesBothCommits k new_pair changes new) (read_is t mid only) both (tree_on_disk t.disk t.pairs) after
+      (λ calls stops clean. HoldsAtLosses-weaker (λ blocks l. left blocks (left_earlier t mid.history only.reads new_pair changes blocks l)) (stops clean))
+      (λ last is. shows last (put_earlier t mid.history only.reads new_pair changes last is)))
 
-  abbrev pub onto_later : {sync : Bool} {old_pair old_id first new_pair new_id : ℕ} {name : Name} → CanReplaceEntryOver t sync old_pair old_id first new_pair new_id name → CanReplaceEntryOver (with_history t h) sync old_pair old_id first new_pair new_id name
-  onto_later r = record {
-    old = edit_later r.old;
-    begins_old = r.begins_old;
-    path = r.path;
-    at = r.at;
-    leads = r.leads;
-    to_first = r.to_first;
-    begins = r.begins;
-    target = r.target;
-    file = r.file;
-    logged = r.logged;
-    apart = r.apart;
-    not_beneath = r.not_beneath;
-    fits = r.fits;
-  }
+-- ---- where the entry comes
 
-module _ (t mid : KeptThread) (only : OnlyReadsThread t mid) (old_pair old_id first new_pair new_id : ℕ) (name : Name) (rename : CanRenameAcross t old_pair old_id first new_pair new_id name) (address : AreWords (thread_pair_at mid old_pair).at) where
-  abbrev later_t : KeptThread
-  later_t = with_history t mid.history
+-- the image may be changed, and there are pairs of these numbers
+pub record StandsAcross (t : KeptThread) (old_pair new_pair : ℕ) : Type 0 where
+  pub ready : IsReadyImage t
+  pub old_below : old_pair < length t.pairs
+  pub new_below : new_pair < length t.pairs
 
-  same : mid ≡ later_t
-  same = read_is t mid only
+pub stands_across : (t : KeptThread) (replaces sync : Bool) (old_pair old_id first new_pair new_id : ℕ) (name : Name) → CanMoveAcross t replaces sync old_pair old_id first new_pair new_id name → StandsAcross t old_pair new_pair
+stands_across t false sync old_pair old_id first new_pair new_id name rename = record {
+  ready = rename.old.ready;
+  old_below = below t rename.old.ready rename.old.first old_pair rename.old.stands.pair rename.old.stands.rest rename.old.stands.place;
+  new_below = below t rename.old.ready rename.to_first new_pair rename.belongs.pair (rename.belongs.later ++ rename.belongs.rest) rename.belongs.place;
+}
+stands_across t true sync old_pair old_id first new_pair new_id name rename = record {
+  ready = rename.old.ready;
+  old_below = below t rename.old.ready rename.old.first old_pair rename.old.stands.pair rename.old.stands.rest rename.old.stands.place;
+  new_below = below t rename.old.ready rename.to_first new_pair rename.target.pair rename.target.rest rename.target.place;
+}
 
-  abbrev pub there : CanRenameAcross (with_history t mid.history) old_pair old_id first new_pair new_id name
-  there = across_later t mid.history rename
+-- what is known of it, to a new name and onto an entry
+pub record HasAim (t : KeptThread) (replaces sync : Bool) (old_pair old_id first new_pair new_id : ℕ) (name : Name) (after : Tree) : Type 0 where
+  pub old : CanEditIn t old_pair old_id
+  pub path : Path
+  pub w : Site
+  pub p : Pair
+  pub l : List Slot
+  pub target : Option Slot
+  pub r : List Slot
+  pub aimed : IsAimed t replaces sync old_pair old_id first new_pair new_id name old path w p l target r
+  pub is : tree_moved t old.path old.name path name ≡ after
 
-  there_address : AreWords (thread_pair_at later_t old_pair).at
-  there_address = subst (λ k. AreWords (thread_pair_at k old_pair).at) same address
+pub aim : (t mid : KeptThread) → OnlyReadsThread t mid → (replaces sync : Bool) (old_pair old_id first new_pair new_id : ℕ) (name : Name) (rename : CanMoveAcross t replaces sync old_pair old_id first new_pair new_id name) → AreWords (thread_pair_at mid old_pair).at
+    → HasAim t replaces sync old_pair old_id first new_pair new_id name (tree_across t replaces sync old_pair old_id first new_pair new_id name rename)
+aim t mid only replaces sync old_pair old_id first new_pair new_id name rename address = go replaces rename
+  where
+    there : AreWords (thread_pair_at t old_pair).at
+    there = subst (λ k. AreWords (thread_pair_at k old_pair).at) (read_is t mid only) address
 
-  pub parts_later : nameless_at mid old_pair old_id ≡ nameless_at t old_pair old_id
-  parts_later = ap (λ k. nameless_at k old_pair old_id) same
-
-  pub changes_later : across_changes mid old_pair old_id new_pair new_id name ≡ across_changes t old_pair old_id new_pair new_id name
-  changes_later = ap (λ k. across_changes k old_pair old_id new_pair new_id name) same
-
-  pub can_put_later : CanTurn mid new_pair (across_changes mid old_pair old_id new_pair new_id name)
-  can_put_later = subst (λ k. CanTurn k new_pair (across_changes k old_pair old_id new_pair new_id name)) (sym same) (can_put_across later_t old_pair old_id first new_pair new_id name there there_address)
-
-  pub ends_later : (last : KeptThread) → IsTurned mid new_pair (across_changes mid old_pair old_id new_pair new_id name) last → CanEndSecond mid old_pair old_id (drops_with_its_slot t old_pair first) new_pair last
-  ends_later = subst (λ k. (last : KeptThread) → IsTurned k new_pair (across_changes k old_pair old_id new_pair new_id name) last → CanEndSecond k old_pair old_id (drops_with_its_slot t old_pair first) new_pair last) (sym same)
-      (ends_across later_t old_pair old_id first new_pair new_id name there there_address)
-
-  -- ---- what comes of it
-
-  became_earlier : (new : KeptThread) → IsRenamedAcross later_t new rename.old.path rename.old.name rename.path name → IsRenamedAcross t new rename.old.path rename.old.name rename.path name
-  became_earlier new x = record { now = record { ready = x.now.ready; shows = x.now.shows; flying = x.now.flying; root = x.now.root }; completed = x.completed }
-
-  pub renamed_later : (new : KeptThread) → IsPutEnded mid old_pair old_id (drops_with_its_slot t old_pair first) new_pair (across_changes mid old_pair old_id new_pair new_id name) new → IsRenamedAcross t new rename.old.path rename.old.name rename.path name
-  renamed_later new is = became_earlier new (renamed_across later_t old_pair old_id first new_pair new_id name there there_address new
-      (subst (λ k. IsPutEnded k old_pair old_id (drops_with_its_slot t old_pair first) new_pair (across_changes k old_pair old_id new_pair new_id name) new) same is))
-
-  pub survives_later : (one : ℕ) (new : KeptThread) → WritesTwoTwo mid one new_pair new → SurvivesBothCommits mid new_pair (across_changes mid old_pair old_id new_pair new_id name) new
-      → SurvivesLossSince t.disk t.history new.history (tree_on_disk t.disk t.pairs) (tree_moved t rename.old.path rename.old.name rename.path name)
-  survives_later one new w both =
-      let after = tree_moved t rename.old.path rename.old.name rename.path name in
-      let from = subst (λ k. SurvivesBothCommits k new_pair (across_changes k old_pair old_id new_pair new_id name) new) same both in
-      survives_then t.disk t.history mid.history new.history (tree_on_disk t.disk t.pairs) after only.reads w.writes.at_worst
-      (read_survives t mid.history only.reads rename.old.ready after)
-      (from (tree_on_disk t.disk t.pairs) after (survives_across later_t old_pair old_id first new_pair new_id name there there_address) (shows_across later_t old_pair old_id first new_pair new_id name there there_address))
-
--- ---- the same onto an entry
-
-module _ (sync : Bool) (t mid : KeptThread) (only : OnlyReadsThread t mid) (old_pair old_id first new_pair new_id : ℕ) (name : Name) (rename : CanReplaceEntryOver t sync old_pair old_id first new_pair new_id name) (address : AreWords (thread_pair_at mid old_pair).at) where
-  abbrev later_u : KeptThread
-  later_u = with_history t mid.history
-
-  same_u : mid ≡ later_u
-  same_u = read_is t mid only
-
-  abbrev pub onto_there : CanReplaceEntryOver (with_history t mid.history) sync old_pair old_id first new_pair new_id name
-  onto_there = onto_later t mid.history rename
-
-  here_address : AreWords (thread_pair_at later_u old_pair).at
-  here_address = subst (λ k. AreWords (thread_pair_at k old_pair).at) same_u address
-
-  pub parts_onto_later : nameless_at mid old_pair old_id ≡ nameless_at t old_pair old_id
-  parts_onto_later = ap (λ k. nameless_at k old_pair old_id) same_u
-
-  pub changes_onto_later : entry_over_changes sync mid old_pair old_id new_pair new_id name ≡ entry_over_changes sync t old_pair old_id new_pair new_id name
-  changes_onto_later = ap (λ k. entry_over_changes sync k old_pair old_id new_pair new_id name) same_u
-
-  pub can_put_onto_later : CanTurn mid new_pair (entry_over_changes sync mid old_pair old_id new_pair new_id name)
-  can_put_onto_later = subst (λ k. CanTurn k new_pair (entry_over_changes sync k old_pair old_id new_pair new_id name)) (sym same_u) (can_put_onto sync later_u old_pair old_id first new_pair new_id name onto_there here_address)
-
-  pub ends_onto_later : (last : KeptThread) → IsTurned mid new_pair (entry_over_changes sync mid old_pair old_id new_pair new_id name) last → CanEndSecond mid old_pair old_id (drops_with_its_slot t old_pair first) new_pair last
-  ends_onto_later = subst (λ k. (last : KeptThread) → IsTurned k new_pair (entry_over_changes sync k old_pair old_id new_pair new_id name) last → CanEndSecond k old_pair old_id (drops_with_its_slot t old_pair first) new_pair last) (sym same_u)
-      (ends_onto sync later_u old_pair old_id first new_pair new_id name onto_there here_address)
-
-  -- ---- what comes of it
-
-  replaced_earlier : (new : KeptThread) → IsFileReplaced later_u new rename.old.path rename.old.name rename.path name rename.target.stands.slot.struct → IsFileReplaced t new rename.old.path rename.old.name rename.path name rename.target.stands.slot.struct
-  replaced_earlier new x = record { now = record { ready = x.now.ready; shows = x.now.shows; flying = x.now.flying; root = x.now.root }; once = x.once; completed = x.completed }
-
-  pub replaced_later : sync ≡ false → (new : KeptThread) → IsPutEnded mid old_pair old_id (drops_with_its_slot t old_pair first) new_pair (entry_over_changes sync mid old_pair old_id new_pair new_id name) new → IsFileReplaced t new rename.old.path rename.old.name rename.path name rename.target.stands.slot.struct
-  replaced_later plain new is = replaced_earlier new (replaced_across sync later_u old_pair old_id first new_pair new_id name onto_there here_address plain new
-      (subst (λ k. IsPutEnded k old_pair old_id (drops_with_its_slot t old_pair first) new_pair (entry_over_changes sync k old_pair old_id new_pair new_id name) new) same_u is))
-
-  pub survives_onto_later : (one : ℕ) (new : KeptThread) → WritesTwoTwo mid one new_pair new → SurvivesBothCommits mid new_pair (entry_over_changes sync mid old_pair old_id new_pair new_id name) new
-      → SurvivesLossSince t.disk t.history new.history (tree_on_disk t.disk t.pairs) (tree_moved t rename.old.path rename.old.name rename.path name)
-  survives_onto_later one new w both =
-      let after = tree_moved t rename.old.path rename.old.name rename.path name in
-      let from = subst (λ k. SurvivesBothCommits k new_pair (entry_over_changes sync k old_pair old_id new_pair new_id name) new) same_u both in
-      survives_then t.disk t.history mid.history new.history (tree_on_disk t.disk t.pairs) after only.reads w.writes.at_worst
-      (read_survives t mid.history only.reads rename.old.ready after)
-      (from (tree_on_disk t.disk t.pairs) after (survives_onto sync later_u old_pair old_id first new_pair new_id name onto_there here_address) (shows_onto sync later_u old_pair old_id first new_pair new_id name onto_there here_address))
+    go : (replaces : Bool) (rename : CanMoveAcross t replaces sync old_pair old_id first new_pair new_id name) → HasAim t replaces sync old_pair old_id first new_pair new_id name (tree_across t replaces sync old_pair old_id first new_pair new_id name rename)
+    go false rename = record { old = rename.old; path = rename.path; w = _; p = _; l = _; target = None; r = _; aimed = aimed_new sync t old_pair old_id first new_pair new_id name rename there; is = refl }
+    go true rename = record { old = rename.old; path = rename.path; w = _; p = _; l = _; target = Some rename.target.stands.slot; r = _; aimed = aimed_onto sync t old_pair old_id first new_pair new_id name rename there; is = refl }
 
 -- ---- what it tells
 

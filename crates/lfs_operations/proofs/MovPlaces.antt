@@ -1,17 +1,11 @@
 -- Two pairs of one thread: a slot of the one comes into the other, and a set move hides it where it stood.
-use Rattle.std.proofs.Common.{ℕ, zero, suc, ◌≡◌, ◌≢◌, Bool, true, false, cond, not, nat_eq, ◌&&◌, List, [], ◌∷◌, ◌++◌, length, take, drop, refl, sym, ap, ap₂, subst, ◌∙◌, arith, flat_map, append_assoc, append-nil, remove, Less}
-use Rattle.lfs_operations.proofs.Common.{filter-append, Disk, Name, Slot, Gstate, is_superblock, same_pair, Pair, pairs_gstate, slots_not_moved, unmoved_entries, pair_directories, Path, EntryMap, all_directories, all_entries, LeadsTo, Each, each_append, each_left, each_right, each_weaker, each_always, each_pieces, each_joined, unmoved_all, site_shows, SameVisible, IsRun, shown_before, shown_behind, place_at, remove_here, entry_only, SameAround, IsMoveSet, IsPlace, unmoved_elsewhere, Site, dirs_at, thread_at, begin_of, run_changed, all_slots, pairs_behind}
+use Rattle.lfs_operations.proofs.Common.{ℕ, zero, suc, ◌≡◌, ◌≢◌, Bool, true, false, cond, not, nat_eq, ◌&&◌, List, [], ◌∷◌, ◌++◌, length, take, drop, refl, sym, ap, ap₂, subst, ◌∙◌, arith, flat_map, append_assoc, append-nil, remove, Less, filter-append, Disk, Name, Slot, Gstate, is_superblock, same_pair, Pair, pairs_gstate, slots_not_moved, unmoved_entries, pair_directories, Path, EntryMap, all_directories, all_entries, LeadsTo, Each, each_append, each_left, each_right, each_weaker, each_always, each_pieces, each_joined, unmoved_all, site_shows, SameVisible, IsRun, shown_before, shown_behind, place_at, remove_here, entry_only, SameAround, IsMoveSet, IsPlace, unmoved_elsewhere, Site, dirs_at, thread_at, begin_of, run_changed, all_slots, pairs_behind, directory_slots, shown_place, shown_of, site_own, site_entries, shown_at, entry_slots, visible_in}
 use Rattle.lfs_model.specs.declared.order.NameOrder.{NameOrder}
 use Rattle.lfs_model.specs.format.Names.{name_cmp}
-use Rattle.lfs_model.specs.format.Thread.{directory_slots}
 use Rattle.lfs_model.proofs.Indexes.{place_between}
 use Rattle.lfs_model.proofs.Listings.{Apart, distinct_apart, distinct_right}
-use Rattle.lfs_model.proofs.Moves.{shown_place, shown_of}
-use Rattle.lfs_model.proofs.MoveSets.{site_own, site_entries}
 use Rattle.lfs_model.proofs.Pairs.{put}
 use Rattle.lfs_model.proofs.Rests.{hidden_visible}
-use Rattle.lfs_model.proofs.Sites.{shown_at}
-use Rattle.lfs_model.proofs.Splices.{entry_slots, visible_in}
 
 -- ---- lists
 

@@ -1,23 +1,13 @@
--- A rename across pairs, from where the entry stands and where its name belongs.
-use Rattle.std.proofs.Common.{Bool, ℕ, ◌≡◌, ◌-◌, ◌<◌, true, false, List, [], ◌∷◌, ◌++◌, length, None, Some, refl, sym, ap, ap₂, subst, ◌∙◌, arith, length-append, insert}
-use Rattle.std.specs.Option.{option_and_then}
-use Rattle.lfs_operations.proofs.Common.{xor_lt, sum_by-append, PairChange, PutMove, changed_content_of, RawContent, RawSlot, complete_slots, complete_content, raw_content, CanSplit, Disk, CallEvent, BelongsAt, IsPairOfDirectory, AreWords, MoveStateFits, Name, is_valid_name, SurvivesLossSince, Slot, FitsInPair, Gstate, gstate_xor, slot_size, Pair, tail_address_of, Path, tree_renaming, without_prefix, IsWritableEntry, LeadsTo, all_entries, tree_on_disk, IsChangedImage, no_move_from, IsCompleted, complete_insert, complete_length, completed_from, completed_parts, does_first, puts_move, content_cut, entry_small, nothing_there, insert_here, place_at, IsPlace, is_site, number_is, place_of_belongs, same, site, thread_is, Site, thread_at, logged_changed, changed_pair, LossLeavesCleanly, KeptThread, complete_after, thread_pair_at}
-use Rattle.lfs_operations.specs.Changing.{IsPairTouched, CanTurn, LeftByTurn, IsTurned}
-use Rattle.lfs_operations.specs.Editing.{CanEditIn}
-use Rattle.lfs_operations.specs.MoveEnds.{CanEndAt, HasEndedAt, gstate_naming}
-use Rattle.lfs_operations.specs.MovingSteps.{CanEndSecond, IsPutEnded, number_after_insertion}
-use Rattle.lfs_operations.specs.MovingAcross.{CanRenameAcross, IsRenamedAcross, across_changes, tree_moved}
-use Rattle.lfs_operations.specs.Ready.{IsRawFormed}
-use Rattle.lfs_operations.specs.Removing.{drops_with_its_slot}
-use Rattle.lfs_operations.specs.RenamingSlots.{NamelessSlot, nameless_at, nameless_of, slot_changes}
+-- What the first step of a rename across pairs makes of the pair that the entry comes into.
+use Rattle.lfs_operations.proofs.Common.{Bool, ℕ, ◌≡◌, ◌<◌, true, false, List, [], ◌∷◌, ◌++◌, length, None, Some, refl, sym, ap, ap₂, subst, ◌∙◌, arith, length-append, insert, xor_lt, sum_by-append, PairChange, PutMove, changed_content_of, RawContent, RawSlot, complete_slots, complete_content, raw_content, CanSplit, Disk, BelongsAt, IsPairOfDirectory, AreWords, MoveStateFits, Name, is_valid_name, Slot, FitsInPair, Gstate, gstate_xor, slot_size, Pair, tail_address_of, Path, tree_renaming, without_prefix, IsWritableEntry, LeadsTo, all_entries, IsChangedImage, no_move_from, IsCompleted, complete_insert, complete_length, completed_from, completed_parts, does_first, puts_move, content_cut, entry_small, nothing_there, insert_here, place_at, IsPlace, is_site, number_is, place_of_belongs, same, site, thread_is, Site, thread_at, logged_changed, changed_pair, KeptThread, complete_after, thread_pair_at, option_and_then, IsPairTouched, CanTurn, CanEditIn, gstate_naming, CanRenameAcross, IsRenamedAcross, IsRawFormed, drops_with_its_slot, NamelessSlot, nameless_at, nameless_of, slot_changes, moving_changes, IsMovedAcross}
 use Rattle.lfs_operations.proofs.AlteredAcross.{moved_alters}
 use Rattle.lfs_operations.proofs.Held.{CompletesTo, below, fits_there, here, raw_there}
 use Rattle.lfs_operations.proofs.MovSet.{HasTurned, set_new, walk_by}
-use Rattle.lfs_operations.proofs.MovStep.{IsFirst, first_survives, first_turned, grown, mid_ends, mid_shows, rename_becomes, rename_completed, same_at}
+use Rattle.lfs_operations.proofs.MovStep.{IsFirst, first_turned}
 use Rattle.lfs_operations.proofs.MovTurned.{content_with}
 use Rattle.lfs_operations.proofs.RenameMade.{Leaves, is_slot, leaves_all, parts_are}
 use Rattle.lfs_operations.proofs.RenameSlots.{IsOf, name_length, slot_comes, slot_of_parts, with_slot}
-use Rattle.lfs_operations.proofs.MovPlaced.{IsPlaceInOtherPair, first_of, same_begin, setting}
+use Rattle.lfs_operations.proofs.MovPlaced.{IsAimed, IsPlaceInOtherPair, completed_moved, ended_aimed, first_of, same_begin, setting, shows_moved}
 
 -- ---- what the changes make
 
@@ -140,7 +130,7 @@ module _ (sync : Bool) (t : KeptThread) (old_pair old_id new_pair : ℕ) (can : 
 
 -- ---- to a new name
 
-module _ (t : KeptThread) (old_pair old_id first new_pair new_id : ℕ) (name : Name) (rename : CanRenameAcross t old_pair old_id first new_pair new_id name) (address : AreWords (thread_pair_at t old_pair).at) where
+module _ (sync : Bool) (t : KeptThread) (old_pair old_id first new_pair new_id : ℕ) (name : Name) (rename : CanRenameAcross t old_pair old_id first new_pair new_id name) (address : AreWords (thread_pair_at t old_pair).at) where
   abbrev can : CanEditIn t old_pair old_id
   can = rename.old
 
@@ -177,17 +167,17 @@ module _ (t : KeptThread) (old_pair old_id first new_pair new_id : ℕ) (name : 
   there : t.pairs ≡ thread_at w (p ∷ [])
   there = thread_is t.disk t.pairs rename.path rename.at can.ready.accepted rename.leads rename.to_first new_pair p (b.later ++ b.rest) b.place rename.begins
 
-  held_all : complete_slots (raw_mid false t old_pair old_id new_pair can address rename.to_first p (b.later ++ b.rest) b.place rename.logged).slots ≡ Some (b.left ++ b.right)
-  held_all = (completed_parts (c false t old_pair old_id new_pair can address rename.to_first p (b.later ++ b.rest) b.place rename.logged).raw p.content (c false t old_pair old_id new_pair can address rename.to_first p (b.later ++ b.rest) b.place rename.logged).complete).slots ∙ ap Some b.held
+  held_all : complete_slots (raw_mid sync t old_pair old_id new_pair can address rename.to_first p (b.later ++ b.rest) b.place rename.logged).slots ≡ Some (b.left ++ b.right)
+  held_all = (completed_parts (c sync t old_pair old_id new_pair can address rename.to_first p (b.later ++ b.rest) b.place rename.logged).raw p.content (c sync t old_pair old_id new_pair can address rename.to_first p (b.later ++ b.rest) b.place rename.logged).complete).slots ∙ ap Some b.held
 
-  leaves : Leaves (raw_mid false t old_pair old_id new_pair can address rename.to_first p (b.later ++ b.rest) b.place rename.logged) [] (b.left ++ b.right)
-  leaves = leaves_all (raw_mid false t old_pair old_id new_pair can address rename.to_first p (b.later ++ b.rest) b.place rename.logged) (b.left ++ b.right) held_all
+  leaves : Leaves (raw_mid sync t old_pair old_id new_pair can address rename.to_first p (b.later ++ b.rest) b.place rename.logged) [] (b.left ++ b.right)
+  leaves = leaves_all (raw_mid sync t old_pair old_id new_pair can address rename.to_first p (b.later ++ b.rest) b.place rename.logged) (b.left ++ b.right) held_all
 
   fits_left : FitsInPair t.disk.block_size t.disk.page (record p.content { slots = b.left ++ b.right })
   fits_left = subst (λ z. FitsInPair t.disk.block_size t.disk.page (record p.content { slots = z })) b.held (fits_there t can.ready rename.to_first new_pair p (b.later ++ b.rest) b.place)
 
-  pub can_put_across : CanTurn t new_pair (across_changes t old_pair old_id new_pair new_id name)
-  can_put_across = can_put false t old_pair old_id new_pair can address rename.to_first p (b.later ++ b.rest) b.place rename.logged [] b.left b.right leaves fits_left new_id b.number name rename.is_name rename.fits
+  can_put_across : CanTurn t new_pair (moving_changes false sync t old_pair old_id new_pair new_id name)
+  can_put_across = can_put sync t old_pair old_id new_pair can address rename.to_first p (b.later ++ b.rest) b.place rename.logged [] b.left b.right leaves fits_left new_id b.number name rename.is_name rename.fits
 
   aim : IsPlaceInOtherPair t old_pair old_id new_pair can w p b.left None b.right name
   aim = record {
@@ -210,52 +200,33 @@ module _ (t : KeptThread) (old_pair old_id first new_pair new_id : ℕ) (name : 
   abbrev to : Path
   to = rename.path ++ name ∷ []
 
-  follows : (disk : Disk) (x : Pair) (more : List Pair) → HasTurned t.disk w p (b.left ++ v ∷ b.right) (gstate_xor (gstate_naming false q.at (length lo)) p.content.move) disk x more
+  follows : (disk : Disk) (x : Pair) (more : List Pair) → HasTurned t.disk w p (b.left ++ v ∷ b.right) (gstate_xor (gstate_naming sync q.at (length lo)) p.content.move) disk x more
       → IsChangedImage t.disk (thread_at w (p ∷ [])) disk (thread_at w (x ∷ more)) (tree_renaming from to) (walk_by from to)
   follows disk x more turned = subst (λ (n : Name). IsChangedImage t.disk (thread_at w (p ∷ [])) disk (thread_at w (x ∷ more)) (tree_renaming (can.path ++ n ∷ []) to) (walk_by (can.path ++ n ∷ []) to)) can.stands.stands.named
-      (set_new t.disk wo q lo s ro w p b.left v b.right false disk x more turned can.path can.at (subst (λ z. LeadsTo z can.path can.at) there can.leads) (same_begin t old_pair old_id first new_pair can rename.begins_old w p b.left None b.right name aim)
+      (set_new t.disk wo q lo s ro w p b.left v b.right sync disk x more turned can.path can.at (subst (λ z. LeadsTo z can.path can.at) there can.leads) (same_begin t old_pair old_id first new_pair can rename.begins_old w p b.left None b.right name aim)
       rename.path rename.at (subst (λ z. LeadsTo z rename.path rename.at) there rename.leads)
       (same t.disk t.pairs rename.path rename.at can.ready.accepted rename.leads rename.to_first new_pair p (b.later ++ b.rest) b.place rename.begins)
       (setting t old_pair old_id first new_pair can rename.begins_old w p b.left None b.right name aim) refl (ap (λ (n : Name). without_prefix (can.path ++ n ∷ []) to) can.stands.stands.named ∙ rename.not_beneath)
       (subst (λ z. IsPlace t.disk.order (all_entries z rename.at) (place_at w b.left) name) there place))
 
-  is_first : IsFirst t false old_pair goes new_pair (across_changes t old_pair old_id new_pair new_id name) wo q lo s ro w p b.left None v b.right from to name
-  is_first = first_of t old_pair old_id first new_pair can rename.begins_old w p b.left None b.right name aim false (across_changes t old_pair old_id new_pair new_id name) rename.path
-      (made false t old_pair old_id new_pair can address rename.to_first p (b.later ++ b.rest) b.place rename.logged [] b.left b.right leaves fits_left new_id b.number name rename.is_name rename.fits)
+  is_first : IsFirst t sync old_pair goes new_pair (moving_changes false sync t old_pair old_id new_pair new_id name) wo q lo s ro w p b.left None v b.right from to name
+  is_first = first_of t old_pair old_id first new_pair can rename.begins_old w p b.left None b.right name aim sync (moving_changes false sync t old_pair old_id new_pair new_id name) rename.path
+      (made sync t old_pair old_id new_pair can address rename.to_first p (b.later ++ b.rest) b.place rename.logged [] b.left b.right leaves fits_left new_id b.number name rename.is_name rename.fits)
       follows (nothing_there t.disk t.pairs rename.path rename.at (place_at w b.left) name rename.leads place).0 (λ e. tt)
 
-  pub ends_across : (mid : KeptThread) → IsTurned t new_pair (across_changes t old_pair old_id new_pair new_id name) mid → CanEndSecond t old_pair old_id goes new_pair mid
-  ends_across mid is =
-      let x = first_turned t false old_pair goes new_pair (across_changes t old_pair old_id new_pair new_id name) wo q lo s ro w p b.left None v b.right from to name is_first mid is in
-      record {
-        apart = rename.apart;
-        grown = grown t false old_pair goes new_pair (across_changes t old_pair old_id new_pair new_id name) wo q lo s ro w p b.left None v b.right from to name is_first mid x;
-        can = subst (λ i. CanEndAt mid (number_after_insertion old_pair new_pair (length mid.pairs - length t.pairs)) i goes) can.stands.stands.number
-            (mid_ends t false old_pair goes new_pair (across_changes t old_pair old_id new_pair new_id name) wo q lo s ro w p b.left None v b.right from to name is_first mid x);
-        at = same_at t false old_pair goes new_pair (across_changes t old_pair old_id new_pair new_id name) wo q lo s ro w p b.left None v b.right from to name is_first mid x;
-      }
+  pub aimed_new : IsAimed t false sync old_pair old_id first new_pair new_id name rename.old rename.path w p rename.belongs.left None rename.belongs.right
+  aimed_new = record { apart = rename.apart; can = can_put_across; way = is_first }
 
-  pub shows_across : (mid : KeptThread) → IsTurned t new_pair (across_changes t old_pair old_id new_pair new_id name) mid → tree_on_disk mid.disk mid.pairs ≡ tree_moved t can.path can.name rename.path name
-  shows_across mid is = mid_shows t false old_pair goes new_pair (across_changes t old_pair old_id new_pair new_id name) wo q lo s ro w p b.left None v b.right from to name is_first mid
-      (first_turned t false old_pair goes new_pair (across_changes t old_pair old_id new_pair new_id name) wo q lo s ro w p b.left None v b.right from to name is_first mid is)
+-- ---- what it comes to
 
-  pub survives_across : (calls : List CallEvent) → LossLeavesCleanly t.history calls (LeftByTurn t new_pair (across_changes t old_pair old_id new_pair new_id name))
-      → SurvivesLossSince t.disk t.history calls (tree_on_disk t.disk t.pairs) (tree_moved t can.path can.name rename.path name)
-  survives_across calls stops = first_survives t false old_pair goes new_pair (across_changes t old_pair old_id new_pair new_id name) wo q lo s ro w p b.left None v b.right from to name is_first calls stops
+module _ {t : KeptThread} {old_pair old_id first new_pair new_id : ℕ} {name : Name} (rename : CanRenameAcross t old_pair old_id first new_pair new_id name) {new : KeptThread} (h : IsMovedAcross t false false old_pair old_id first new_pair new_id name new) where
+  pub renamed_across : IsRenamedAcross t new rename.old.path rename.old.name rename.path name
+  renamed_across =
+      let a = aimed_new false t old_pair old_id first new_pair new_id name rename h.address in
+      record { now = shows_moved a h.done refl; completed = completed_moved a h.done refl }
 
-  pub renamed_across : (new : KeptThread) → IsPutEnded t old_pair old_id goes new_pair (across_changes t old_pair old_id new_pair new_id name) new → IsRenamedAcross t new can.path can.name rename.path name
-  renamed_across new is =
-      let x = first_turned t false old_pair goes new_pair (across_changes t old_pair old_id new_pair new_id name) wo q lo s ro w p b.left None v b.right from to name is_first is.mid is.put in
-      let e = subst (λ i. HasEndedAt is.mid (number_after_insertion old_pair new_pair (length is.mid.pairs - length t.pairs)) i goes new) (sym can.stands.stands.number) is.ended in
-      record {
-        now = rename_becomes t false old_pair goes new_pair (across_changes t old_pair old_id new_pair new_id name) wo q lo s ro w p b.left None v b.right from to name is_first is.mid x new e refl;
-        completed = λ z given to_given tree given_is to_is.
-            rename_completed t false old_pair goes new_pair (across_changes t old_pair old_id new_pair new_id name) wo q lo s ro w p b.left None v b.right from to name is_first is.mid x new e refl z given to_given tree given_is to_is;
-      }
-
-  -- ---- what stays
-
-  pub across_alters : (new : KeptThread) → IsPutEnded t old_pair old_id goes new_pair (across_changes t old_pair old_id new_pair new_id name) new → IsPairTouched t new_pair new
-  across_alters new is = moved_alters t false old_pair goes new_pair (across_changes t old_pair old_id new_pair new_id name) wo q lo s ro w p b.left v b.right from to name is_first is.mid
-      (first_turned t false old_pair goes new_pair (across_changes t old_pair old_id new_pair new_id name) wo q lo s ro w p b.left None v b.right from to name is_first is.mid is.put) new
-      (subst (λ i. HasEndedAt is.mid (number_after_insertion old_pair new_pair (length is.mid.pairs - length t.pairs)) i goes new) (sym can.stands.stands.number) is.ended)
+  -- the pair doesn't stay with what it held
+  pub across_alters : IsPairTouched t new_pair new
+  across_alters =
+      let a = aimed_new false t old_pair old_id first new_pair new_id name rename h.address in
+      moved_alters a.way h.done.mid (first_turned a.way h.done.mid h.done.put) new (ended_aimed a h.done)

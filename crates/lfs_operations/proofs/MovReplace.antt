@@ -1,20 +1,11 @@
--- A rename across pairs onto a file, from where both stand.
-use Rattle.std.proofs.Common.{Bool, ℕ, ◌≡◌, ◌+◌, ◌-◌, ◌<◌, ◌≤◌, true, false, List, [], ◌∷◌, ◌++◌, length, Some, sym, ap, subst, ◌∙◌, arith, append-nil, length-append}
-use Rattle.lfs_operations.proofs.Common.{Delete, complete_slots, Disk, CallEvent, IsPlaceOf, AreWords, Name, is_valid_name, SurvivesLossSince, Slot, FitsInPair, gstate_xor, Pair, Path, tree_renaming, without_prefix, struct_blocks, LeadsTo, tree_on_disk, used_blocks, IsChangedImage, no_move_from, completed_parts, Each, each_right, number_count, is_site, number_is, same, site, slot_of_stands, thread_is, Site, thread_at, LossLeavesCleanly, KeptThread, thread_pair_at}
-use Rattle.lfs_operations.specs.Changing.{CanTurn, LeftByTurn, IsTurned}
-use Rattle.lfs_operations.specs.Editing.{CanEditIn}
-use Rattle.lfs_operations.specs.MoveEnds.{CanEndAt, HasEndedAt, gstate_naming}
-use Rattle.lfs_operations.specs.MovingSteps.{CanEndSecond, IsPutEnded, number_after_insertion}
-use Rattle.lfs_operations.specs.MovingAcross.{tree_moved}
-use Rattle.lfs_operations.specs.MovingOnto.{CanReplaceEntryOver, CanReplaceFileOver, CanReplaceDirectoryOver, IsFileReplaced, entry_over_changes}
-use Rattle.lfs_operations.specs.Dropping.{ShowsAfterDrops}
-use Rattle.lfs_operations.specs.Removing.{drops_with_its_slot}
+-- A rename across pairs onto an entry, from where both stand.
+use Rattle.lfs_operations.proofs.Common.{Bool, ℕ, ◌≡◌, ◌+◌, ◌<◌, ◌≤◌, true, false, List, [], ◌∷◌, ◌++◌, length, Some, refl, sym, ap, subst, ◌∙◌, arith, append-nil, length-append, Delete, complete_slots, Disk, IsPlaceOf, AreWords, Name, is_valid_name, Slot, FitsInPair, gstate_xor, Pair, Path, tree_renaming, without_prefix, struct_blocks, LeadsTo, used_blocks, IsChangedImage, no_move_from, completed_parts, Each, each_right, number_count, is_site, number_is, same, site, slot_of_stands, thread_is, Site, thread_at, KeptThread, thread_pair_at, CanTurn, CanEditIn, gstate_naming, tree_moved, CanReplaceEntryOver, CanReplaceFileOver, CanReplaceDirectoryOver, IsFileReplaced, ShowsAfterDrops, drops_with_its_slot, moving_changes, IsMovedAcross}
 use Rattle.lfs_operations.proofs.Held.{IsEntryIfOther, each_pair, fits_there, other_entries}
 use Rattle.lfs_operations.proofs.MovSet.{HasTurned, set_onto, walk_by}
-use Rattle.lfs_operations.proofs.MovStep.{IsFirst, first_survives, first_turned, grown, mid_ends, mid_shows, rename_becomes, rename_completed, rename_once, same_at}
+use Rattle.lfs_operations.proofs.MovStep.{IsFirst}
 use Rattle.lfs_operations.proofs.RenameMade.{Leaves, fits_without, leaves_without}
 use Rattle.lfs_operations.proofs.MovRename.{c, can_put, made, raw_mid}
-use Rattle.lfs_operations.proofs.MovPlaced.{IsPlaceInOtherPair, first_of, same_begin, setting}
+use Rattle.lfs_operations.proofs.MovPlaced.{IsAimed, IsPlaceInOtherPair, completed_moved, first_of, once_moved, same_begin, setting, shows_moved}
 
 pub not_plain : {X : Type 0} → true ≡ false → X
 not_plain e = absurd (cc)
@@ -125,7 +116,7 @@ module _ (sync : Bool) (t : KeptThread) (old_pair old_id first new_pair new_id :
       let entry = (each_right IsEntryIfOther l (g ∷ r) (subst (Each IsEntryIfOther) b.stands.held here)).0 b.stands.entry in
       ap is_valid_name (sym b.stands.named) ∙ entry.name
 
-  pub can_put_onto : CanTurn t new_pair (entry_over_changes sync t old_pair old_id new_pair new_id name)
+  can_put_onto : CanTurn t new_pair (moving_changes true sync t old_pair old_id new_pair new_id name)
   can_put_onto = can_put sync t old_pair old_id new_pair can address rename.to_first p b.rest b.place rename.logged (Delete new_id ∷ []) l r leaves fits_left new_id b.stands.number name is_named rename.fits
 
   aim : IsPlaceInOtherPair t old_pair old_id new_pair can w p l (Some g) r name
@@ -156,39 +147,23 @@ module _ (sync : Bool) (t : KeptThread) (old_pair old_id first new_pair new_id :
       (ap (λ (n : Name). without_prefix (can.path ++ n ∷ []) (rename.path ++ g.name ∷ [])) can.stands.stands.named
       ∙ ap (λ (n : Name). without_prefix from (rename.path ++ n ∷ [])) b.stands.named ∙ rename.not_beneath) rename.file)
 
-  pub is_first : IsFirst t sync old_pair goes new_pair (entry_over_changes sync t old_pair old_id new_pair new_id name) wo q lo s ro w p l (Some g) v r from to name
-  is_first = first_of t old_pair old_id first new_pair can rename.begins_old w p l (Some g) r name aim sync (entry_over_changes sync t old_pair old_id new_pair new_id name) rename.path
+  is_first : IsFirst t sync old_pair goes new_pair (moving_changes true sync t old_pair old_id new_pair new_id name) wo q lo s ro w p l (Some g) v r from to name
+  is_first = first_of t old_pair old_id first new_pair can rename.begins_old w p l (Some g) r name aim sync (moving_changes true sync t old_pair old_id new_pair new_id name) rename.path
       (made sync t old_pair old_id new_pair can address rename.to_first p b.rest b.place rename.logged (Delete new_id ∷ []) l r leaves fits_left new_id b.stands.number name is_named rename.fits)
       follows (slot_of_stands t.disk t.pairs rename.path rename.at can.ready.accepted rename.leads rename.to_first new_pair new_id name (no_move_from t.pairs can.ready.settled) b rename.begins) rename.file
 
-  pub ends_onto : (mid : KeptThread) → IsTurned t new_pair (entry_over_changes sync t old_pair old_id new_pair new_id name) mid → CanEndSecond t old_pair old_id goes new_pair mid
-  ends_onto mid is =
-      let x = first_turned t sync old_pair goes new_pair (entry_over_changes sync t old_pair old_id new_pair new_id name) wo q lo s ro w p l (Some g) v r from to name is_first mid is in
-      record {
-        apart = rename.apart;
-        grown = grown t sync old_pair goes new_pair (entry_over_changes sync t old_pair old_id new_pair new_id name) wo q lo s ro w p l (Some g) v r from to name is_first mid x;
-        can = subst (λ i. CanEndAt mid (number_after_insertion old_pair new_pair (length mid.pairs - length t.pairs)) i goes) can.stands.stands.number
-            (mid_ends t sync old_pair goes new_pair (entry_over_changes sync t old_pair old_id new_pair new_id name) wo q lo s ro w p l (Some g) v r from to name is_first mid x);
-        at = same_at t sync old_pair goes new_pair (entry_over_changes sync t old_pair old_id new_pair new_id name) wo q lo s ro w p l (Some g) v r from to name is_first mid x;
-      }
+  pub aimed_onto : IsAimed t true sync old_pair old_id first new_pair new_id name rename.old rename.path w p rename.target.stands.left (Some rename.target.stands.slot) rename.target.stands.right
+  aimed_onto = record { apart = rename.apart; can = can_put_onto; way = is_first }
 
-  pub shows_onto : (mid : KeptThread) → IsTurned t new_pair (entry_over_changes sync t old_pair old_id new_pair new_id name) mid → tree_on_disk mid.disk mid.pairs ≡ tree_moved t can.path can.name rename.path name
-  shows_onto mid is = mid_shows t sync old_pair goes new_pair (entry_over_changes sync t old_pair old_id new_pair new_id name) wo q lo s ro w p l (Some g) v r from to name is_first mid
-      (first_turned t sync old_pair goes new_pair (entry_over_changes sync t old_pair old_id new_pair new_id name) wo q lo s ro w p l (Some g) v r from to name is_first mid is)
+-- ---- onto a file
 
-  pub survives_onto : (calls : List CallEvent) → LossLeavesCleanly t.history calls (LeftByTurn t new_pair (entry_over_changes sync t old_pair old_id new_pair new_id name))
-      → SurvivesLossSince t.disk t.history calls (tree_on_disk t.disk t.pairs) (tree_moved t can.path can.name rename.path name)
-  survives_onto calls stops = first_survives t sync old_pair goes new_pair (entry_over_changes sync t old_pair old_id new_pair new_id name) wo q lo s ro w p l (Some g) v r from to name is_first calls stops
-
-  pub replaced_across : sync ≡ false → (new : KeptThread) → IsPutEnded t old_pair old_id goes new_pair (entry_over_changes sync t old_pair old_id new_pair new_id name) new → IsFileReplaced t new can.path can.name rename.path name g.struct
-  replaced_across plain new is =
-      let x = first_turned t sync old_pair goes new_pair (entry_over_changes sync t old_pair old_id new_pair new_id name) wo q lo s ro w p l (Some g) v r from to name is_first is.mid is.put in
-      let e = subst (λ i. HasEndedAt is.mid (number_after_insertion old_pair new_pair (length is.mid.pairs - length t.pairs)) i goes new) (sym can.stands.stands.number) is.ended in
-      record {
-        now = subst (λ (z : List ℕ). ShowsAfterDrops t new (tree_moved t can.path can.name rename.path name) z) (append-nil (struct_blocks t.disk g.struct))
-            (rename_becomes t sync old_pair goes new_pair (entry_over_changes sync t old_pair old_id new_pair new_id name) wo q lo s ro w p l (Some g) v r from to name is_first is.mid x new e plain);
-        once = subst (λ (z : List ℕ). (b : ℕ) → number_count b (used_blocks new.disk new.pairs) + number_count b z ≤ 1) (append-nil (struct_blocks t.disk g.struct))
-            (rename_once t sync old_pair goes new_pair (entry_over_changes sync t old_pair old_id new_pair new_id name) wo q lo s ro w p l (Some g) v r from to name is_first is.mid x new e);
-        completed = λ z given to_given tree given_is to_is.
-            rename_completed t sync old_pair goes new_pair (entry_over_changes sync t old_pair old_id new_pair new_id name) wo q lo s ro w p l (Some g) v r from to name is_first is.mid x new e plain z given to_given tree given_is to_is;
-      }
+pub replaced_across : {t : KeptThread} {old_pair old_id first new_pair new_id : ℕ} {name : Name} (rename : CanReplaceFileOver t old_pair old_id first new_pair new_id name) {new : KeptThread} → IsMovedAcross t true false old_pair old_id first new_pair new_id name new
+    → IsFileReplaced t new rename.old.path rename.old.name rename.path name rename.target.stands.slot.struct
+replaced_across {t = t} {old_pair = old_pair} {old_id = old_id} {first = first} {new_pair = new_pair} {new_id = new_id} {name = name} rename {new = new} h =
+    let a = aimed_onto false t old_pair old_id first new_pair new_id name (onto_file rename) h.address in
+    let blocks = append-nil (struct_blocks t.disk rename.target.stands.slot.struct) in
+    record {
+      now = subst (λ (z : List ℕ). ShowsAfterDrops t new (tree_moved t rename.old.path rename.old.name rename.path name) z) blocks (shows_moved a h.done refl);
+      once = subst (λ (z : List ℕ). (b : ℕ) → number_count b (used_blocks new.disk new.pairs) + number_count b z ≤ 1) blocks (once_moved a h.done);
+      completed = completed_moved a h.done refl;
+    }

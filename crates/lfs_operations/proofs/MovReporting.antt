@@ -1,13 +1,5 @@
 -- What two steps tell, one after the other, and what a stop in them leaves.
-use Rattle.std.proofs.Common.{ℕ, zero, suc, ◌≡◌, ◌≢◌, ◌+◌, ◌-◌, ◌<◌, ◌≤◌, ◌⊎◌, inl, inr, Bool, true, false, cond, List, [], ◌∷◌, length, Result, Ok, Err, refl, sym, ap, subst, ◌∙◌, arith, get_or, insert, length-set, set, take}
-use Rattle.std.specs.Prelude.{All, IfErr, IsErrOf, is_err, nat_lt}
-use Rattle.lfs_operations.proofs.Common.{cases_lt, le-ltb, lt-ltb, All-from_recursion, recursion_from_All, PairChange, Disk, CallEvent, AllCallsSince, fault_count, Blocks, HasEither as IsLeftOf, SurvivesLossSince, with_blocks, Pair, pairs_from_root, pair_count_before_root, address_blocks, addresses_blocks, tree_on_disk, survives_then, HoldsAtLosses-weaker, ends_joined, LossLeavesCleanly, KeptThread, ThreadView, SameGeometryAs, IsPairCommitted, ChangesThreadBlocks, split_back_pair, split_front_pair, empty_anchor, thread_pair_at}
-use Rattle.lfs_device.specs.declared.error.Error.{Error}
-use Rattle.lfs_device.specs.declared.error.Error.TheVariants.{Io, NoMemory, NoSpace}
-use Rattle.lfs_operations.specs.Changing.{AreTwoFree, IsSplitInto, LeftByTurn, IsTurned, WritesPairTwo, has_failed_after}
-use Rattle.lfs_operations.specs.MoveEnds.{written_at_end, follows_hard_tail_of}
-use Rattle.lfs_operations.specs.MovingSteps.{CanEndSecond, SurvivesBothCommits, ReportsErrorsOfCommitsTakingBlocks, WritesTwoTwo, number_after_insertion}
-use Rattle.lfs_operations.specs.Removing.{ReportsErrorsOfCommitTakingNoBlock}
+use Rattle.lfs_operations.proofs.Common.{ℕ, zero, suc, ◌≡◌, ◌≢◌, ◌+◌, ◌-◌, ◌<◌, ◌≤◌, ◌⊎◌, inl, inr, Bool, true, false, cond, List, [], ◌∷◌, length, Result, Ok, Err, refl, sym, ap, subst, ◌∙◌, arith, get_or, insert, length-set, set, take, cases_lt, le-ltb, lt-ltb, All-from_recursion, recursion_from_All, PairChange, Disk, CallEvent, AllCallsSince, fault_count, Blocks, HasEither as IsLeftOf, SurvivesLossSince, with_blocks, Pair, pairs_from_root, pair_count_before_root, address_blocks, addresses_blocks, tree_on_disk, survives_then, HoldsAtLosses-weaker, ends_joined, LossLeavesCleanly, KeptThread, ThreadView, SameGeometryAs, IsPairCommitted, ChangesThreadBlocks, split_back_pair, split_front_pair, empty_anchor, thread_pair_at, All, IfErr, IsErrOf, is_err, nat_lt, Error, Io, NoMemory, NoSpace, AreTwoFree, IsSplitInto, LeftByTurn, IsTurned, WritesPairTwo, has_failed_after, written_at_end, follows_hard_tail_of, CanEndSecond, SurvivesBothCommits, ReportsErrorsOfCommitsTakingBlocks, WritesTwoTwo, number_after_insertion, ReportsErrorsOfCommitTakingNoBlock}
 use Rattle.lfs_operations.proofs.Putting.{writes_trans, writes_wider}
 
 failing : (e : Error) → (e ≡ Io) ⊎ (e ≡ NoMemory) → has_failed_after {X = Unit {0}} (Err e) ≡ true

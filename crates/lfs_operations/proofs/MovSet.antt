@@ -1,13 +1,5 @@
 -- The first step of a rename across pairs: the slot comes under its new name, and a set move hides the old one.
-use Rattle.std.proofs.Common.{ℕ, ◌≡◌, ◌≢◌, ◌+◌, inl, inr, Bool, true, false, cond, nat_eq, List, [], ◌∷◌, ◌++◌, length, None, refl, sym, ap, ap₂, subst, ◌∙◌, arith, flat_map, append_assoc, append-nil, remove, slice_get}
-use Rattle.std.specs.Prelude.{All}
-use Rattle.lfs_operations.proofs.Common.{IsDistinct, recursion_from_All, flat_map-append, Disk, disk_block, Slot, Gstate, is_superblock, same_pair, zero_gstate, gstate_xor, pair_with_slots, Pair, blocks_of_pairs, pairs_gstate, starts_superblock, pair_count_before_root, slots_not_moved, Path, Tree, branch_address, without_prefix, tree_with_subtree, tree_renaming, all_entries, LeadsTo, used_blocks, struct_blocks, all_slots_not_moved, IsTreeEntry, HasValidMove, IsEntry, IsAccepted, IsWritable, IsWritableSlot, Became, became_front, became_shape, IsChangedImage, SameFiles, slots_files, no_move_from, recovered_from, Each, each_append, each_left, each_right, each_weaker, each_pieces, number_count, count_append, once_from_distinct, distinct_from_once, SameFileBlocks, gstate_cons, gstate_right, flip_false, place_at, get_here, remove_here, IsMoveSet, IsPlace, some_filled, pair_itself, site_gstate_moved, unmoved_elsewhere, avoids_front, avoids_behind, Site, dirs_at, thread_at, IsSite, begin_of, HoldsOfSome, among_right, among_left, all_slots, file_blocks, count_files, unmoved_in, IsDevice, IsWritableChange, IsPut}
-use Rattle.lfs_model.proofs.Laws.{PathAddresses}
-use Rattle.lfs_model.proofs.MoveSets.{move_sets, move_sets_onto}
-use Rattle.lfs_model.proofs.Sites.{any_from}
-use Rattle.lfs_model.proofs.Splices.{AreFree}
-use Rattle.lfs_model.proofs.StepsTaken.{set_taken}
-use Rattle.lfs_operations.specs.MoveEnds.{gstate_naming}
+use Rattle.lfs_operations.proofs.Common.{ℕ, ◌≡◌, ◌≢◌, ◌+◌, inl, inr, Bool, true, false, cond, nat_eq, List, [], ◌∷◌, ◌++◌, length, None, refl, sym, ap, ap₂, subst, ◌∙◌, arith, flat_map, append_assoc, append-nil, remove, slice_get, IsDistinct, recursion_from_All, flat_map-append, Disk, disk_block, Slot, Gstate, is_superblock, same_pair, zero_gstate, gstate_xor, pair_with_slots, Pair, blocks_of_pairs, pairs_gstate, starts_superblock, pair_count_before_root, slots_not_moved, Path, Tree, branch_address, without_prefix, tree_with_subtree, tree_renaming, all_entries, LeadsTo, used_blocks, struct_blocks, all_slots_not_moved, IsTreeEntry, HasValidMove, IsEntry, IsAccepted, IsWritable, IsWritableSlot, Became, became_front, became_shape, IsChangedImage, SameFiles, slots_files, no_move_from, recovered_from, Each, each_append, each_left, each_right, each_weaker, each_pieces, number_count, count_append, once_from_distinct, distinct_from_once, SameFileBlocks, gstate_cons, gstate_right, flip_false, place_at, get_here, remove_here, IsMoveSet, IsPlace, some_filled, pair_itself, site_gstate_moved, unmoved_elsewhere, avoids_front, avoids_behind, Site, dirs_at, thread_at, IsSite, begin_of, HoldsOfSome, among_right, among_left, all_slots, file_blocks, count_files, unmoved_in, IsDevice, IsWritableChange, IsPut, All, PathAddresses, move_sets, move_sets_onto, any_from, AreFree, set_taken, gstate_naming}
 use Rattle.lfs_operations.proofs.MovPlaces.{SameParts, same_parts, InTurn, ahead, behind, in_turn, hidden_place}
 use Rattle.lfs_operations.proofs.Placing.{blocks_append}
 

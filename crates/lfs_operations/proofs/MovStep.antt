@@ -1,22 +1,13 @@
 -- The first step of a rename across pairs, as a step of the thread, and what the second one makes of it.
-use Rattle.std.proofs.Common.{ℕ, ◌≡◌, ◌≢◌, ◌+◌, ◌-◌, ◌<◌, ◌≤◌, ◌⊎◌, inl, inr, Bool, true, false, cond, take, List, [], ◌∷◌, ◌++◌, length, Option, Some, refl, sym, ap, ap₂, subst, ◌∙◌, arith, append_assoc, length-append, get_or, set, remove}
-use Rattle.lfs_operations.proofs.Common.{le-ltb, lt-ltb, Blocks, AreUsed, Free, InFlight, PairChange, content_after, current_of_two, empty_raw_content, raw_content, block_count, Disk, disk_block, CallEvent, block_entries, Name, HasEither as IsLeftOf, SurvivesLossSince, with_blocks, Slot, Gstate, gstate_xor, zero_gstate, same_pair, slot_of, Pair, blocks_of_pairs, pairs_gstate, is_hard_tail, pair_count_before_root, Path, Tree, last_name, tree_renaming, Session, path_or_root, all_directories, all_slots_not_moved, struct_blocks, tree_on_disk, used_blocks, IsAccepted, IsWritable, flat_map, SameSlots, IsChangedImage, rearranged_chain, IsCompletion, number_count, count_append, count_here, once_from_distinct, HoldsAtLosses-weaker, remove_here, first_pair_addresses, set_rearranged, pair_itself, IsNoDirectory, target_slots, HoldsOfSome, Site, among_left, among_parts, among_right, dirs_at, thread_at, file_blocks, IsWritableChange, IsChain, pairs_behind, OldStays, from_old, two, ends_joined, LossLeavesCleanly, KeptThread, SameGeometryAs, empty_anchor, thread_pair_at}
-use Rattle.std.specs.Option.{option_and_then}
+use Rattle.lfs_operations.proofs.Common.{ℕ, ◌≡◌, ◌≢◌, ◌+◌, ◌-◌, ◌<◌, ◌≤◌, ◌⊎◌, inl, inr, Bool, true, false, cond, take, List, [], ◌∷◌, ◌++◌, length, Option, Some, refl, sym, ap, ap₂, subst, ◌∙◌, arith, append_assoc, length-append, get_or, set, remove, le-ltb, lt-ltb, Blocks, AreUsed, Free, InFlight, PairChange, content_after, current_of_two, empty_raw_content, raw_content, block_count, Disk, disk_block, block_entries, Name, HasEither as IsLeftOf, with_blocks, Slot, Gstate, gstate_xor, zero_gstate, same_pair, slot_of, Pair, blocks_of_pairs, pairs_gstate, is_hard_tail, pair_count_before_root, Path, Tree, last_name, tree_renaming, Session, path_or_root, all_directories, all_slots_not_moved, struct_blocks, tree_on_disk, used_blocks, IsAccepted, IsWritable, flat_map, SameSlots, IsChangedImage, rearranged_chain, IsCompletion, number_count, count_append, count_here, once_from_distinct, remove_here, first_pair_addresses, set_rearranged, pair_itself, IsNoDirectory, target_slots, HoldsOfSome, Site, among_left, among_parts, among_right, dirs_at, thread_at, file_blocks, IsWritableChange, IsChain, pairs_behind, OldStays, from_old, two, ends_joined, KeptThread, SameGeometryAs, empty_anchor, thread_pair_at, option_and_then, taken_then, LeftByTurn, IsTurned, ShowsAfterDrops, SameInFlight, CanEndAt, HasEndedAt, dropped_at_end, content_move_ended, follows_hard_tail_of, gstate_naming, pairs_move_ended, number_after_insertion, IsRawFormed, IsReadyImage, KeepsRootBeginning, gstate_without_move}
 use Rattle.lfs_model.specs.session.Operations as ops
 use Rattle.lfs_model.proofs.LeftFiles.{ends_same}
-use Rattle.lfs_model.proofs.StepsTaken.{taken_then}
-use Rattle.lfs_operations.specs.Changing.{LeftByTurn, IsTurned}
-use Rattle.lfs_operations.specs.Dropping.{ShowsAfterDrops, SameInFlight}
-use Rattle.lfs_operations.specs.MoveEnds.{CanEndAt, HasEndedAt, dropped_at_end, content_move_ended, follows_hard_tail_of, gstate_naming, pairs_move_ended}
-use Rattle.lfs_operations.specs.MovingSteps.{number_after_insertion}
-use Rattle.lfs_operations.specs.Ready.{IsRawFormed, IsReadyImage, KeepsRootBeginning}
 use Rattle.lfs_operations.proofs.Dropped.{HasMapWithout, map_ended}
 use Rattle.lfs_operations.proofs.MovAcross.{Arranged, arrangement, completed}
 use Rattle.lfs_operations.proofs.MovFirsts.{set_firsts}
 use Rattle.lfs_operations.proofs.MovSet.{HasTurned, IsSetting, set_count, set_step, state_is, taken_by, walk_by}
 use Rattle.lfs_operations.proofs.MovTurned.{IsTurn, Stays, TurnedOn, TurnedTo, left_put, put_turned}
 use Rattle.lfs_operations.proofs.Placing.{blocks_append, left_after, left_still}
-use Rattle.lfs_operations.specs.EndingMove.{gstate_without_move}
 use Rattle.lfs_operations.proofs.Threads.{get_at, set_at, take_front}
 
 -- ---- lists
@@ -63,8 +54,8 @@ pub record IsFirst (t : KeptThread) (sync : Bool) (old_pair : ℕ) (goes : Bool)
   pub to_name : last_name new_path ≡ name
   pub file : sync ≡ false → IsNoDirectory target
 
-module _ (t : KeptThread) (sync : Bool) (old_pair : ℕ) (goes : Bool) (new_pair : ℕ) (changes : List PairChange) (wo : Site) (o : Pair) (lo : List Slot) (u : Slot) (ro : List Slot) (w : Site) (p : Pair) (l : List Slot) (target : Option Slot) (v : Slot) (r : List Slot)
-    (old_path new_path : Path) (name : Name) (k : IsFirst t sync old_pair goes new_pair changes wo o lo u ro w p l target v r old_path new_path name) where
+module _ {t : KeptThread} {sync : Bool} {old_pair : ℕ} {goes : Bool} {new_pair : ℕ} {changes : List PairChange} {wo : Site} {o : Pair} {lo : List Slot} {u : Slot} {ro : List Slot} {w : Site} {p : Pair} {l : List Slot} {target : Option Slot} {v : Slot} {r : List Slot}
+    {old_path new_path : Path} {name : Name} (k : IsFirst t sync old_pair goes new_pair changes wo o lo u ro w p l target v r old_path new_path name) where
   abbrev ps : List Pair
   ps = thread_at w (p ∷ [])
 
@@ -83,17 +74,13 @@ module _ (t : KeptThread) (sync : Bool) (old_pair : ℕ) (goes : Bool) (new_pair
 
   -- ---- at a stop in the first step
 
-  left_tree : (left : Blocks) → LeftByTurn t new_pair changes left → IsLeftOf (with_blocks left t.disk) (tree_on_disk t.disk t.pairs) (tree_renaming old_path new_path (tree_on_disk t.disk t.pairs))
+  pub left_tree : (left : Blocks) → LeftByTurn t new_pair changes left → IsLeftOf (with_blocks left t.disk) (tree_on_disk t.disk t.pairs) (tree_renaming old_path new_path (tree_on_disk t.disk t.pairs))
   left_tree left is = go (left_put t new_pair changes w p slots move k.turn (record { used = k.ready.used; size = k.ready.size }) left is)
     where
       go : Stays t new_pair changes w p slots move k.turn (with_blocks left t.disk) ⊎ TurnedOn t w p slots move (with_blocks left t.disk)
           → IsLeftOf (with_blocks left t.disk) (tree_on_disk t.disk t.pairs) (tree_renaming old_path new_path (tree_on_disk t.disk t.pairs))
       go (inl d) = left_still t.disk left (thread_at w (p ∷ [])) k.setting.accepted k.setting.writable d (inl (ap (tree_on_disk t.disk) (sym k.turn.there)))
       go (inr x) = left_after (first_taken (with_blocks left t.disk) x.q x.more x.turned) (inr (ap (λ z. tree_renaming old_path new_path (tree_on_disk t.disk z)) (sym k.turn.there)))
-
-  pub first_survives : (new : List CallEvent) → LossLeavesCleanly t.history new (LeftByTurn t new_pair changes)
-      → SurvivesLossSince t.disk t.history new (tree_on_disk t.disk t.pairs) (tree_renaming old_path new_path (tree_on_disk t.disk t.pairs))
-  first_survives new stops clean = HoldsAtLosses-weaker left_tree (stops clean)
 
   -- ---- after the first step
 

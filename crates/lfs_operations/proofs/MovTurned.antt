@@ -1,9 +1,5 @@
 -- A pair of an accepted image that is changed, or split, and gets any delta of the global state.
-use Rattle.std.proofs.Common.{ℕ, zero, suc, ◌≡◌, ◌+◌, ◌<◌, ◌≤◌, ◌⊎◌, inl, inr, Bool, true, false, cond, eqb-true, nat_eq, List, [], ◌∷◌, ◌++◌, length, take, drop, Some, refl, sym, ap, subst, ◌∙◌, arith, append-nil, slice_get}
-use Rattle.std.specs.Prelude.{All}
-use Rattle.lfs_operations.proofs.Common.{IsDistinct, same_Some, take-append-drop, All-from_recursion, recursion_from_All, Blocks, AreUsed, BlockStates, IsFree, IsInFlight, PairChange, content_at, current_block, Disk, block_count, with_blocks, Slot, PairContent, Gstate, FitsInPair, gstate_xor, pair_with_slots, Pair, blocks_of_pairs, pairs_gstate, BeginsWith, superblock_entry, IsAccepted, used_blocks, fits_same, each_right, number_count, gstate_cons, gstate_left, gstate_right, Site, thread_at, IsSite, IsDevice, HasFirst, KeepsOutsideBoth, KeptThread, thread_pair_at, complete_after, pairs_with, BothOnDisk, SameGeometryAs, HasOldPair, IsPairCommitted, LossLeavesPairChanged, IsPairWritten, BeginWithSuperblock, split_front_pair, split_back_pair, PartsFitPairs}
-use Rattle.lfs_operations.specs.Changing.{AreTwoFree, IsSplitInto, LeftByTurn, IsTurned, ChangeIsTooLarge}
-use Rattle.lfs_operations.specs.Ready.{HasNoneNew, KeepsTakenStates}
+use Rattle.lfs_operations.proofs.Common.{ℕ, zero, suc, ◌≡◌, ◌+◌, ◌<◌, ◌≤◌, ◌⊎◌, inl, inr, Bool, true, false, cond, eqb-true, nat_eq, List, [], ◌∷◌, ◌++◌, length, take, drop, Some, refl, sym, ap, subst, ◌∙◌, arith, append-nil, slice_get, IsDistinct, same_Some, take-append-drop, All-from_recursion, recursion_from_All, Blocks, AreUsed, BlockStates, IsFree, IsInFlight, PairChange, content_at, current_block, Disk, block_count, with_blocks, Slot, PairContent, Gstate, FitsInPair, gstate_xor, pair_with_slots, Pair, blocks_of_pairs, pairs_gstate, BeginsWith, superblock_entry, IsAccepted, used_blocks, fits_same, each_right, number_count, gstate_cons, gstate_left, gstate_right, Site, thread_at, IsSite, IsDevice, HasFirst, KeepsOutsideBoth, KeptThread, thread_pair_at, complete_after, pairs_with, BothOnDisk, SameGeometryAs, HasOldPair, IsPairCommitted, LossLeavesPairChanged, IsPairWritten, BeginWithSuperblock, split_front_pair, split_back_pair, PartsFitPairs, All, AreTwoFree, IsSplitInto, LeftByTurn, IsTurned, ChangeIsTooLarge, HasNoneNew, KeepsTakenStates}
 use Rattle.lfs_operations.proofs.Owning.{length_now, none_comes_now, stay_taken, used_more}
 use Rattle.lfs_operations.proofs.Placing.{IsPlaced, device}
 use Rattle.lfs_operations.proofs.Threads as thread

@@ -1,35 +1,22 @@
 -- A rename across pairs onto an empty directory: where the directory's pair stands after the move, and what the last step comes to.
-use Rattle.std.proofs.Common.{ℕ, zero, suc, ◌≡◌, ◌≢◌, ◌<◌, ◌⊎◌, inl, inr, ◌-◌, Bool, true, false, cond, nat_eq, slice_get, take, List, [], ◌∷◌, ◌++◌, length, map, Some, None, sym, ap, ap₂, subst, ◌∙◌, arith, append_assoc, append-nil, refl}
-use Rattle.lfs_operations.proofs.Common.{AllByRecursion, IsDistinct, recursion_from_All, same_Some, last_name, tree_renaming, without_prefix, Blocks, PairChange, IsPairAt, IsPlaceOf, FitsPair, IsDirectoryGone, AreWords, Name, HasEither as IsLeftOf, with_blocks, slot_of, pair_with_slots, Branch, Ctz, Inline, Slot, Struct, gstate_xor, zero_gstate, same_pair, path_or_root, ThreadDirectory, Pair, anchor_address, blocks_of_pairs, pairs_from_root, first_address, pairs_gstate, root_address, pair_count_before_root, Path, branch_address, address_at_path, HasNoEmpties, IsWritable, IsAccepted, IsReachedBySome, LeadsTo, all_directories, all_entries, tree_on_disk, used_blocks, SameSlots, IsChangedImage, IsCompletion, no_move_from, recovered_from, Each, number_count, count_append, each_right, each_weaker, HasDirectory, chain_of_thread, site_shows, NoneGoes, joined_parts, none_where, rest_all, entry_only, get_here, place_at, shown_before, shown_behind, some_filled, pair_itself, pair_on, last_is, Gains, Keeps, Piece, Stays, olds_of, segment_of, renamed_addresses, IsReplaced, avoids_behind, avoids_front, same, site, slot_of_stands, drafts_of, parts_of, HoldsOfSome, Site, begin_of, dirs_at, thread_at, file_blocks, IsWritableChange, IsChain, pairs_behind, OldStays, from_old, two, KeptThread, empty_anchor, thread_pair_at, HasNoMove}
-use Rattle.std.specs.Prelude.{Any}
+use Rattle.lfs_operations.proofs.Common.{ℕ, zero, suc, ◌≡◌, ◌≢◌, ◌<◌, ◌⊎◌, inl, inr, ◌-◌, Bool, true, false, cond, nat_eq, slice_get, take, List, [], ◌∷◌, ◌++◌, length, map, Some, None, sym, ap, ap₂, subst, ◌∙◌, arith, append_assoc, append-nil, refl, AllByRecursion, IsDistinct, recursion_from_All, same_Some, last_name, tree_renaming, without_prefix, Blocks, PairChange, IsPairAt, IsPlaceOf, FitsPair, IsDirectoryGone, Name, HasEither as IsLeftOf, with_blocks, slot_of, pair_with_slots, Branch, Ctz, Inline, Slot, Struct, gstate_xor, zero_gstate, same_pair, path_or_root, ThreadDirectory, Pair, anchor_address, blocks_of_pairs, pairs_from_root, first_address, pairs_gstate, root_address, pair_count_before_root, Path, branch_address, address_at_path, HasNoEmpties, IsWritable, IsAccepted, IsReachedBySome, LeadsTo, all_directories, all_entries, tree_on_disk, used_blocks, SameSlots, IsChangedImage, IsCompletion, no_move_from, recovered_from, Each, number_count, count_append, each_right, each_weaker, HasDirectory, chain_of_thread, site_shows, NoneGoes, joined_parts, none_where, rest_all, entry_only, get_here, place_at, shown_before, shown_behind, some_filled, pair_itself, pair_on, last_is, Gains, Keeps, Piece, Stays, olds_of, segment_of, renamed_addresses, IsReplaced, avoids_behind, avoids_front, same, site, slot_of_stands, drafts_of, parts_of, HoldsOfSome, Site, begin_of, dirs_at, thread_at, file_blocks, IsWritableChange, IsChain, pairs_behind, OldStays, from_old, two, KeptThread, empty_anchor, thread_pair_at, HasNoMove, Any, BeginsAt, all_at_firsts, begins_at_firsts, CanDropAt, IsPairDropped, LeftByDrop, CanEditIn, HasEndedAt, gstate_naming, IsPutEnded, number_after_insertion, IsRenamedAcross, tree_moved, CanReplaceDirectoryOver, IsMovedAcross, entry_over_changes, drops_with_its_slot}
 use Rattle.lfs_model.specs.session.TreeEdits.{same_path}
 use Rattle.lfs_model.specs.session.Layout.{slot_addresses, removed_addresses}
 use Rattle.lfs_model.specs.session.Operations as ops
-use Rattle.lfs_model.specs.format.Thread.{BeginsAt}
 use Rattle.lfs_model.proofs.Alike.{Stood}
 use Rattle.lfs_model.proofs.Found.{directory_found, links_behind}
-use Rattle.lfs_model.proofs.MoveSets.{all_at_firsts, begins_at_firsts}
 use Rattle.lfs_model.proofs.Pieces.{GoesAt, pieces_stood}
 use Rattle.lfs_model.proofs.RenamedOnto.{IsRenameOnto, onto_completed}
 use Rattle.lfs_model.proofs.Trees.{not_before}
 use Rattle.lfs_model.proofs.TwoPlaces.{fits_fewer}
-use Rattle.lfs_operations.specs.Dropping.{CanDropAt, IsPairDropped, LeftByDrop}
-use Rattle.lfs_operations.specs.Editing.{CanEditIn}
-use Rattle.lfs_operations.specs.MoveEnds.{HasEndedAt, gstate_naming}
-use Rattle.lfs_operations.specs.MovingSteps.{IsPutEnded, number_after_insertion}
-use Rattle.lfs_operations.specs.MovingAcross.{IsRenamedAcross, tree_moved}
-use Rattle.lfs_operations.specs.MovingOnto.{CanReplaceDirectoryOver, IsEntryReplaced, entry_over_changes}
-use Rattle.lfs_operations.specs.Removing.{drops_with_its_slot}
 use Rattle.lfs_operations.proofs.Held.{below, fits_there}
-use Rattle.lfs_operations.proofs.MovReplace.{is_first, onto_directory}
+use Rattle.lfs_operations.proofs.MovReplace.{aimed_onto, onto_directory}
 use Rattle.lfs_operations.proofs.MovStep.{IsFirst, IsLeftOver, arr, first_turned, last_firsts, last_flying, last_kept, last_root, last_shape, last_size, last_state, last_taken, last_used, left_over}
 use Rattle.lfs_operations.proofs.MovTurned.{TurnedTo}
 use Rattle.lfs_operations.proofs.MovAcross.{Arranged}
 use Rattle.lfs_operations.proofs.OntoGone.{replaced_by, replaced_drops}
 use Rattle.lfs_operations.proofs.OntoPieces.{AreKnown, IsCutOut, alike_then, alike_without, cut_out, joined_stays}
-use Rattle.lfs_operations.proofs.MovLater.{edit_later}
 use Rattle.lfs_operations.proofs.Owning.{used_same}
-use Rattle.lfs_operations.proofs.Putting.{read_is, with_history}
 use Rattle.lfs_operations.proofs.RmdirPlaces.{HasOwnPair, led_to, own_pair, HasFront, front_of, get_some, not_the_root, number_of_first, soft_end}
 use Rattle.lfs_operations.proofs.LastDrop.{IsAllButDropped, alike_end, can_drop_last, left_last, shows_dropped, taken_end}
 
@@ -51,8 +38,11 @@ old_below t old_pair old_id first new_pair new_id name gone rename = below t ren
 pub new_below : (t : KeptThread) (old_pair old_id first new_pair new_id : ℕ) (name : Name) (gone : ℕ) → CanReplaceDirectoryOver t old_pair old_id first new_pair new_id name gone → new_pair < length t.pairs
 new_below t old_pair old_id first new_pair new_id name gone rename = below t rename.old.ready rename.to_first new_pair rename.target.pair rename.target.rest rename.target.place
 
-module _ (t : KeptThread) (old_pair old_id first new_pair new_id : ℕ) (name : Name) (gone : ℕ) (rename : CanReplaceDirectoryOver t old_pair old_id first new_pair new_id name gone) (address : AreWords (thread_pair_at t old_pair).at)
-    (m : KeptThread) (is : IsPutEnded t old_pair old_id (drops_with_its_slot t old_pair first) new_pair (entry_over_changes true t old_pair old_id new_pair new_id name) m) where
+module _ (t : KeptThread) (old_pair old_id first new_pair new_id : ℕ) (name : Name) (gone : ℕ) (rename : CanReplaceDirectoryOver t old_pair old_id first new_pair new_id name gone)
+    (m : KeptThread) (h : IsMovedAcross t true true old_pair old_id first new_pair new_id name m) where
+  abbrev is : IsPutEnded t old_pair old_id (drops_with_its_slot t old_pair first) new_pair (entry_over_changes true t old_pair old_id new_pair new_id name) m
+  is = h.done
+
   abbrev can : CanEditIn t old_pair old_id
   can = rename.old
 
@@ -108,10 +98,10 @@ module _ (t : KeptThread) (old_pair old_id first new_pair new_id : ℕ) (name : 
   o = thread_pair_at t gone
 
   first_step : IsFirst t true old_pair goes new_pair changes wo q0 lo s ro w p l (Some g) v r from to name
-  first_step = is_first true t old_pair old_id first new_pair new_id name (onto_directory rename) address
+  first_step = (aimed_onto true t old_pair old_id first new_pair new_id name (onto_directory rename) h.address).way
 
   x : TurnedTo t w p (l ++ v ∷ r) (gstate_xor (gstate_naming true q0.at (length lo)) p.content.move) is.mid
-  x = first_turned t true old_pair goes new_pair changes wo q0 lo s ro w p l (Some g) v r from to name first_step is.mid is.put
+  x = first_turned first_step is.mid is.put
 
   e : HasEndedAt is.mid (number_after_insertion old_pair new_pair (length is.mid.pairs - length t.pairs)) (length lo) goes m
   e = subst (λ i. HasEndedAt is.mid (number_after_insertion old_pair new_pair (length is.mid.pairs - length t.pairs)) i goes m) (sym can.stands.stands.number) is.ended
@@ -152,10 +142,10 @@ module _ (t : KeptThread) (old_pair old_id first new_pair new_id : ℕ) (name : 
   -- ---- and after the move
 
   moved : IsWritableChange t.disk t.pairs m.disk m.pairs (tree_renaming (can.path ++ can.name ∷ []) (rename.path ++ name ∷ [])) (renamed_addresses (can.path ++ can.name ∷ []) (rename.path ++ name ∷ []))
-  moved = last_taken t true old_pair goes new_pair changes wo q0 lo s ro w p l (Some g) v r from to name first_step is.mid x m e
+  moved = last_taken first_step is.mid x m e
 
   begun : BeginsAt (all_directories m.pairs) rename.to
-  begun = begins_at_firsts (all_directories t.pairs) (all_directories m.pairs) (last_firsts t true old_pair goes new_pair changes wo q0 lo s ro w p l (Some g) v r from to name first_step is.mid x m e) rename.to (can.ready.accepted.branches (rename.path ++ name ∷ []) rename.to led_there)
+  begun = begins_at_firsts (all_directories t.pairs) (all_directories m.pairs) (last_firsts first_step is.mid x m e) rename.to (can.ready.accepted.branches (rename.path ++ name ∷ []) rename.to led_there)
 
   found : HasDirectory (pairs_from_root m.pairs) rename.to
   found =
@@ -176,7 +166,7 @@ module _ (t : KeptThread) (old_pair old_id first new_pair new_id : ℕ) (name : 
   accepted_now = subst (IsAccepted m.disk) whole moved.follows.accepted
 
   still_there : (k : ℕ) × (slice_get m.pairs k ≡ Some o)
-  still_there = somewhere m.pairs o (last_kept t true old_pair goes new_pair changes wo q0 lo s ro w p l (Some g) v r from to name first_step is.mid x m e o not_new rename.empty rename.alone (among_there t.pairs gone o o_there))
+  still_there = somewhere m.pairs o (last_kept first_step is.mid x m e o not_new rename.empty rename.alone (among_there t.pairs gone o o_there))
 
   now_is : now.first ≡ o
   now_is = (number_of_first m.disk chain (pairs_from_root m.pairs) rename.to accepted_now now still_there.0 o (subst (λ z. slice_get z still_there.0 ≡ Some o) whole still_there.1) rename.alike).1
@@ -192,7 +182,7 @@ module _ (t : KeptThread) (old_pair old_id first new_pair new_id : ℕ) (name : 
 
   module _ (n : ℕ) (at : IsPairAt m.pairs (thread_pair_at t gone).at n) where
     no_move_now : HasNoMove (pairs_gstate m.pairs)
-    no_move_now = subst HasNoMove (sym (last_state t true old_pair goes new_pair changes wo q0 lo s ro w p l (Some g) v r from to name first_step is.mid x m e)) (record { kind = refl; id = refl; pair = refl })
+    no_move_now = subst HasNoMove (sym (last_state first_step is.mid x m e)) (record { kind = refl; id = refl; pair = refl })
 
     chain_now : IsChain (take (pair_count_before_root m.pairs) m.pairs) (now.front ++ now.before ∷ o ∷ (now.run ++ now.after))
     chain_now = subst (IsChain (take (pair_count_before_root m.pairs) m.pairs)) dirs_now (chain_of_thread m.pairs).1
@@ -216,25 +206,25 @@ module _ (t : KeptThread) (old_pair old_id first new_pair new_id : ℕ) (name : 
           (subst (λ (n : Name). IsReplaced (address_at_path (all_entries (thread_at w (p ∷ []))) (root_address (thread_at w (p ∷ [])))) from (rename.path ++ n ∷ []) rename.to) tb.stands.named
           (replaced_by t.disk (thread_at w (p ∷ [])) rename.path rename.at (place_at w l) g rename.to from first_step.setting.accepted leads entry_there rename.branch own.empty
           (ap (λ (n : Name). without_prefix from (rename.path ++ n ∷ [])) tb.stands.named ∙ rename.not_beneath))))
-          (λ Q h. all_at_firsts Q (all_directories t.pairs) (all_directories m.pairs) (last_firsts t true old_pair goes new_pair changes wo q0 lo s ro w p l (Some g) v r from to name first_step is.mid x m e) h)
+          (λ Q h. all_at_firsts Q (all_directories t.pairs) (all_directories m.pairs) (last_firsts first_step is.mid x m e) h)
           rename.alike rename.alone;
       empty = rename.empty;
       used = used_same m.map (used_blocks m.disk m.pairs ++ file_blocks t.disk (g ∷ [])) (used_blocks m.disk m.pairs)
-          (λ b. let a = count_append b (used_blocks m.disk m.pairs) (file_blocks t.disk (g ∷ [])) in let c = no_list b in omega arith) (last_used t true old_pair goes new_pair changes wo q0 lo s ro w p l (Some g) v r from to name first_step is.mid x m e);
-      size = last_size t true old_pair goes new_pair changes wo q0 lo s ro w p l (Some g) v r from to name first_step is.mid x m e;
-      flying = last_flying t true old_pair goes new_pair changes wo q0 lo s ro w p l (Some g) v r from to name first_step is.mid x m e;
-      root = last_root t true old_pair goes new_pair changes wo q0 lo s ro w p l (Some g) v r from to name first_step is.mid x m e;
-      shape = last_shape t true old_pair goes new_pair changes wo q0 lo s ro w p l (Some g) v r from to name first_step is.mid x m e;
+          (λ b. let a = count_append b (used_blocks m.disk m.pairs) (file_blocks t.disk (g ∷ [])) in let c = no_list b in omega arith) (last_used first_step is.mid x m e);
+      size = last_size first_step is.mid x m e;
+      flying = last_flying first_step is.mid x m e;
+      root = last_root first_step is.mid x m e;
+      shape = last_shape first_step is.mid x m e;
     }
 
     -- ---- where the slots stand
 
     module _ (new : KeptThread) (d : IsPairDropped m (n - 1) zero_gstate new) where
       abbrev a : Arranged t.disk wo q0 w p x.q x.more
-      a = arr t true old_pair goes new_pair changes wo q0 lo s ro w p l (Some g) v r from to name first_step is.mid x
+      a = arr first_step is.mid x
 
-      left : IsLeftOver t true old_pair goes new_pair changes wo q0 lo s ro w p l (Some g) v r from to name first_step is.mid x m e
-      left = left_over t true old_pair goes new_pair changes wo q0 lo s ro w p l (Some g) v r from to name first_step is.mid x m e
+      left : IsLeftOver first_step is.mid x m e
+      left = left_over first_step is.mid x m e
 
       abbrev pieces_of : Bool → List Piece
       pieces_of true = Stays a.front ∷ Keeps q0 (lo ++ ro) left.os ∷ Stays a.mid ∷ Gains p (l ++ v ∷ r) x.q x.more ∷ Stays a.back ∷ []
@@ -388,70 +378,16 @@ module _ (t : KeptThread) (old_pair old_id first new_pair new_id : ℕ) (name : 
             (onto_completed t.disk new.disk new.pairs a.b w.chain a.front a.mid a.back q0 p lo s ro l g r given to_given name (laid given to_given given_is to_is) z (tree ∙ ap (tree_on_disk t.disk) were));
       }
 
+    pub can_drop_onto : CanDropAt m n zero_gstate
+    can_drop_onto = can_drop_last replacing_across
+
     pub left_across : (left : Blocks) → LeftByDrop m (n - 1) zero_gstate left → IsLeftOf (with_blocks left t.disk) (tree_on_disk t.disk t.pairs) (tree_moved t can.path can.name rename.path name)
     left_across left h = left_last replacing_across left h
 
   pub not_nowhere : AllByRecursion (λ z. same_pair z.at o.at ≡ false) m.pairs → ⊥
-  not_nowhere none = go m.pairs none (last_kept t true old_pair goes new_pair changes wo q0 lo s ro w p l (Some g) v r from to name first_step is.mid x m e o not_new rename.empty rename.alone (among_there t.pairs gone o o_there))
+  not_nowhere none = go m.pairs none (last_kept first_step is.mid x m e o not_new rename.empty rename.alone (among_there t.pairs gone o o_there))
     where
       go : (xs : List Pair) → AllByRecursion (λ z. same_pair z.at o.at ≡ false) xs → HoldsOfSome (λ y. y ≡ o) xs → ⊥
       go [] h k = k
       go (y ∷ ys) h (inl k) = absurd (let z = sym h.0 ∙ ap (λ (z : Pair). same_pair z.at o.at) k ∙ pair_itself o.at in cc)
       go (y ∷ ys) h (inr k) = go ys h.1 k
-
--- ---- after the slot was read
-
-module _ (t : KeptThread) (old_pair old_id first new_pair new_id : ℕ) (name : Name) (gone : ℕ) (rename : CanReplaceDirectoryOver t old_pair old_id first new_pair new_id name gone)
-    (m : KeptThread) (h : IsEntryReplaced t true old_pair old_id first new_pair new_id name m) where
-  abbrev later : KeptThread
-  later = with_history t h.from.history
-
-  abbrev there_later : CanReplaceDirectoryOver later old_pair old_id first new_pair new_id name gone
-  there_later = record {
-    old = edit_later t h.from.history rename.old;
-    begins_old = rename.begins_old;
-    path = rename.path;
-    at = rename.at;
-    leads = rename.leads;
-    to_first = rename.to_first;
-    begins = rename.begins;
-    target = rename.target;
-    to = rename.to;
-    branch = rename.branch;
-    below = rename.below;
-    alike = rename.alike;
-    empty = rename.empty;
-    alone = rename.alone;
-    logged = rename.logged;
-    apart = rename.apart;
-    not_beneath = rename.not_beneath;
-    fits = rename.fits;
-  }
-
-  done_later : IsPutEnded later old_pair old_id (drops_with_its_slot t old_pair first) new_pair (entry_over_changes true later old_pair old_id new_pair new_id name) m
-  done_later = subst (λ k. IsPutEnded k old_pair old_id (drops_with_its_slot t old_pair first) new_pair (entry_over_changes true k old_pair old_id new_pair new_id name) m) (read_is t h.from h.only) h.done
-
-  address_later : AreWords (thread_pair_at later old_pair).at
-  address_later = subst (λ k. AreWords (thread_pair_at k old_pair).at) (read_is t h.from h.only) h.address
-
-  pub gone_above_later : 0 < gone
-  gone_above_later = gone_above later old_pair old_id first new_pair new_id name gone there_later address_later m done_later
-
-  pub not_nowhere_later : AllByRecursion (λ z. same_pair z.at (thread_pair_at t gone).at ≡ false) m.pairs → ⊥
-  not_nowhere_later = not_nowhere later old_pair old_id first new_pair new_id name gone there_later address_later m done_later
-
-  module _ (n : ℕ) (at : IsPairAt m.pairs (thread_pair_at t gone).at n) where
-    pub replacing_later : IsAllButDropped (with_history t h.from.history) m (thread_pair_at t gone) n (tree_renaming (rename.old.path ++ rename.old.name ∷ []) (rename.path ++ name ∷ [])) (renamed_addresses (rename.old.path ++ rename.old.name ∷ []) (rename.path ++ name ∷ []))
-    replacing_later = replacing_across later old_pair old_id first new_pair new_id name gone there_later address_later m done_later n at
-
-    pub can_drop_later : CanDropAt m n zero_gstate
-    can_drop_later = can_drop_last replacing_later
-
-    pub renamed_directory : (new : KeptThread) → IsPairDropped m (n - 1) zero_gstate new → IsRenamedAcross t new rename.old.path rename.old.name rename.path name
-    renamed_directory new d = go (renamed_onto later old_pair old_id first new_pair new_id name gone there_later address_later m done_later n at new d)
-      where
-        go : IsRenamedAcross later new rename.old.path rename.old.name rename.path name → IsRenamedAcross t new rename.old.path rename.old.name rename.path name
-        go k = record { now = record { ready = k.now.ready; shows = k.now.shows; flying = k.now.flying; root = k.now.root }; completed = k.completed }
-
-    pub left_directory : (left : Blocks) → LeftByDrop m (n - 1) zero_gstate left → IsLeftOf (with_blocks left t.disk) (tree_on_disk t.disk t.pairs) (tree_moved t rename.old.path rename.old.name rename.path name)
-    left_directory left d = left_across later old_pair old_id first new_pair new_id name gone there_later address_later m done_later n at left d

@@ -1,15 +1,11 @@
 -- The pair of a replaced directory goes, to which no path leads any more.
-use Rattle.std.proofs.Common.{ℕ, ◌≡◌, false, true, List, [], ◌∷◌, ◌++◌, Some, None, sym, ap, subst, ◌∙◌, append-nil, slice_get}
-use Rattle.std.specs.Option.{option_and_then}
-use Rattle.std.specs.Prelude.{All}
-use Rattle.lfs_operations.proofs.Common.{same_Some, tree_renaming, without_prefix, Disk, Branch, Slot, same_pair, Pair, pairs_gstate, is_hard_tail, root_address, Path, branch_address, address_at_path, IsAccepted, IsWritable, LeadsTo, all_directories, all_entries, recovered_from, HasNoMove, renamed_addresses, IsReplaced, IsGone, IsWritableChange, IsChain, KeptThread}
+use Rattle.lfs_operations.proofs.Common.{ℕ, ◌≡◌, false, true, List, [], ◌∷◌, ◌++◌, Some, None, sym, ap, subst, ◌∙◌, append-nil, slice_get, same_Some, tree_renaming, without_prefix, Disk, Branch, Slot, same_pair, Pair, pairs_gstate, is_hard_tail, root_address, Path, branch_address, address_at_path, IsAccepted, IsWritable, LeadsTo, all_directories, all_entries, recovered_from, HasNoMove, renamed_addresses, IsReplaced, IsGone, IsWritableChange, IsChain, KeptThread, option_and_then, All, IsReadyImage}
 use Rattle.lfs_model.specs.tree.Tree.{address_from_slot, root_slot}
 use Rattle.lfs_model.proofs.Names.{found_at}
 use Rattle.lfs_model.proofs.Paths.{append_step}
 use Rattle.lfs_model.proofs.Replacing.{replacing_taken}
 use Rattle.lfs_model.proofs.Uses.{accepted_sound}
 use Rattle.lfs_model.proofs.Walks.{leaf_leads, leads_below}
-use Rattle.lfs_operations.specs.Ready.{IsReadyImage}
 
 -- ---- the directory that is replaced
 

@@ -1,6 +1,5 @@
 -- Where slots stand once a pair among others is gone: a piece is cut out.
-use Rattle.std.proofs.Common.{ℕ, ◌≡◌, ◌≢◌, false, true, List, [], ◌∷◌, ◌++◌, map, Option, None, refl, sym, ap, subst, ◌∙◌, append_assoc}
-use Rattle.lfs_operations.proofs.Common.{Disk, FitsPair, continued_address, pair_with_slots, same_pair, Pair, is_hard_tail, SameSlots, Became, Each, each_left, each_right, joined_parts, joined_singles, onward_all, singles, Gains, Keeps, Piece, Stays, olds_of, segment_of, onward_append, drafts_of, parts_of, all_slots, OldStays}
+use Rattle.lfs_operations.proofs.Common.{ℕ, ◌≡◌, ◌≢◌, false, true, List, [], ◌∷◌, ◌++◌, map, Option, None, refl, sym, ap, subst, ◌∙◌, append_assoc, Disk, FitsPair, continued_address, pair_with_slots, same_pair, Pair, is_hard_tail, SameSlots, Became, Each, each_left, each_right, joined_parts, joined_singles, onward_all, singles, Gains, Keeps, Piece, Stays, olds_of, segment_of, onward_append, drafts_of, parts_of, all_slots, OldStays}
 use Rattle.lfs_model.proofs.Layouts.{joined_append}
 use Rattle.lfs_model.proofs.Pieces.{AreThere, Goes}
 

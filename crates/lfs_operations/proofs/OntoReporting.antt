@@ -1,13 +1,5 @@
 -- What the steps of a rename onto a directory tell, write and leave, one after the other.
-use Rattle.std.proofs.Common.{ℕ, ◌≡◌, ◌-◌, ◌<◌, ◌⊎◌, inl, inr, Bool, true, false, List, length, arith, Result, Ok, sym, ap, subst, ◌∙◌}
-use Rattle.lfs_device.specs.declared.error.Error.{Error}
-use Rattle.lfs_operations.proofs.Common.{Blocks, fault_count, HasEither as IsLeftOf, SurvivesLossSince, with_blocks, zero_gstate, address_blocks, Tree, survives_then, HoldsAtLosses-weaker, PairChange, LossLeavesCleanly, KeptThread, ThreadView, OnlyReadsThread, ChangesThreadBlocks, thread_pair_at}
-use Rattle.lfs_operations.specs.Dropping.{LeftByDrop}
-use Rattle.lfs_operations.specs.Changing.{has_failed_after}
-use Rattle.lfs_operations.specs.MoveEnds.{written_at_end}
-use Rattle.lfs_operations.specs.MovingSteps.{ReportsErrorsOfCommitsTakingBlocks, WritesTwoTwo, second_commit_pair}
-use Rattle.lfs_operations.specs.Removing.{ReportsErrorsOfCommitTakingNoBlock, drops_with_its_slot}
-use Rattle.lfs_operations.specs.RenamingOver.{ReportsErrorsOfReadThenCommit, ReportsErrorsOfReadThenCommits}
+use Rattle.lfs_operations.proofs.Common.{ℕ, ◌≡◌, ◌<◌, ◌⊎◌, inl, inr, Bool, true, false, List, length, arith, Result, Ok, sym, ap, subst, ◌∙◌, fault_count, PairChange, KeptThread, ThreadView, OnlyReadsThread, Error, has_failed_after, written_at_end, ReportsErrorsOfCommitsTakingBlocks, second_commit_pair, ReportsErrorsOfCommitTakingNoBlock, drops_with_its_slot, ReportsErrorsOfReadThenCommit, ReportsErrorsOfReadThenCommits}
 
 pub over_from : {X : Type 0} (old new : ThreadView) (result : Result X Error) → ReportsErrorsOfReadThenCommit old new result → ReportsErrorsOfReadThenCommits old new result
 over_from old new result h = record { failed = h.failed; errors = h.reported.errors; fault = h.reported.fault; no_fault = h.reported.no_fault }
@@ -21,12 +13,6 @@ over_then old mid new a first second ok one two =
       fault = λ io. subst (λ n. n < fault_count new.kept.history) same (two.reported.fault io);
       no_fault = λ other. two.reported.no_fault other ∙ same;
     }
-
-pub last_survives : (t m new : KeptThread) (gone : ℕ) (bs cs : List ℕ) (before after : Tree) → ChangesThreadBlocks bs t m → ChangesThreadBlocks cs m new → SurvivesLossSince t.disk t.history m.history before after
-    → ((left : Blocks) → LeftByDrop m (gone - 1) zero_gstate left → IsLeftOf (with_blocks left t.disk) before after) → LossLeavesCleanly m.history new.history (LeftByDrop m (gone - 1) zero_gstate)
-    → SurvivesLossSince t.disk t.history new.history before after
-last_survives t m new gone bs cs before after one two first left stops =
-    survives_then t.disk t.history m.history new.history before after one.at_worst two.at_worst first (λ clean. HoldsAtLosses-weaker left (stops clean))
 
 -- ---- across pairs
 
@@ -43,9 +29,3 @@ left_below t pair first l = go (drops_with_its_slot t pair first)
     go : (b : Bool) → written_at_end pair b < length t.pairs
     go true = omega arith
     go false = l
-
-pub across_survives : (t m new : KeptThread) (one other n : ℕ) (before after : Tree) → WritesTwoTwo t one other m → ChangesThreadBlocks (address_blocks (thread_pair_at m (n - 1)).at) m new → SurvivesLossSince t.disk t.history m.history before after
-    → ((left : Blocks) → LeftByDrop m (n - 1) zero_gstate left → IsLeftOf (with_blocks left t.disk) before after) → LossLeavesCleanly m.history new.history (LeftByDrop m (n - 1) zero_gstate)
-    → SurvivesLossSince t.disk t.history new.history before after
-across_survives t m new one other n before after w two first left stops =
-    survives_then t.disk t.history m.history new.history before after w.writes.at_worst two.at_worst first (λ clean. HoldsAtLosses-weaker left (stops clean))

@@ -1,14 +1,7 @@
 -- A rename onto an empty directory within a pair: where the directory's pair stands, and what the two steps come to.
-use Rattle.std.proofs.Common.{subst₂, ℕ, ◌≡◌, ◌-◌, slice_get, List, [], ◌∷◌, ◌++◌, length, Some, None, refl, sym, ap, subst, ◌∙◌, arith, append-nil, length-append}
-use Rattle.std.specs.Prelude.{All}
-use Rattle.lfs_operations.proofs.Common.{recursion_from_All, tree_renaming, without_prefix, AreUsed, Blocks, Name, HasEither as IsLeftOf, with_blocks, slot_of, pair_with_slots, Slot, gstate_xor, zero_gstate, Pair, pairs_gstate, root_address, pair_count_before_root, Path, address_at_path, IsAccepted, IsWritable, all_slots_not_moved, all_directories, all_entries, tree_on_disk, used_blocks, SameSlots, fits_same, IsChangedImage, SameFiles, SameFileBlocks, IsCompletion, no_move_from, number_count, IsStep, entry_only, get_here, place_at, shown_before, shown_behind, site_shows, last_is, renamed_addresses, sibling_apart, IsReplaced, step_chain, site, slot_of_stands, Site, dirs_at, thread_at, file_blocks, IsWritableChange, IsChain, KeptThread, IsPairCommitted, thread_pair_at, sync_bit_delta, HasNoMove, some_filled}
+use Rattle.lfs_operations.proofs.Common.{subst₂, ℕ, ◌≡◌, ◌-◌, slice_get, List, [], ◌∷◌, ◌++◌, length, Some, None, refl, sym, ap, subst, ◌∙◌, arith, append-nil, length-append, recursion_from_All, tree_renaming, without_prefix, AreUsed, Blocks, Name, HasEither as IsLeftOf, with_blocks, slot_of, pair_with_slots, Slot, gstate_xor, zero_gstate, Pair, pairs_gstate, root_address, pair_count_before_root, Path, address_at_path, IsAccepted, IsWritable, all_slots_not_moved, all_directories, all_entries, tree_on_disk, used_blocks, SameSlots, fits_same, IsChangedImage, SameFiles, SameFileBlocks, IsCompletion, no_move_from, number_count, IsStep, entry_only, get_here, place_at, shown_before, shown_behind, site_shows, last_is, renamed_addresses, sibling_apart, IsReplaced, step_chain, site, slot_of_stands, Site, dirs_at, thread_at, file_blocks, IsWritableChange, IsChain, KeptThread, IsPairCommitted, thread_pair_at, sync_bit_delta, HasNoMove, some_filled, All, step_each, IsPairDropped, LeftByDrop, SameInFlight, CanEditIn, tree_renamed, CanRenameOver, CanReplaceDirectory, IsRenamedOver, replace_directory_changes}
 use Rattle.lfs_model.specs.session.Operations as ops
-use Rattle.lfs_model.proofs.Moves.{step_each}
 use Rattle.lfs_model.proofs.RenamedWithinOnto.{IsRenameWithinOnto, within_onto_completed}
-use Rattle.lfs_operations.specs.Dropping.{IsPairDropped, LeftByDrop, SameInFlight}
-use Rattle.lfs_operations.specs.Editing.{CanEditIn}
-use Rattle.lfs_operations.specs.Renaming.{tree_renamed}
-use Rattle.lfs_operations.specs.RenamingOver.{CanRenameOver, CanReplaceDirectory, IsRenamedOver, replace_directory_changes}
 use Rattle.lfs_operations.proofs.OntoGone.{replaced_by, replaced_drops}
 use Rattle.lfs_operations.proofs.Owning.{turned_count, used_same}
 use Rattle.lfs_operations.proofs.RenameOver.{HasOver, has_over, over_changed, over_fits, over_follows, target_held, turning}

@@ -1,13 +1,7 @@
 -- Steps that write blocks of pairs, and at most two blocks that were free.
-use Rattle.std.proofs.Common.{ℕ, zero, suc, ◌≡◌, ◌≢◌, ◌≤◌, ◌<◌, ◌⊎◌, inl, inr, ◌+◌, Bool, true, false, List, [], ◌∷◌, ◌++◌, length, get_or, insert, remove, set, length-set, refl, ap, subst, ◌∙◌, arith}
-use Rattle.std.specs.Prelude.{All, Contains}
-use Rattle.lfs_operations.proofs.Common.{cases_lt, All-from_recursion, recursion_from_All, IsFree, PairChange, Name, Pair, blocks_of_pairs, address_blocks, addresses_blocks, Contains-number_count, number_count-Contains, number_count, count_append, each_append, each_counted, each_from_counted, each_weaker, LossLeavesAtWorst-read, HoldsAtLosses-read_count, HoldsAtLosses-trans, StayUnprogrammed-read_count, StayUnprogrammed-trans, KeptThread, OnlyReadsThread, ChangesThreadBlocks, split_back_pair, split_front_pair, empty_anchor, thread_pair_at}
-use Rattle.lfs_operations.specs.Changing.{IsTurned, WritesThreadTwo, WritesPairTwo, TakesAtMostTwo}
-use Rattle.lfs_operations.specs.MoveEnds.{HasEndedAt, content_move_ended, written_at_end, pairs_move_ended}
-use Rattle.lfs_operations.specs.MovingSteps.{WritesThreadFree, WritesTwoTwo}
-use Rattle.lfs_operations.specs.MovingOnto.{IsEntryReplaced}
+use Rattle.lfs_operations.proofs.Common.{ℕ, zero, suc, ◌≡◌, ◌≢◌, ◌≤◌, ◌<◌, ◌⊎◌, inl, inr, ◌+◌, Bool, true, false, List, [], ◌∷◌, ◌++◌, length, get_or, insert, remove, set, length-set, refl, ap, ◌∙◌, arith, cases_lt, All-from_recursion, recursion_from_All, IsFree, PairChange, Pair, blocks_of_pairs, address_blocks, addresses_blocks, Contains-number_count, number_count-Contains, number_count, count_append, each_append, each_counted, each_from_counted, each_weaker, KeptThread, ChangesThreadBlocks, split_back_pair, split_front_pair, empty_anchor, thread_pair_at, All, Contains, IsTurned, WritesThreadTwo, WritesPairTwo, TakesAtMostTwo, HasEndedAt, content_move_ended, written_at_end, pairs_move_ended, WritesThreadFree, WritesTwoTwo}
 use Rattle.lfs_operations.proofs.MovStep.{blocks_alike}
-use Rattle.lfs_operations.proofs.Putting.{read_is, with_history, writes_trans, writes_wider}
+use Rattle.lfs_operations.proofs.Putting.{writes_trans, writes_wider}
 
 -- ---- blocks of pairs
 
@@ -117,7 +111,7 @@ put_within old mid index changes l (inr (large, (fresh, is))) w =
     }
 
 -- and a pair of the thread then
-more : (old mid new : KeptThread) (i : ℕ) → TakesAtMostTwo old mid → i < length mid.pairs → ChangesThreadBlocks (address_blocks (thread_pair_at mid i).at) mid new → WritesThreadTwo old new
+pub more : (old mid new : KeptThread) (i : ℕ) → TakesAtMostTwo old mid → i < length mid.pairs → ChangesThreadBlocks (address_blocks (thread_pair_at mid i).at) mid new → WritesThreadTwo old new
 more old mid new i w l second =
     let cs = blocks_of_pairs old.pairs ++ w.written.fresh in
     let bs = address_blocks (thread_pair_at mid i).at in
@@ -147,26 +141,6 @@ end_within old mid new pair id goes w l ended second = record {
       Contains-number_count (blocks_of_pairs mid.pairs) b (omega (arith, k, same, f))
       );
 }
-
-after_read : (t mid new : KeptThread) → OnlyReadsThread t mid → WritesThreadTwo mid new → WritesThreadTwo t new
-after_read t mid new only w = earlier (subst (λ k. WritesThreadTwo k new) (read_is t mid only) w)
-  where
-    earlier : WritesThreadTwo (with_history t mid.history) new → WritesThreadTwo t new
-    earlier f = record {
-      fresh = f.fresh;
-      few = f.few;
-      free = f.free;
-      writes = record {
-        others = f.writes.others;
-        elsewhere = StayUnprogrammed-trans (StayUnprogrammed-read_count (blocks_of_pairs t.pairs ++ f.fresh) only.reads) f.writes.elsewhere;
-        shape = f.writes.shape;
-        at_worst = HoldsAtLosses-trans (HoldsAtLosses-read_count LossLeavesAtWorst-read only.reads (record { count = refl; sizes = λ b. refl; others = λ b apart. refl })) f.writes.at_worst;
-      };
-    }
-
--- a pair of the thread once the entry has moved
-pub writes_last : (t m new : KeptThread) (sync : Bool) (old_pair old_id first new_pair new_id : ℕ) (name : Name) (n : ℕ) → IsEntryReplaced t sync old_pair old_id first new_pair new_id name m → n < length m.pairs → ChangesThreadBlocks (address_blocks (thread_pair_at m n).at) m new → WritesThreadTwo t new
-writes_last t m new sync old_pair old_id first new_pair new_id name n moved l second = after_read t moved.from new moved.only (more moved.from m new n moved.done.blocks l second)
 
 -- ---- said of each block
 

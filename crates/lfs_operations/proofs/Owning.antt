@@ -1,9 +1,5 @@
 -- Which blocks an image uses after a commit: those that it used, and those of a pair that came.
-use Rattle.std.proofs.Common.{ℕ, ◌≡◌, ◌≢◌, ◌+◌, ◌≤◌, Bool, true, false, cond, eqb-true, eq-eqb, nat_eq, List, [], ◌∷◌, ◌++◌, length, Some, refl, sym, ap, subst, ◌∙◌, arith, append-nil, set, slice_get, length-set, zero, suc}
-use Rattle.std.specs.Prelude.{Contains, ◌↔◌}
-use Rattle.lfs_operations.proofs.Common.{flat_map, recursion_from_All, flat_map-append, Disk, AreUsed, BlockStates, IsFree, IsInFlight, IsUsedBlock, Free, InFlight, Used, Slot, Pair, blocks_of_pairs, pairs_gstate, all_slots_not_moved, struct_blocks, used_blocks, number_count-Contains, Contains-number_count, slice_get-set_same, slice_get-set_other, SameFiles, slots_files, IsCommit, no_move_from, each_left, each_right, number_count, count_append, SameFileBlocks, HasNoMove, Site, thread_at, IsDevice, file_blocks, all_slots, unmoved_in, count_files, map_using}
-use Rattle.lfs_operations.specs.Changing.{AreTwoFree, map_taking_two}
-use Rattle.lfs_operations.specs.Ready.{HasNoneNew, KeepsTakenStates}
+use Rattle.lfs_operations.proofs.Common.{ℕ, ◌≡◌, ◌≢◌, ◌+◌, ◌≤◌, Bool, true, false, cond, eqb-true, eq-eqb, nat_eq, List, [], ◌∷◌, ◌++◌, length, Some, refl, sym, ap, subst, ◌∙◌, arith, append-nil, set, slice_get, length-set, zero, suc, flat_map, recursion_from_All, flat_map-append, Disk, AreUsed, BlockStates, IsFree, IsInFlight, IsUsedBlock, Free, InFlight, Used, Slot, Pair, blocks_of_pairs, pairs_gstate, all_slots_not_moved, struct_blocks, used_blocks, number_count-Contains, Contains-number_count, slice_get-set_same, slice_get-set_other, SameFiles, slots_files, IsCommit, no_move_from, each_left, each_right, number_count, count_append, SameFileBlocks, HasNoMove, Site, thread_at, IsDevice, file_blocks, all_slots, unmoved_in, count_files, map_using, Contains, ◌↔◌, AreTwoFree, map_taking_two, HasNoneNew, KeepsTakenStates}
 use Rattle.lfs_operations.proofs.Placing.{blocks_append}
 use Rattle.lfs_operations.proofs.Taking.{within}
 

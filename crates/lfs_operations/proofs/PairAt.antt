@@ -1,7 +1,5 @@
 -- A pair of a directory at a path, in an image that may be changed: what is known of it as a site of the thread.
-use Rattle.std.proofs.Common.{ℕ, ◌≡◌, ◌+◌, true, List, [], ◌∷◌, ◌++◌, length, sym, ap, subst, ◌∙◌}
-use Rattle.lfs_operations.proofs.Common.{Path, IsPairAt, IsPairOfDirectory, IsWritable, LeadsTo, Pair, pairs_gstate, IsAccepted, same_pair, zero_gstate, is_site, number_is, same, site, thread_is, IsSite, Site, begin_of, thread_at, KeptThread}
-use Rattle.lfs_operations.specs.Ready.{IsReadyImage}
+use Rattle.lfs_operations.proofs.Common.{ℕ, ◌≡◌, ◌+◌, true, List, [], ◌∷◌, ◌++◌, length, sym, ap, subst, ◌∙◌, Path, IsPairAt, IsPairOfDirectory, IsWritable, LeadsTo, Pair, pairs_gstate, IsAccepted, same_pair, zero_gstate, is_site, number_is, same, site, thread_is, IsSite, Site, begin_of, thread_at, KeptThread, IsReadyImage}
 
 pub record HasPairAt (t : KeptThread) (index : ℕ) (path : Path) (at : ℕ × ℕ) (w : Site) (p : Pair) : Type 0 where
   pub there : t.pairs ≡ thread_at w (p ∷ [])

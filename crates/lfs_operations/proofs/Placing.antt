@@ -1,12 +1,7 @@
 -- At a site of an accepted image a pair becomes others, on a disk where only its blocks and some that nobody owned differ.
-use Rattle.std.proofs.Common.{ℕ, ◌≡◌, ◌≢◌, ◌⊎◌, inl, inr, ◌+◌, ◌≤◌, true, cond, nat_eq, List, [], ◌∷◌, ◌++◌, take, Some, refl, sym, ap, subst, ◌∙◌, arith, append_assoc}
-use Rattle.std.specs.Prelude.{All}
-use Rattle.lfs_operations.proofs.Common.{IsDistinct, flat_map, All-from_recursion, flat_map-append, Disk, disk_block, SameGeometry, Blocks, HasEither, with_blocks, IsWritableSlot, IsWritable, FitsInPair, Slot, PathAddresses, Tree, content_at, current_block, Pair, blocks_of_pairs, first_address, pair_count_before_root, pairs_from_root, starts_superblock, BeginsWith, superblock_entry, IsAccepted, first_slots, all_slots_not_moved, tree_on_disk, used_blocks, struct_blocks, Each, number_count, count_append, once_from_distinct, each_from_counted, Site, thread_at, IsDevice, IsChangedImage, chain_of_thread, IsChain, HasFirst}
-use Rattle.std.proofs.lemmas.List.{append-nil}
+use Rattle.lfs_operations.proofs.Common.{ℕ, ◌≡◌, ◌≢◌, ◌⊎◌, inl, inr, ◌+◌, ◌≤◌, true, cond, nat_eq, List, [], ◌∷◌, ◌++◌, take, Some, refl, sym, ap, subst, ◌∙◌, arith, append_assoc, IsDistinct, flat_map, All-from_recursion, flat_map-append, Disk, disk_block, SameGeometry, Blocks, HasEither, with_blocks, IsWritableSlot, IsWritable, FitsInPair, Slot, PathAddresses, Tree, content_at, current_block, Pair, blocks_of_pairs, first_address, pair_count_before_root, pairs_from_root, starts_superblock, BeginsWith, superblock_entry, IsAccepted, first_slots, all_slots_not_moved, tree_on_disk, used_blocks, struct_blocks, Each, number_count, count_append, once_from_distinct, each_from_counted, Site, thread_at, IsDevice, IsChangedImage, chain_of_thread, IsChain, HasFirst, All, append-nil, from_first_slots, has_slots, first_slot_name}
 use Rattle.lfs_model.specs.declared.limits.Profile.{Profile}
 use Rattle.lfs_model.specs.layers.Steps.{IsWritableChange}
-use Rattle.lfs_model.specs.format.Thread.{from_first_slots, has_slots}
-use Rattle.lfs_model.specs.tree.View.{first_slot_name}
 use Rattle.lfs_model.proofs.Devices.{device_from, first_same}
 use Rattle.lfs_model.proofs.Superblocks.{Behind, FromSlots, InFront, first_counted, from_front}
 use Rattle.lfs_model.proofs.Unchanged.{accepted_first, same_follows}

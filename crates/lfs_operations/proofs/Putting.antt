@@ -1,13 +1,7 @@
 -- A pair that is changed, or split into two free blocks.
-use Rattle.std.proofs.Common.{true, ℕ, ◌≡◌, ◌≢◌, ◌∙◌, ◌≤◌, ◌⊎◌, Option, None, Some, inl, inr, List, [], ◌∷◌, Result, Ok, Err, arith, refl, sym, ap, subst, ◌∙◌, set}
-use Rattle.std.specs.Prelude.{All, IfErr, is_err}
-use Rattle.lfs_device.specs.declared.error.Error.{Error}
-use Rattle.lfs_device.specs.declared.error.Error.TheVariants.{Io, NoMemory, NoSpace}
-use Rattle.lfs_operations.proofs.Common.{Blocks, BlockStates, Free, InFlight, PairChange, Disk, PairContent, CallEvent, OnlyReadsSince, fault_count, slice_get-set_same, slice_get-set_other, HoldsAtLosses-weaker, HoldsAtLosses-trans, StayUnprogrammed-refl, StayUnprogrammed-trans, AllCallsSince-until, AllCallsSince-behind, OnlyReadsSince-trans, StayUnprogrammed-read_count, HoldsAtLosses-read_count, LossLeavesAtWorst-read, LossLeavesCleanly, KeptThread, ThreadView, thread_pair_at, BothOnDisk, PartsFitPairs, CanSplitAt, LossLeavesPairChanged, IoMeantFaultNoMemoryWroteNothing, HasOldPair, LossLeavesPairSplit, OnlyReadsThread, IsSplitInTwo, ChangesThreadBlocks, addresses_blocks, SameExceptThese-trans, SameExceptThese-wider, StayUnprogrammed-wider}
+use Rattle.lfs_operations.proofs.Common.{ℕ, ◌≡◌, ◌≢◌, ◌∙◌, ◌≤◌, ◌⊎◌, Option, None, Some, inl, inr, List, [], ◌∷◌, Result, Ok, Err, arith, refl, sym, ◌∙◌, set, Blocks, BlockStates, Free, InFlight, PairChange, Disk, PairContent, CallEvent, OnlyReadsSince, fault_count, slice_get-set_same, slice_get-set_other, HoldsAtLosses-weaker, HoldsAtLosses-trans, StayUnprogrammed-refl, StayUnprogrammed-trans, AllCallsSince-until, AllCallsSince-behind, OnlyReadsSince-trans, StayUnprogrammed-read_count, HoldsAtLosses-read_count, LossLeavesAtWorst-read, LossLeavesCleanly, KeptThread, thread_pair_at, BothOnDisk, PartsFitPairs, CanSplitAt, LossLeavesPairChanged, HasOldPair, LossLeavesPairSplit, OnlyReadsThread, IsSplitInTwo, ChangesThreadBlocks, addresses_blocks, SameExceptThese-trans, SameExceptThese-wider, StayUnprogrammed-wider, All, Error, FreshInFlight, AreTwoFree, CanTurn, IsPairSplit, IsSplitInto, LeftByTurn, ChangeIsTooLarge, LeftBySplit, ReportsFaultsChangingNothingAtNoSpace, WritesPairTwo, map_taking_two, Tree, HasEither, with_blocks, SurvivesLossSince, survives_then}
 use Rattle.lfs_model.proofs.Histories.{began}
 use Rattle.lfs_thread.specs.CachedLog.{reads_unless_cached}
-use Rattle.lfs_thread.specs.ThreadSteps.{FreshInFlight}
-use Rattle.lfs_operations.specs.Changing.{AreTwoFree, CanTurn, IsPairSplit, IsSplitInto, LeftByTurn, ChangeIsTooLarge, LeftBySplit, ReportsFaultsChangingNothingAtNoSpace, WritesPairTwo, map_taking_two, ReportsErrorsOfCommitTakingBlocks, has_failed_after}
 use Rattle.lfs_operations.proofs.Taking.{within}
 
 -- ---- the blocks that steps change
@@ -33,6 +27,18 @@ writes_trans first second = record {
   };
   at_worst = HoldsAtLosses-trans first.at_worst (HoldsAtLosses-weaker (λ blocks k. SameExceptThese-trans first.others k) second.at_worst);
 }
+
+-- ---- atomic steps, one after another
+
+-- a step that leaves one of two trees at a stop
+pub survives_step : (disk : Disk) {old new : List CallEvent} {before after : Tree} {P : Blocks → Type 0} → ((left : Blocks) → P left → HasEither (with_blocks left disk) before after) → LossLeavesCleanly old new P → SurvivesLossSince disk old new before after
+survives_step disk left stops clean = HoldsAtLosses-weaker left (stops clean)
+
+-- and one more, after steps that left one of them
+pub survives_more : {t mid new : KeptThread} {bs cs : List ℕ} (before after : Tree) {P : Blocks → Type 0} → ChangesThreadBlocks bs t mid → ChangesThreadBlocks cs mid new → SurvivesLossSince t.disk t.history mid.history before after
+    → ((left : Blocks) → P left → HasEither (with_blocks left t.disk) before after) → LossLeavesCleanly mid.history new.history P → SurvivesLossSince t.disk t.history new.history before after
+survives_more {t = t} {mid = mid} {new = new} before after one two first left stops =
+    survives_then t.disk t.history mid.history new.history before after one.at_worst two.at_worst first (λ clean. HoldsAtLosses-weaker left (stops clean))
 
 -- ---- a thread that is read on
 
@@ -110,27 +116,6 @@ same_err a b r h k = cc
 
 pub not_both : {A : Type 0} (r : Result A Error) (a : A) (e : Error) → r ≡ Ok a → r ≡ Err e → ⊥
 not_both r a e h k = absurd (cc)
-
-pub reports : {X Y : Type 0} (t new : KeptThread) (sets : BlockStates) (e : Error) (result : Result X Error) (given : Result Y Error) → result ≡ Err e → given ≡ Err e → IoMeantFaultNoMemoryWroteNothing (with_map t sets) new result → ReportsFaultsChangingNothingAtNoSpace t new given
-reports t new sets e result given is same reported = record {
-  errors = subst (λ r. IfErr r (λ x. (x ≡ Io) ⊎ ((x ≡ NoMemory) ⊎ (x ≡ NoSpace)))) (sym same) (widen is_one);
-  fault = λ io. reported.fault (is ∙ ap Err (same_err e Io given same io));
-  no_fault = λ other. reported.no_fault (λ io. other (same ∙ ap Err (same_err e Io result is io)));
-  unwritten = λ none. (let u = reported.unwritten (is ∙ ap Err (same_err e NoMemory given same none)) in record { disk = u.disk; reads = u.reads });
-  unchanged = λ none. absurd (not_space is_one (same_err e NoSpace given same none));
-  no_space = λ none. absurd (not_space is_one (same_err e NoSpace given same none));
-}
-  where
-    is_one : (e ≡ Io) ⊎ (e ≡ NoMemory)
-    is_one = subst (λ r. IfErr r (λ x. (x ≡ Io) ⊎ (x ≡ NoMemory))) is reported.errors
-
-    widen : (e ≡ Io) ⊎ (e ≡ NoMemory) → (e ≡ Io) ⊎ ((e ≡ NoMemory) ⊎ (e ≡ NoSpace))
-    widen (inl a) = inl a
-    widen (inr b) = inr (inl b)
-
-    not_space : (e ≡ Io) ⊎ (e ≡ NoMemory) → e ≡ NoSpace → ⊥
-    not_space (inl a) k = absurd (cc)
-    not_space (inr b) k = absurd (cc)
 
 -- ---- nothing was done
 
@@ -220,19 +205,6 @@ module _ (t : KeptThread) (h : List CallEvent) (reads : OnlyReadsSince t.disk.bl
   stops_later new large w first second clean =
       HoldsAtLosses-trans (HoldsAtLosses-weaker (λ left l. inl l) (first (AllCallsSince-until clean reads w.writes.at_worst)))
       (HoldsAtLosses-weaker (λ left l. inr (large, left_later left l)) (second (AllCallsSince-behind clean reads w.writes.at_worst)))
-
--- ---- with whether the thread has failed
-
-failing : {Y : Type 0} (e : Error) (given : Result Y Error) → given ≡ Err e → (e ≡ Io) ⊎ (e ≡ NoMemory) → has_failed_after given ≡ true
-failing e given same (inl io) = ap has_failed_after (same ∙ ap Err io)
-failing e given same (inr memory) = ap has_failed_after (same ∙ ap Err memory)
-
-pub reports_state : {X Y : Type 0} (old new : ThreadView) (sets : BlockStates) (e : Error) (result : Result X Error) (given : Result Y Error) → result ≡ Err e → given ≡ Err e → new.failed ≡ is_err result
-    → IoMeantFaultNoMemoryWroteNothing (with_map old.kept sets) new.kept result → ReportsErrorsOfCommitTakingBlocks old new given
-reports_state old new sets e result given is same failed reported = record {
-  failed = failed ∙ ap is_err is ∙ sym (failing e given same (subst (λ r. IfErr r (λ x. (x ≡ Io) ⊎ (x ≡ NoMemory))) is reported.errors));
-  reports = reports old.kept new.kept sets e result given is same reported;
-}
 
 -- ---- how often a step reads
 

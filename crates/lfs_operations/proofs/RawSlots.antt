@@ -1,9 +1,5 @@
 -- A slot as it stands in a log, among others.
-use Rattle.std.proofs.Common.{ℕ, ◌≡◌, ◌≤◌, ◌+◌, Bool, true, false, cond, not, nat_eq, List, [], ◌∷◌, ◌++◌, length, Option, Some, None, refl, ap, ◌∙◌, arith}
-use Rattle.std.specs.Prelude.{is_some}
-use Rattle.std.specs.Option.{option_and_then, option_map}
-use Rattle.lfs_operations.proofs.Common.{same_Some, sum_by-cons, RawSlot, complete_slot, complete_slots, kind_of_type, slot_of_id, read_struct, attributes_without, Attributes, Slot, complete_parts}
-use Rattle.lfs_model.specs.format.Slots.{attributes_size}
+use Rattle.lfs_operations.proofs.Common.{ℕ, ◌≡◌, ◌≤◌, ◌+◌, Bool, true, false, cond, not, nat_eq, List, [], ◌∷◌, ◌++◌, length, Option, Some, None, refl, ap, ◌∙◌, arith, same_Some, sum_by-cons, RawSlot, complete_slot, complete_slots, kind_of_type, slot_of_id, read_struct, attributes_without, Attributes, Slot, complete_parts, is_some, option_and_then, option_map, attributes_size}
 
 -- it has a name
 pub is_named : (s : RawSlot) (t : Slot) → complete_slot s ≡ Some t → is_some s.name ≡ true

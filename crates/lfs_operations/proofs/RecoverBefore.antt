@@ -1,10 +1,7 @@
 -- Where slots stand after a recovery of an image whose set move was ended, they stand after one of the image from before.
-use Rattle.std.proofs.Common.{ℕ, zero, suc, ◌≡◌, ◌≤◌, inl, inr, Bool, true, false, cond, List, [], ◌∷◌, ◌++◌, map, length, Option, Some, None, refl, sym, ap, ap₂, subst, ◌∙◌, arith}
-use Rattle.std.specs.Prelude.{is_none}
-use Rattle.lfs_operations.proofs.Common.{Disk, FitsPair, IsDirectoryGone, directory_address, continued_address, pair_with_slots, pairs_without_moved, FitsInPair, Gstate, same_pair, Pair, pairs_gstate, is_hard_tail, pair_count_before_root, slots_not_moved, IsReachedBySome, fits_same, IsChangedImage, Each, HasNoMove, unmoved_all, joined_parts, unmoved_elsewhere, KeptThread, SameGeometryAs}
+use Rattle.lfs_operations.proofs.Common.{ℕ, zero, suc, ◌≡◌, ◌≤◌, inl, inr, Bool, true, false, cond, List, [], ◌∷◌, ◌++◌, map, length, Option, Some, None, refl, sym, ap, ap₂, subst, ◌∙◌, arith, Disk, FitsPair, IsDirectoryGone, directory_address, continued_address, pair_with_slots, pairs_without_moved, FitsInPair, Gstate, same_pair, Pair, pairs_gstate, is_hard_tail, pair_count_before_root, slots_not_moved, IsReachedBySome, fits_same, IsChangedImage, Each, HasNoMove, unmoved_all, joined_parts, unmoved_elsewhere, KeptThread, SameGeometryAs, is_none, RecoveriesAreAllowed}
 use Rattle.lfs_model.specs.session.Layout.{ArePairsAfter, IsPairAfter}
 use Rattle.lfs_model.specs.session.Operations as ops
-use Rattle.lfs_operations.specs.EndingMove.{RecoveriesAreAllowed}
 
 -- ---- pairs of the same addresses and slots, which hard tails join alike
 

@@ -1,11 +1,7 @@
 -- What a commit makes of a pair that sets the global state.
-use Rattle.std.proofs.Common.{ℕ, ◌≡◌, ◌<◌, List, [], ◌∷◌, Some, refl, sym, ap, subst, ◌∙◌, arith, get_or, length, zero, suc}
-use Rattle.std.specs.Option.{option_and_then}
-use Rattle.lfs_operations.proofs.Common.{same_Some, recursion_from_All, PutMove, changed_content_of, RawContent, complete_content, content_at, raw_content, MoveStateFits, FitsInPair, Gstate, gstate_xor, Pair, pairs_gstate, completed_from, completed_parts, Each, each_weaker, does_first, does_nothing, puts_move, KeptThread, CanChangePair, RefusesCommit, complete_after, empty_anchor, thread_pair_at}
-use Rattle.lfs_operations.specs.Deltas.{CanSetGstate, gstate_changes, delta_reaching_gstate, content_reaching_gstate}
+use Rattle.lfs_operations.proofs.Common.{ℕ, ◌≡◌, ◌<◌, List, [], ◌∷◌, Some, refl, sym, ap, subst, ◌∙◌, arith, get_or, length, zero, suc, same_Some, recursion_from_All, PutMove, changed_content_of, RawContent, complete_content, content_at, raw_content, MoveStateFits, FitsInPair, Gstate, gstate_xor, Pair, pairs_gstate, completed_from, completed_parts, Each, each_weaker, does_first, does_nothing, puts_move, KeptThread, CanChangePair, RefusesCommit, complete_after, empty_anchor, thread_pair_at, option_and_then, CanSetGstate, gstate_changes, delta_reaching_gstate, content_reaching_gstate, HoldBytes}
 use Rattle.lfs_operations.proofs.Held.{completes_to}
 use Rattle.lfs_operations.proofs.DroppedTails.{all_again, move_xor, moves_joined, IsWritableAgain}
-use Rattle.lfs_device.specs.Bytes.{HoldBytes}
 
 -- what holds of each pair holds of the one at an index
 pub each_at : (P : Pair → Type 0) (ps : List Pair) (index : ℕ) → index < length ps → Each P ps → P (get_or ps index empty_anchor)

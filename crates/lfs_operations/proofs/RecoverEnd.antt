@@ -1,19 +1,12 @@
 -- The end of a recovery: every pair was seen, and the sync bit is cleared.
-use Rattle.std.proofs.Common.{ℕ, suc, ◌≡◌, ◌+◌, ◌<◌, ◌≤◌, ◌⊎◌, ◌&&◌, inl, inr, Bool, true, false, cond, List, [], ◌∷◌, ◌++◌, length, take, Option, Some, None, Result, Err, refl, sym, ap, subst, subst₂, ◌∙◌, arith, append-nil}
-use Rattle.std.specs.Prelude.{All}
-use Rattle.lfs_operations.proofs.Common.{same_Some, All-from_recursion, recursion_from_All, Blocks, SameGeometry, disk_block, CallEvent, fault_count, HasEither as IsLeftOf, SurvivesLossSince, with_blocks, continued_address, Gstate, Slot, zero_gstate, AreLinked, ThreadDirectory, Pair, anchor_address, blocks_of_pairs, pairs_from_root, pairs_gstate, may_continue, has_superblock, pair_count_before_root, IsAccepted, IsReachedBySome, all_slots_not_moved, all_directories, struct_blocks, tree_on_disk, IsWritable, survives_then, SameSlots, alike_itself, SameFiles, Each, number_count, each_always, each_weaker, SameFileBlocks, chain_of_thread, HasNoMove, HoldsAtLosses-weaker, NoneGoes, none_where, rest_all, AllReached, thread_at, IsWritableChange, pairs_behind, LossLeavesCleanly, KeptThread, ThreadView, IsPairCommitted, LossLeavesPairChanged, IsPairWritten, ChangesThreadBlocks, pairs_with, complete_after}
-use Rattle.lfs_device.specs.declared.error.Error.{Error}
+use Rattle.lfs_operations.proofs.Common.{ℕ, suc, ◌≡◌, ◌+◌, ◌<◌, ◌≤◌, ◌⊎◌, ◌&&◌, inl, inr, Bool, true, false, cond, List, [], ◌∷◌, ◌++◌, length, take, Option, Some, None, Result, Err, refl, sym, ap, subst, subst₂, ◌∙◌, arith, append-nil, same_Some, All-from_recursion, recursion_from_All, Blocks, SameGeometry, disk_block, CallEvent, fault_count, HasEither as IsLeftOf, SurvivesLossSince, with_blocks, continued_address, Gstate, Slot, zero_gstate, AreLinked, ThreadDirectory, Pair, anchor_address, blocks_of_pairs, pairs_from_root, pairs_gstate, may_continue, has_superblock, pair_count_before_root, IsAccepted, IsReachedBySome, all_slots_not_moved, all_directories, struct_blocks, tree_on_disk, IsWritable, survives_then, SameSlots, alike_itself, SameFiles, Each, number_count, each_always, each_weaker, SameFileBlocks, chain_of_thread, HasNoMove, HoldsAtLosses-weaker, NoneGoes, none_where, rest_all, AllReached, thread_at, IsWritableChange, pairs_behind, LossLeavesCleanly, KeptThread, ThreadView, IsPairCommitted, LossLeavesPairChanged, IsPairWritten, ChangesThreadBlocks, pairs_with, complete_after, All, Error, recovery_ends, gstate_changes, content_reaching_gstate, AreUnreachedNumbers, AreUnreachedFrom, CanClearSync, HasDroppedRecovered, IsSyncCleared, ReportsErrorsOfRecovery, numbered_blocks, numbered_slots, SameInFlight, ReportsErrorsOfCommitTakingNoBlock}
 use Rattle.lfs_model.specs.session.Recovery.{IsRecovered}
 use Rattle.lfs_model.proofs.Changes.{follows_itself}
-use Rattle.lfs_model.proofs.Recovering.{recovery_ends}
-use Rattle.lfs_operations.specs.Deltas.{gstate_changes, content_reaching_gstate}
-use Rattle.lfs_operations.specs.Recovering.{AreUnreachedNumbers, AreUnreachedFrom, CanClearSync, HasDroppedRecovered, IsSyncCleared, ReportsErrorsOfRecovery, numbered_blocks, numbered_slots}
-use Rattle.lfs_operations.specs.Dropping.{SameInFlight}
-use Rattle.lfs_operations.specs.Removing.{ReportsErrorsOfCommitTakingNoBlock}
 use Rattle.lfs_operations.proofs.Removed.{reports_again}
 use Rattle.lfs_operations.proofs.RecoverLists.{each_at, files_kept, reported_once}
 use Rattle.lfs_operations.proofs.RecoverLoop.{EachBegins, IsAtDrop, IsAtEnd, all_where, begins_weaker, goes_to}
-use Rattle.lfs_operations.proofs.RecoverMap.{HasMap, alike_blocks, files_stay, map_stays}
+use Rattle.lfs_operations.proofs.MovStep.{blocks_alike}
+use Rattle.lfs_operations.proofs.RecoverMap.{HasMap, files_stay, map_stays}
 use Rattle.lfs_operations.proofs.RecoverSteps.{CanClear, clear_alike, clear_left, clear_pairs, clear_state, clear_taken, device_on, h, y}
 use Rattle.lfs_operations.proofs.RecoverUnderWay.{IsUnderWay, StaysOn}
 use Rattle.lfs_operations.proofs.RootStays.{alike_stays}
@@ -133,7 +126,7 @@ module _ (old now : KeptThread) (dropped : ℕ) (u : IsUnderWay old now dropped 
         (each_at (λ (s : Slot). SameFileBlocks old.disk new.disk s.struct) old.pairs numbers (files_kept old new u.was e.way.no_move writes));
     lost = λ b. let l = u.lost b in let f = files_stay now new c.alike can_end.none still geometry files b in let g = ap (number_count b) all_gone in omega arith;
     once = λ b. let s = m.same b in let o = m.once b in let g = ap (number_count b) all_gone in omega arith;
-    fewer = λ b. let l = u.fewer b in let k = ap (λ z. number_count b z) (alike_blocks now.pairs new.pairs c.alike) in omega arith;
+    fewer = λ b. let l = u.fewer b in let k = ap (λ z. number_count b z) (blocks_alike now.pairs new.pairs c.alike) in omega arith;
     flying = subst (SameInFlight old.map) (sym c.map) u.flying;
     root = alike_stays now.disk new.disk now.pairs new.pairs can_end.accepted c.taken.follows.accepted c.taken.follows.root c.alike
         ∙ ap pair_count_before_root e.way.there ∙ e.way.is.ready.is_chain ∙ sym (ap pair_count_before_root (chain_of_thread old.pairs).0 ∙ (chain_of_thread old.pairs).1);

@@ -1,10 +1,5 @@
 -- A recovery ends a set move: which pair the step is about, and what it comes to.
-use Rattle.std.proofs.Common.{ℕ, ◌≡◌, ◌≢◌, ◌≤◌, ◌<◌, ◌+◌, ◌-◌, ◌⊎◌, inl, inr, ◌&&◌, ◌==◌, Bool, true, false, List, [], ◌∷◌, ◌++◌, length, take, refl, sym, ap, ap₂, subst, ◌∙◌, arith, append_assoc, length-append, eqb-true, eq-eqb, nat_lt}
-use Rattle.lfs_operations.proofs.Common.{and_parts, cases_lt, lt-ltb, recursion_from_All, used_blocks, Pair, pairs_gstate, is_hard_tail, pair_count_before_root, BeginsWithSuperblock, once_from_distinct, HasNoMove, HasSite, site_of_number, pair_back, ends_joined, KeptThread, thread_pair_at}
-use Rattle.lfs_operations.specs.Deltas.{has_tail_at}
-use Rattle.lfs_operations.specs.EndingMove.{CanEndMove, HasEndedMove, HasMovedSlot, has_one_follower}
-use Rattle.lfs_operations.specs.MoveEnds.{CanEndAt, HasEndedAt, follows_hard_tail_of, written_at_end}
-use Rattle.lfs_operations.specs.Ready.{IsRawFormed}
+use Rattle.lfs_operations.proofs.Common.{ℕ, ◌≡◌, ◌≢◌, ◌≤◌, ◌<◌, ◌+◌, ◌-◌, ◌⊎◌, inl, inr, ◌&&◌, ◌==◌, Bool, true, false, List, [], ◌∷◌, ◌++◌, length, take, refl, sym, ap, ap₂, subst, ◌∙◌, arith, append_assoc, length-append, eqb-true, eq-eqb, nat_lt, and_parts, cases_lt, lt-ltb, recursion_from_All, used_blocks, Pair, pairs_gstate, is_hard_tail, pair_count_before_root, BeginsWithSuperblock, once_from_distinct, HasNoMove, HasSite, site_of_number, pair_back, ends_joined, KeptThread, thread_pair_at, has_tail_at, CanEndMove, HasEndedMove, HasMovedSlot, has_one_follower, CanEndAt, HasEndedAt, follows_hard_tail_of, written_at_end, IsRawFormed}
 use Rattle.lfs_operations.proofs.Dropped.{HasMapWithout, map_ended}
 use Rattle.lfs_operations.proofs.DroppedTails.{front_is}
 use Rattle.lfs_operations.proofs.MovEnding.{led_is}

@@ -1,8 +1,5 @@
 -- The lists of pairs that go in a recovery: they are known by the pairs' numbers, and stay on the disk.
-use Rattle.std.proofs.Common.{ℕ, zero, suc, ◌≡◌, ◌≢◌, ◌+◌, ◌≤◌, inl, inr, List, [], ◌∷◌, ◌++◌, length, Option, refl, sym, ap, subst, ◌∙◌, arith, append-nil, length-append, append_assoc}
-use Rattle.std.specs.Prelude.{slice_index_or}
-use Rattle.lfs_operations.proofs.Common.{flat_map-append, All-from_recursion, SameGeometry, disk_block, continued_address, Slot, Pair, blocks_of_pairs, pairs_gstate, IsAccepted, struct_blocks, used_blocks, SameFiles, slots_files, Each, number_count, count_append, each_always, each_from_counted, each_joined, each_left, each_pieces, each_right, once_from_distinct, SameFileBlocks, HasNoMove, file_blocks, all_slots, KeptThread, ChangesThreadBlocks, empty_anchor}
-use Rattle.lfs_operations.specs.Recovering.{AreUnreachedFrom, numbered_blocks, numbered_slots}
+use Rattle.lfs_operations.proofs.Common.{ℕ, zero, suc, ◌≡◌, ◌≢◌, ◌+◌, ◌≤◌, inl, inr, List, [], ◌∷◌, ◌++◌, length, Option, refl, sym, ap, subst, ◌∙◌, arith, append-nil, length-append, append_assoc, flat_map-append, All-from_recursion, SameGeometry, disk_block, continued_address, Slot, Pair, blocks_of_pairs, pairs_gstate, IsAccepted, struct_blocks, used_blocks, SameFiles, slots_files, Each, number_count, count_append, each_always, each_from_counted, each_joined, each_left, each_pieces, each_right, once_from_distinct, SameFileBlocks, HasNoMove, file_blocks, all_slots, KeptThread, ChangesThreadBlocks, empty_anchor, slice_index_or, AreUnreachedFrom, numbered_blocks, numbered_slots}
 use Rattle.lfs_operations.proofs.RecoverWrites.{none_there}
 use Rattle.lfs_operations.proofs.Owning.{count_used}
 

@@ -1,11 +1,6 @@
 -- A recovery pair by pair: a pair whose directory a path leads to stays, and the next one of another goes.
-use Rattle.std.proofs.Common.{ℕ, suc, ◌≡◌, ◌+◌, ◌⊎◌, inl, inr, Bool, true, false, cond, List, [], ◌∷◌, ◌++◌, length, Option, Some, None, refl, sym, ap, subst, subst₂, ◌∙◌, arith, append_assoc, length-append}
-use Rattle.std.specs.Prelude.{All, is_some}
-use Rattle.lfs_operations.proofs.Common.{same_Some, All-from_recursion, recursion_from_All, Disk, directory_address, continued_address, Gstate, Slot, Tail, same_pair, AreLinked, ThreadDirectory, Pair, anchor_address, pair_directories, pairs_from_root, pairs_gstate, is_hard_tail, tail_address_of, unmoved_entries, Path, HasNoEmpties, IsReachedBySome, LeadsTo, all_directories, Each, each_weaker, softened, HasNoMove, unmoved_all, NoneGoes, joined_parts, joined_singles, none_where, onward_all, onward_some, rest_all, singles, AllReachedBut, pair_itself, pairs_behind, IsReady, IsUnthreaded, KeptThread}
-use Rattle.lfs_model.specs.format.Thread.{directories_with_pair}
+use Rattle.lfs_operations.proofs.Common.{ℕ, suc, ◌≡◌, ◌+◌, ◌⊎◌, inl, inr, Bool, true, false, cond, List, [], ◌∷◌, ◌++◌, length, Option, Some, None, refl, sym, ap, subst, subst₂, ◌∙◌, arith, append_assoc, length-append, same_Some, All-from_recursion, recursion_from_All, Disk, directory_address, continued_address, Gstate, Slot, Tail, same_pair, AreLinked, ThreadDirectory, Pair, anchor_address, pair_directories, pairs_from_root, pairs_gstate, is_hard_tail, tail_address_of, unmoved_entries, Path, HasNoEmpties, IsReachedBySome, LeadsTo, all_directories, Each, each_weaker, softened, HasNoMove, unmoved_all, NoneGoes, joined_parts, joined_singles, none_where, onward_all, onward_some, rest_all, singles, AllReachedBut, pair_itself, pairs_behind, IsReady, IsUnthreaded, KeptThread, All, is_some, directories_with_pair, IsRecovering, recovery_drops, recovery_keeps, AreUnreachedFrom}
 use Rattle.lfs_model.proofs.Layouts.{none_goes_right, rest_of}
-use Rattle.lfs_model.proofs.Recovering.{IsRecovering, recovery_drops, recovery_keeps}
-use Rattle.lfs_operations.specs.Recovering.{AreUnreachedFrom}
 
 -- ---- where the pairs' directories begin
 

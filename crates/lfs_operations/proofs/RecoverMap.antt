@@ -1,8 +1,7 @@
 -- Which blocks the map has on the way: those of the image, and those of lists that only pairs had that are gone.
-use Rattle.std.proofs.Common.{ℕ, ◌-◌, ◌≡◌, ◌+◌, ◌≤◌, List, [], ◌∷◌, ◌++◌, length, refl, sym, ap, ap₂, subst, ◌∙◌, arith}
-use Rattle.lfs_operations.proofs.Common.{AreUsed, SameGeometry, block_count, Gstate, Pair, blocks_of_pairs, address_blocks, pairs_gstate, all_slots_not_moved, used_blocks, SameSlots, SameFiles, slots_files, number_count, count_append, HasNoMove, Site, file_blocks, all_slots, unmoved_in, KeptThread}
-use Rattle.lfs_operations.specs.Dropping.{SameInFlight, IsPairDropped}
+use Rattle.lfs_operations.proofs.Common.{ℕ, ◌-◌, ◌≡◌, ◌+◌, ◌≤◌, List, [], ◌∷◌, ◌++◌, length, refl, sym, ap, ap₂, subst, ◌∙◌, arith, AreUsed, SameGeometry, block_count, Gstate, Pair, address_blocks, pairs_gstate, all_slots_not_moved, used_blocks, SameSlots, SameFiles, slots_files, number_count, count_append, HasNoMove, Site, file_blocks, all_slots, unmoved_in, KeptThread, SameInFlight, IsPairDropped}
 use Rattle.lfs_operations.proofs.Dropped.{HasMapWithout, IsToBeDropped, map_left, map_without, used_left}
+use Rattle.lfs_operations.proofs.MovStep.{blocks_alike}
 pub use Rattle.lfs_operations.proofs.Owning.{count_used}
 
 -- the map has the image's blocks and those that are gone, each once
@@ -43,12 +42,6 @@ map_drops {now} {index} {state} {w} {before} {x} k new d none still gone h = (
 
 -- ---- the same addresses and slots
 
-pub alike_blocks : (xs ys : List Pair) → SameSlots xs ys → blocks_of_pairs ys ≡ blocks_of_pairs xs
-alike_blocks [] [] h = refl
-alike_blocks [] (y ∷ ys) h = absurd h
-alike_blocks (x ∷ xs) [] h = absurd h
-alike_blocks (x ∷ xs) (y ∷ ys) h = ap₂ (λ (a : ℕ × ℕ) (bs : List ℕ). a.0 ∷ a.1 ∷ bs) h.0 (alike_blocks xs ys h.2)
-
 alike_slots : (xs ys : List Pair) → SameSlots xs ys → all_slots ys ≡ all_slots xs
 alike_slots [] [] h = refl
 alike_slots [] (y ∷ ys) h = absurd h
@@ -67,7 +60,7 @@ module _ (now new : KeptThread) (alike : SameSlots now.pairs new.pairs) (none : 
     are = subst (λ m. AreUsed m h.owned) (sym map_is) h.are;
     same = λ b.
         let f = files_stay b in
-        let k = ap (number_count b) (alike_blocks now.pairs new.pairs alike) in
+        let k = ap (number_count b) (blocks_alike now.pairs new.pairs alike) in
         let u = count_used b new.disk new.pairs still in let v = count_used b now.disk now.pairs none in
         let s = h.same b in
         omega arith;

@@ -1,12 +1,5 @@
 -- The pair whose slot a set move names.
-use Rattle.std.proofs.Common.{ℕ, suc, zero, ◌≡◌, ◌+◌, ◌<◌, ◌≤◌, ◌⊎◌, ◌&&◌, inl, inr, Bool, true, false, cond, List, [], ◌∷◌, ◌++◌, length, take, Option, Some, None, refl, sym, ap, subst, ◌∙◌, arith, get_or, slice_get}
-use Rattle.std.specs.Prelude.{IfNone, IfSome}
-use Rattle.lfs_operations.proofs.Common.{AllByRecursion, and_parts, cases_lt, same_Some, IsPairAt, Gstate, Slot, is_superblock, same_pair, Pair, pairs_gstate, is_hard_tail, may_continue, has_superblock, pair_count_before_root, IsAccepted, HasValidMove, IsEntry, set_move_kind, Each, HasNoMove, pair_back, pair_on, same_number, HoldsOfSome, KeptThread, empty_anchor, thread_pair_at}
-use Rattle.lfs_model.specs.format.Thread.{has_no_entry}
-use Rattle.lfs_model.specs.tree.View.{IsThreadEntry}
-use Rattle.lfs_model.specs.format.Slots.{no_move_kind}
-use Rattle.lfs_model.proofs.Sites.{among_from}
-use Rattle.lfs_operations.specs.EndingMove.{HasMovedSlot}
+use Rattle.lfs_operations.proofs.Common.{ℕ, suc, zero, ◌≡◌, ◌+◌, ◌<◌, ◌≤◌, ◌⊎◌, ◌&&◌, inl, inr, Bool, true, false, cond, List, [], ◌∷◌, ◌++◌, length, take, Option, Some, None, refl, sym, ap, subst, ◌∙◌, arith, get_or, slice_get, AllByRecursion, and_parts, cases_lt, same_Some, IsPairAt, Gstate, Slot, is_superblock, same_pair, Pair, pairs_gstate, is_hard_tail, may_continue, has_superblock, pair_count_before_root, IsAccepted, HasValidMove, IsEntry, set_move_kind, Each, HasNoMove, pair_back, pair_on, same_number, HoldsOfSome, KeptThread, empty_anchor, thread_pair_at, IfNone, IfSome, has_no_entry, IsThreadEntry, no_move_kind, among_from, HasMovedSlot}
 
 -- ---- no move, or one that names a slot
 

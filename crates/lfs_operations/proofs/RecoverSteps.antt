@@ -1,13 +1,9 @@
 -- The steps of a recovery, on the disk that they write and on those that a stop leaves.
-use Rattle.std.proofs.Common.{ℕ, ◌≡◌, ◌<◌, ◌≤◌, ◌+◌, ◌-◌, ◌⊎◌, inl, inr, true, false, List, [], ◌∷◌, ◌++◌, length, Some, refl, sym, ap, subst, ◌∙◌, arith, length-append}
-use Rattle.lfs_operations.proofs.Common.{same_Some, Blocks, Disk, HasEither as IsLeftOf, with_blocks, FitsInPair, Gstate, gstate_xor, zero_gstate, same_pair, Pair, pairs_gstate, is_hard_tail, pair_count_before_root, Path, IsAccepted, IsWritable, LeadsTo, tree_on_disk, SameSlots, alike_append, alike_itself, HasNoMove, gstate_assoc, gstate_cons, gstate_right, gstate_self, HasSite, site_of_number, AllReached, AllReachedBut, IsStep, step_writable, site_gstate_moved, Site, thread_at, IsDevice, stays_shape, IsWritableChange, taken_before, within_at, IsReady, IsUnthreaded, KeptThread, LossLeavesPairChanged, IsPairWritten, complete_after, thread_pair_at, pairs_with}
+use Rattle.lfs_operations.proofs.Common.{ℕ, ◌≡◌, ◌<◌, ◌≤◌, ◌+◌, ◌-◌, ◌⊎◌, inl, inr, true, false, List, [], ◌∷◌, ◌++◌, length, Some, refl, sym, ap, subst, ◌∙◌, arith, length-append, same_Some, Blocks, Disk, HasEither as IsLeftOf, with_blocks, FitsInPair, Gstate, gstate_xor, zero_gstate, same_pair, Pair, pairs_gstate, is_hard_tail, pair_count_before_root, Path, IsAccepted, IsWritable, LeadsTo, tree_on_disk, SameSlots, alike_append, alike_itself, HasNoMove, gstate_assoc, gstate_cons, gstate_right, gstate_self, HasSite, site_of_number, AllReached, AllReachedBut, IsStep, step_writable, site_gstate_moved, Site, thread_at, IsDevice, stays_shape, IsWritableChange, taken_before, within_at, IsReady, IsUnthreaded, KeptThread, LossLeavesPairChanged, IsPairWritten, complete_after, thread_pair_at, pairs_with, within_same, gstate_changes, delta_reaching_gstate, content_reaching_gstate, LeftByDrop, content_after_drop}
 use Rattle.lfs_model.proofs.Rests.{slots_stay}
-use Rattle.lfs_model.proofs.StepsTaken.{within_same}
 use Rattle.lfs_model.proofs.Unthreaded.{Unthreads, unthread}
-use Rattle.lfs_operations.specs.Deltas.{gstate_changes, delta_reaching_gstate, content_reaching_gstate}
 use Rattle.lfs_operations.proofs.Threads.{one_now, pair_is, placed_one}
 use Rattle.lfs_operations.proofs.Placing.{device, left_still, left_after}
-use Rattle.lfs_operations.specs.Dropping.{LeftByDrop, content_after_drop}
 use Rattle.lfs_operations.proofs.Dropped.{IsToBeDropped, device_left, left_dropped, slots_left, state_left, tail_left}
 use Rattle.lfs_operations.proofs.Rmdir.{over_soft}
 

@@ -1,11 +1,6 @@
 -- How far a recovery is, from its beginning to its end.
-use Rattle.std.proofs.Common.{ℕ, suc, zero, ◌≡◌, ◌≢◌, ◌+◌, ◌-◌, ◌<◌, ◌≤◌, ◌⊎◌, inl, inr, true, false, cond, nat_eq, eq-eqb, List, [], ◌∷◌, ◌++◌, length, take, drop, Option, Some, None, refl, sym, ap, ap₂, subst, ◌∙◌, arith, append_assoc, length-append, slice_get}
-use Rattle.std.specs.Prelude.{is_some, slice_index_or}
-use Rattle.lfs_operations.proofs.Common.{ne_eqb, Blocks, Disk, directory_address, continued_address, AllCallsSince, HasEither as IsLeftOf, SurvivesLossSince, with_blocks, Gstate, zero_gstate, same_pair, Pair, blocks_of_pairs, pairs_from_root, first_address, pairs_gstate, pair_count_before_root, address_blocks, IsAccepted, IsReachedBySome, tree_on_disk, used_blocks, IsWritable, survives_then, number_count, count_append, once_from_distinct, HasDirectory, chain_of_thread, led_directory, HasNoMove, HoldsAtLosses-weaker, joined_singles, onward_all, Ends, pair_back, pair_itself, pair_on, same_number, file_blocks, all_slots, IsReady, IsUnthreaded, same_parts, LossLeavesCleanly, KeptThread, SameGeometryAs, ChangesThreadBlocks, empty_anchor, thread_pair_at}
+use Rattle.lfs_operations.proofs.Common.{ℕ, suc, zero, ◌≡◌, ◌≢◌, ◌+◌, ◌-◌, ◌<◌, ◌≤◌, ◌⊎◌, inl, inr, true, false, cond, nat_eq, eq-eqb, List, [], ◌∷◌, ◌++◌, length, take, drop, Option, Some, None, refl, sym, ap, ap₂, subst, ◌∙◌, arith, append_assoc, length-append, slice_get, ne_eqb, Blocks, Disk, directory_address, continued_address, AllCallsSince, HasEither as IsLeftOf, SurvivesLossSince, with_blocks, Gstate, zero_gstate, same_pair, Pair, blocks_of_pairs, pairs_from_root, first_address, pairs_gstate, pair_count_before_root, address_blocks, IsAccepted, IsReachedBySome, tree_on_disk, used_blocks, IsWritable, survives_then, number_count, count_append, once_from_distinct, HasDirectory, chain_of_thread, led_directory, HasNoMove, HoldsAtLosses-weaker, joined_singles, onward_all, Ends, pair_back, pair_itself, pair_on, same_number, file_blocks, all_slots, IsReady, IsUnthreaded, same_parts, LossLeavesCleanly, KeptThread, SameGeometryAs, ChangesThreadBlocks, empty_anchor, thread_pair_at, is_some, slice_index_or, recovery_begins, AreUnreachedNumbers, AreUnreachedFrom, CanDropPairs, numbered_blocks, gstate_after_drops, SameInFlight, CanDropAt, LeftByDrop, IsPairDropped, content_after_drop}
 use Rattle.lfs_model.proofs.Histories.{AllCallsSince-weaker, goes_on_by}
-use Rattle.lfs_model.proofs.Recovering.{recovery_begins}
-use Rattle.lfs_operations.specs.Recovering.{AreUnreachedNumbers, AreUnreachedFrom, CanDropPairs, numbered_blocks, gstate_after_drops}
-use Rattle.lfs_operations.specs.Dropping.{SameInFlight, CanDropAt, LeftByDrop, IsPairDropped, content_after_drop}
 use Rattle.lfs_operations.proofs.RecoverLists.{lists_kept, lists_more, numbered}
 use Rattle.lfs_operations.proofs.RecoverLoop.{FirstsOnly, IsAtDrop, IsAtEnd, IsOnWay, all_but, drops, goes_to, ready, soft, stands, sync_set, unled}
 use Rattle.lfs_operations.proofs.RecoverMap.{HasMap, map_drops}

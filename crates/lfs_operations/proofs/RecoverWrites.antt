@@ -1,7 +1,5 @@
 -- Which blocks are written, of those of pairs.
-use Rattle.std.proofs.Common.{ℕ, zero, suc, ◌≡◌, ◌≢◌, ◌<◌, ◌≤◌, ◌+◌, Bool, true, false, cond, nat_eq, eqb-true, eq-eqb, List, [], ◌∷◌, length, refl, sym, ◌∙◌, arith}
-use Rattle.std.specs.Prelude.{slice_index_or}
-use Rattle.lfs_operations.proofs.Common.{All-from_recursion, recursion_from_All, Pair, blocks_of_pairs, address_blocks, Each, number_count, StayUnprogrammed-refl, KeptThread, ChangesThreadBlocks, empty_anchor}
+use Rattle.lfs_operations.proofs.Common.{ℕ, zero, suc, ◌≡◌, ◌≢◌, ◌<◌, ◌≤◌, ◌+◌, Bool, true, false, cond, nat_eq, eqb-true, eq-eqb, List, [], ◌∷◌, length, refl, sym, ◌∙◌, arith, All-from_recursion, recursion_from_All, Pair, blocks_of_pairs, address_blocks, Each, number_count, StayUnprogrammed-refl, KeptThread, ChangesThreadBlocks, empty_anchor, slice_index_or}
 use Rattle.lfs_model.proofs.Overwrites.{SameExceptThese-refl}
 use Rattle.lfs_operations.proofs.Putting.{writes_wider}
 

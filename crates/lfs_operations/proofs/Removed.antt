@@ -1,15 +1,6 @@
 -- A file that goes while its pair stays, as a step of the thread.
-use Rattle.std.proofs.Common.{Err, Result, append_assoc, nat_eq, slice_get, ℕ, ◌≡◌, ◌≢◌, ◌⊎◌, inl, inr, ◌+◌, ◌<◌, ◌&&◌, not, Bool, true, false, eqb-true, List, [], ◌∷◌, ◌++◌, length, Some, refl, sym, ap, ap₂, subst, ◌∙◌, arith, append-nil, length-append, remove, sum_by}
-use Rattle.std.specs.Prelude.{is_err}
-use Rattle.lfs_device.specs.declared.error.Error.{Error}
-use Rattle.std.specs.Option.{option_and_then}
-use Rattle.lfs_operations.proofs.Common.{eqb-false, same_Some, sum_by-append, sum_by-cons, tree_removing, Free, InFlight, Delete, changed_content_of, RawContent, complete_content, raw_content, Disk, CallEvent, SurvivesLossSince, PairContent, FitsInPair, Slot, same_pair, slot_size, Pair, blocks_of_pairs, first_address, tail_address_of, Tree, struct_blocks, tree_on_disk, Name, IsChangedImage, IsCompletion, commit_step, recovered_from, complete_length, complete_remove, completed_from, completed_parts, count_append, deletes, does_first, does_nothing, HoldsAtLosses-weaker, Ends, file_goes, remove_here, same, same_number, site, pair_back, pair_on, IsPairAt, IsDistinct, Site, thread_at, ends_joined, LossLeavesCleanly, KeptThread, ThreadView, CanChangePair, IoMeantFaultNoMemoryWroteNothing, IsPairCommitted, LossLeavesPairChanged, RefusesCommit, complete_after, thread_pair_at}
+use Rattle.lfs_operations.proofs.Common.{Err, Result, append_assoc, nat_eq, slice_get, ℕ, ◌≡◌, ◌≢◌, ◌⊎◌, inl, inr, ◌+◌, ◌<◌, ◌&&◌, not, Bool, true, false, eqb-true, List, [], ◌∷◌, ◌++◌, length, Some, refl, sym, ap, ap₂, subst, ◌∙◌, arith, append-nil, length-append, remove, sum_by, eqb-false, same_Some, sum_by-append, sum_by-cons, tree_removing, Free, InFlight, Delete, changed_content_of, RawContent, complete_content, raw_content, Disk, CallEvent, SurvivesLossSince, PairContent, FitsInPair, Slot, same_pair, slot_size, Pair, blocks_of_pairs, first_address, tail_address_of, Tree, struct_blocks, tree_on_disk, Name, IsChangedImage, IsCompletion, commit_step, recovered_from, complete_length, complete_remove, completed_from, completed_parts, count_append, deletes, does_first, does_nothing, HoldsAtLosses-weaker, Ends, file_goes, remove_here, same, same_number, site, pair_back, pair_on, IsPairAt, IsDistinct, Site, thread_at, ends_joined, LossLeavesCleanly, KeptThread, ThreadView, CanChangePair, IoMeantFaultNoMemoryWroteNothing, IsPairCommitted, LossLeavesPairChanged, RefusesCommit, complete_after, thread_pair_at, is_err, Error, option_and_then, remove_completed, CanEditIn, editable_slot, ShowsAfterDrops, ShowsUpdatedTree, CanRemoveIn, IsFileRemoved, ReportsErrorsOfCommitTakingNoBlock, drops_with_its_slot, tree_without_entry}
 use Rattle.lfs_model.specs.session.Operations as ops
-use Rattle.lfs_model.proofs.OneCommit.{remove_completed}
-use Rattle.lfs_operations.specs.Editing.{CanEditIn, editable_slot}
-use Rattle.lfs_operations.specs.Dropping.{ShowsAfterDrops}
-use Rattle.lfs_operations.specs.Ready.{ShowsUpdatedTree}
-use Rattle.lfs_operations.specs.Removing.{CanRemoveIn, IsFileRemoved, ReportsErrorsOfCommitTakingNoBlock, drops_with_its_slot, tree_without_entry}
 use Rattle.lfs_operations.proofs.Held.{CompletesTo, below, fits_there, here, raw_there}
 use Rattle.lfs_operations.proofs.Splicing.{Commits, IsSplicing}
 use Rattle.lfs_operations.proofs.Stepped.{HasStep, becomes, put_step, survives}

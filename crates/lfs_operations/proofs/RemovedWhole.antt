@@ -1,11 +1,7 @@
 -- A file that goes with its pair, which held nothing else and isn't the first of its directory, as a step of the thread.
-use Rattle.std.proofs.Common.{◌<◌, ℕ, ◌≡◌, ◌≢◌, inl, inr, ◌+◌, ◌-◌, ◌≤◌, ◌&&◌, not, Bool, true, false, nat_eq, eqb-true, slice_get, List, [], ◌∷◌, ◌++◌, length, Option, Some, None, refl, sym, ap, subst, ◌∙◌, arith, append_assoc, length-append}
-use Rattle.lfs_operations.proofs.Common.{IsDistinct, eqb-false, tree_removing, Blocks, Disk, CallEvent, IsPairAt, HasEither as IsLeftOf, SurvivesLossSince, with_blocks, PairContent, Slot, Tail, zero_gstate, same_pair, Pair, blocks_of_pairs, first_address, pairs_gstate, is_hard_tail, pair_count_before_root, Tree, branch_address, IsAccepted, IsWritable, LeadsTo, struct_blocks, tree_on_disk, used_blocks, IsChangedImage, IsCompletion, no_move_from, recovered_from, number_count, count_append, once_from_distinct, HasNoMove, HoldsAtLosses-weaker, IsRun, file_goes, same_number, site, pair_back, pair_on, IsSite, Site, begin_of, dirs_at, thread_at, file_blocks, IsChain, ends_joined, LossLeavesCleanly, KeptThread, IsPairWritten, thread_pair_at}
+use Rattle.lfs_operations.proofs.Common.{◌<◌, ℕ, ◌≡◌, ◌≢◌, inl, inr, ◌+◌, ◌-◌, ◌≤◌, ◌&&◌, not, Bool, true, false, nat_eq, eqb-true, slice_get, List, [], ◌∷◌, ◌++◌, length, Option, Some, None, refl, sym, ap, subst, ◌∙◌, arith, append_assoc, length-append, IsDistinct, eqb-false, tree_removing, Blocks, Disk, CallEvent, IsPairAt, HasEither as IsLeftOf, SurvivesLossSince, with_blocks, PairContent, Slot, Tail, zero_gstate, same_pair, Pair, blocks_of_pairs, first_address, pairs_gstate, is_hard_tail, pair_count_before_root, Tree, branch_address, IsAccepted, IsWritable, LeadsTo, struct_blocks, tree_on_disk, used_blocks, IsChangedImage, IsCompletion, no_move_from, recovered_from, number_count, count_append, once_from_distinct, HasNoMove, HoldsAtLosses-weaker, IsRun, file_goes, same_number, site, pair_back, pair_on, IsSite, Site, begin_of, dirs_at, thread_at, file_blocks, IsChain, ends_joined, LossLeavesCleanly, KeptThread, IsPairWritten, thread_pair_at, CanDropAt, IsPairDropped, ShowsAfterDrops, LeftByDrop, tail_over_drop, content_after_drop, CanEditIn, editable_slot, IsFileRemoved, drops_with_its_slot, tree_without_entry}
 use Rattle.lfs_model.specs.session.Operations as ops
 use Rattle.lfs_model.proofs.Dropped.{IsDrop, drop_completed, drop_step, drop_writable}
-use Rattle.lfs_operations.specs.Dropping.{CanDropAt, IsPairDropped, ShowsAfterDrops, LeftByDrop, tail_over_drop, content_after_drop}
-use Rattle.lfs_operations.specs.Editing.{CanEditIn, editable_slot}
-use Rattle.lfs_operations.specs.Removing.{IsFileRemoved, drops_with_its_slot, tree_without_entry}
 use Rattle.lfs_operations.proofs.Dropped.{HasMapWithout, IsToBeDropped, can_drop_pair, device_left, left_dropped, map_dropped, pairs_left, slots_left, state_left, tail_left, used_left}
 use Rattle.lfs_operations.proofs.DroppedTails.{no_move_state}
 use Rattle.lfs_operations.proofs.Held.{here}

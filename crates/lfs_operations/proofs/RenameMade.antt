@@ -1,13 +1,6 @@
 -- A pair from which slots go, and into which one comes again under another name.
-use Rattle.std.proofs.Common.{ℕ, ◌≡◌, ◌⊎◌, inl, inr, ◌<◌, ◌≤◌, zero, suc, true, List, [], ◌∷◌, ◌++◌, length, Option, Some, refl, sym, ap, ap₂, subst, ◌∙◌, arith, append_assoc, insert, remove, length-append, sum_by}
-use Rattle.std.specs.Prelude.{unwrap_or}
-use Rattle.std.specs.Option.{option_and_then}
-use Rattle.lfs_operations.proofs.Common.{sum_by-append, sum_by-cons, PairChange, changed_content_of, RawContent, RawSlot, complete_slots, complete_content, empty_raw_content, raw_content, slot_of_id, CanSplit, IsPairOfDirectory, HasName, IsSlotWellFormed, Name, is_valid_name, PairContent, FitsInPair, Slot, slot_size, Pair, tail_address_of, IsWritableEntry, complete_insert, complete_length, complete_remove, completed_from, completed_parts, deletes, does_first, content_cut, entry_small, insert_here, remove_here, logged_changed, changed_pair, KeptThread, complete_after, thread_pair_at}
-use Rattle.lfs_model.specs.layers.LoggedContent.{AreWellFormed}
+use Rattle.lfs_operations.proofs.Common.{ℕ, ◌≡◌, ◌⊎◌, inl, inr, ◌<◌, ◌≤◌, zero, suc, true, List, [], ◌∷◌, ◌++◌, length, Option, Some, refl, sym, ap, ap₂, subst, ◌∙◌, arith, append_assoc, insert, remove, length-append, sum_by, sum_by-append, sum_by-cons, PairChange, changed_content_of, RawContent, RawSlot, complete_slots, complete_content, empty_raw_content, raw_content, slot_of_id, CanSplit, IsPairOfDirectory, HasName, IsSlotWellFormed, Name, is_valid_name, PairContent, FitsInPair, Slot, slot_size, Pair, tail_address_of, IsWritableEntry, complete_insert, complete_length, complete_remove, completed_from, completed_parts, deletes, does_first, content_cut, entry_small, insert_here, remove_here, logged_changed, changed_pair, KeptThread, complete_after, thread_pair_at, unwrap_or, option_and_then, AreWellFormed, CanTurn, IsRawFormed, IsReadyImage, NamelessSlot, nameless_at, nameless_of, slot_changes}
 use Rattle.lfs_model.specs.layers.Changes as model
-use Rattle.lfs_operations.specs.Changing.{CanTurn}
-use Rattle.lfs_operations.specs.Ready.{IsRawFormed, IsReadyImage}
-use Rattle.lfs_operations.specs.RenamingSlots.{NamelessSlot, nameless_at, nameless_of, slot_changes}
 use Rattle.lfs_operations.proofs.Held.{CompletesTo, below, fits_there, here, raw_there}
 use Rattle.lfs_operations.proofs.RawSlots.{IsRaw, is_raw}
 use Rattle.lfs_operations.proofs.RenameSlots.{IsOf, is_of, name_length, slot_comes, slot_of_parts, with_slot}

@@ -1,6 +1,5 @@
 -- The tree after a rename within one pair onto a file, which stands behind the old slot or in front of it.
-use Rattle.std.proofs.Common.{ℕ, ◌≡◌, true, false, not, List, [], ◌∷◌, ◌++◌, length, Some, None, sym, ap, ◌∙◌, append_assoc, slice_get, remove, set}
-use Rattle.lfs_operations.proofs.Common.{filter-append, Disk, Slot, is_superblock, same_pair, Pair, pairs_gstate, Path, branch_address, LeadsTo, all_entries, tree_renaming, IsChangedImage, Site, thread_at, begin_of, AllReached, IsStep, place_at, shown_before, shown_behind, entry_only, get_here, remove_here, renamed_addresses, site_shows, sibling_apart}
+use Rattle.lfs_operations.proofs.Common.{ℕ, ◌≡◌, true, false, not, List, [], ◌∷◌, ◌++◌, length, Some, None, sym, ap, ◌∙◌, append_assoc, slice_get, remove, set, filter-append, Disk, Slot, is_superblock, same_pair, Pair, pairs_gstate, Path, branch_address, LeadsTo, all_entries, tree_renaming, IsChangedImage, Site, thread_at, begin_of, AllReached, IsStep, place_at, shown_before, shown_behind, entry_only, get_here, remove_here, renamed_addresses, site_shows, sibling_apart}
 use Rattle.std.proofs.Math.Seq.{set-append_seam}
 use Rattle.lfs_model.specs.session.InDirectory.{entry_slots}
 use Rattle.lfs_model.proofs.Renames.{entry_moves_onto}

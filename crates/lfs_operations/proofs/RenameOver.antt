@@ -1,12 +1,5 @@
 -- An entry that takes the place of a directory while the sync bit turns, as a step of the thread.
-use Rattle.std.proofs.Common.{subst₂, ℕ, ◌≡◌, ◌⊎◌, inl, inr, ◌+◌, ◌≤◌, true, List, [], ◌∷◌, ◌++◌, length, Some, refl, sym, ap, ap₂, subst, ◌∙◌, arith, append_assoc, length-append, sum_by, insert}
-use Rattle.std.specs.Option.{option_and_then}
-use Rattle.lfs_operations.proofs.Common.{sum_by-append, sum_by-cons, same_Some, tree_renaming, PairChange, Delete, PutMove, changed_content_of, RawContent, RawSlot, complete_slots, complete_content, raw_content, Disk, CallEvent, HasName, MoveStateFits, Name, is_valid_name, SurvivesLossSince, PairContent, FitsInPair, Gstate, Slot, gstate_xor, slot_size, Pair, pairs_gstate, tail_address_of, IsTreeEntry, tree_on_disk, IsChangedImage, complete_insert, complete_length, completed_from, completed_parts, does_first, puts_move, gstate_comm, sync_bit_delta, turned_is, HoldsAtLosses-weaker, IsStep, insert_here, some_filled, renamed_addresses, site, Site, thread_at, IsWritableChange, LossLeavesCleanly, KeptThread, CanChangePair, IsPairCommitted, LossLeavesPairChanged, RefusesCommit, IsPairWritten, complete_after, thread_pair_at}
-use Rattle.lfs_model.specs.format.Slots.{struct_len}
-use Rattle.lfs_operations.specs.Editing.{CanEditIn}
-use Rattle.lfs_operations.specs.Renaming.{id_after_removal, tree_renamed}
-use Rattle.lfs_operations.specs.RenamingOver.{CanReplaceDirectory, IsDirectoryReplaced, replace_directory_changes}
-use Rattle.lfs_operations.specs.RenamingSlots.{HasSlot, NamelessSlot, nameless_of, slot_changes}
+use Rattle.lfs_operations.proofs.Common.{subst₂, ℕ, ◌≡◌, ◌⊎◌, inl, inr, ◌+◌, ◌≤◌, true, List, [], ◌∷◌, ◌++◌, length, Some, refl, sym, ap, ap₂, subst, ◌∙◌, arith, append_assoc, length-append, sum_by, insert, sum_by-append, sum_by-cons, same_Some, tree_renaming, PairChange, Delete, PutMove, changed_content_of, RawContent, RawSlot, complete_slots, complete_content, raw_content, Disk, CallEvent, HasName, MoveStateFits, Name, is_valid_name, SurvivesLossSince, PairContent, FitsInPair, Gstate, Slot, gstate_xor, slot_size, Pair, pairs_gstate, tail_address_of, IsTreeEntry, tree_on_disk, IsChangedImage, complete_insert, complete_length, completed_from, completed_parts, does_first, puts_move, gstate_comm, sync_bit_delta, turned_is, HoldsAtLosses-weaker, IsStep, insert_here, some_filled, renamed_addresses, site, Site, thread_at, IsWritableChange, LossLeavesCleanly, KeptThread, CanChangePair, IsPairCommitted, LossLeavesPairChanged, RefusesCommit, IsPairWritten, complete_after, thread_pair_at, option_and_then, struct_len, CanEditIn, id_after_removal, tree_renamed, CanReplaceDirectory, IsDirectoryReplaced, replace_directory_changes, HasSlot, NamelessSlot, nameless_of, slot_changes}
 use Rattle.lfs_operations.proofs.Held.{CompletesTo, below, here, raw_there}
 use Rattle.lfs_operations.proofs.RenameMade as made
 use Rattle.lfs_operations.proofs.RenameMade.{ComesAhead, ComesBehind, Leaves, behind_or_ahead}

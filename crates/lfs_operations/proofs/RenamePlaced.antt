@@ -1,10 +1,7 @@
 -- Slots that are replaced by the same ones, of which one has another name, or for fewer.
-use Rattle.std.proofs.Common.{ℕ, ◌≡◌, ◌+◌, false, List, [], ◌∷◌, ◌++◌, length, Some, sym, ap, subst, ◌∙◌, arith, take, drop}
-use Rattle.std.specs.Prelude.{All}
-use Rattle.lfs_operations.proofs.Common.{take-append-drop, recursion_from_All, PairChange, Disk, SameGeometry, PairContent, Slot, is_superblock, Pair, pairs_gstate, starts_superblock, pair_count_before_root, IsWritableEntry, IsWritableSlot, BeginsWithSuperblock, IsAccepted, IsTreeEntry, IsWellFormedCtz, all_slots_not_moved, struct_blocks, SameFiles, slots_files, no_move_from, Each, number_count, count_append, each_append, each_left, each_pieces, each_right, each_weaker, SameFileBlocks, is_list_same, Site, IsSite, dirs_at, thread_at, count_files, file_blocks, unmoved_in, KeptThread, complete_after}
+use Rattle.lfs_operations.proofs.Common.{ℕ, ◌≡◌, ◌+◌, false, List, [], ◌∷◌, ◌++◌, length, Some, sym, ap, subst, ◌∙◌, arith, take, drop, take-append-drop, recursion_from_All, PairChange, Disk, SameGeometry, PairContent, Slot, is_superblock, Pair, pairs_gstate, starts_superblock, pair_count_before_root, IsWritableEntry, IsWritableSlot, BeginsWithSuperblock, IsAccepted, IsTreeEntry, IsWellFormedCtz, all_slots_not_moved, struct_blocks, SameFiles, slots_files, no_move_from, Each, number_count, count_append, each_append, each_left, each_pieces, each_right, each_weaker, SameFileBlocks, is_list_same, Site, IsSite, dirs_at, thread_at, count_files, file_blocks, unmoved_in, KeptThread, complete_after, All, IsReadyImage}
 use Rattle.lfs_model.specs.declared.limits.AcceptedVersions.{AcceptedVersions}
 use Rattle.lfs_model.proofs.Counts.{each_both}
-use Rattle.lfs_operations.specs.Ready.{IsReadyImage}
 use Rattle.lfs_operations.proofs.Splicing.{IsSplicing}
 
 -- ---- what the others keep

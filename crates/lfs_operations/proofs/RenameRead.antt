@@ -1,12 +1,5 @@
 -- A pair that is changed or split after it was read.
-use Rattle.std.proofs.Common.{ℕ, ◌≡◌, ◌⊎◌, inl, inr, false, List, [], Result, Some, Err, refl, sym, ap, subst, ◌∙◌}
-use Rattle.std.specs.Prelude.{IfErr}
-use Rattle.lfs_device.specs.declared.error.Error.{Error}
-use Rattle.lfs_device.specs.declared.error.Error.TheVariants.{Io, NoMemory, NoSpace}
-use Rattle.lfs_operations.proofs.Common.{Blocks, PairChange, Disk, CallEvent, OnlyReadsSince, fault_count, IsPairOfDirectory, SurvivesLossSince, with_blocks, PairContent, Pair, Tree, tree_on_disk, HoldsAtLosses-weaker, HoldsAtLosses-trans, HoldsAtLosses-read_count, AllCallsSince-behind, LeftByLoss-read, LossLeavesCleanly, KeptThread, ThreadView, IoMeantFaultNoMemoryWroteNothing, IsPairCommitted, OnlyReadsThread, IsPairWritten, thread_pair_at}
-use Rattle.lfs_operations.specs.Changing.{CanTurn, LeftByTurn, IsTurned, ChangeIsTooLarge, ReportsErrorsOfChangeOrSplit, ReportsFaultsChangingNothingAtNoSpace, WritesPairTwo}
-use Rattle.lfs_operations.specs.Ready.{IsReadyImage}
-use Rattle.lfs_operations.specs.Renaming.{ReportsErrorsOfReadThenChangeOrSplit}
+use Rattle.lfs_operations.proofs.Common.{ℕ, ◌≡◌, ◌⊎◌, inl, inr, false, List, [], Result, Some, Err, refl, sym, ap, subst, ◌∙◌, Blocks, PairChange, Disk, CallEvent, OnlyReadsSince, fault_count, IsPairOfDirectory, SurvivesLossSince, with_blocks, PairContent, Pair, Tree, tree_on_disk, HoldsAtLosses-weaker, HoldsAtLosses-trans, HoldsAtLosses-read_count, AllCallsSince-behind, LeftByLoss-read, LossLeavesCleanly, KeptThread, ThreadView, IoMeantFaultNoMemoryWroteNothing, IsPairCommitted, OnlyReadsThread, IsPairWritten, thread_pair_at, IfErr, Error, Io, NoMemory, NoSpace, CanTurn, LeftByTurn, IsTurned, ChangeIsTooLarge, ReportsErrorsOfChangeOrSplit, ReportsFaultsChangingNothingAtNoSpace, WritesPairTwo, IsReadyImage, ReportsErrorsOfReadThenChangeOrSplit}
 use Rattle.lfs_operations.proofs.Held.{here, holds}
 use Rattle.lfs_operations.proofs.Putting.{cut_later, left_later, read_is, reports_later, with_history, writes_later, writes_none, same_err}
 
@@ -80,7 +73,7 @@ module _ (t : KeptThread) (h : List CallEvent) (reads : OnlyReadsSince t.disk.bl
   put_earlier new (inl is) = inl (changed_earlier new is)
   put_earlier new (inr (large, is)) = inr (large, cut_later t h reads index changes new is)
 
-  left_earlier : (left : Blocks) → LeftByTurn (with_history t h) index changes left → LeftByTurn t index changes left
+  pub left_earlier : (left : Blocks) → LeftByTurn (with_history t h) index changes left → LeftByTurn t index changes left
   left_earlier left (inl is) = inl (record { content = is.content; is = is.is; written = written_earlier t h index is.content (with_blocks left t.disk) is.written })
   left_earlier left (inr (large, is)) = inr (large, left_later t h reads index changes left is)
 

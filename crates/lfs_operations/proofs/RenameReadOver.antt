@@ -1,11 +1,5 @@
 -- A pair that is changed after it was read.
-use Rattle.std.proofs.Common.{ℕ, ◌≡◌, ◌⊎◌, inl, inr, false, Some, List, Result, Ok, Err, refl, sym, ap, subst, ◌∙◌, arith}
-use Rattle.std.specs.Prelude.{IfErr, is_err}
-use Rattle.lfs_device.specs.declared.error.Error.{Error}
-use Rattle.lfs_device.specs.declared.error.Error.TheVariants.{Io, NoMemory}
-use Rattle.lfs_operations.proofs.Common.{Blocks, PairChange, CallEvent, OnlyReadsSince, fault_count, IsPairOfDirectory, with_blocks, Pair, LossLeavesAtWorst-read, AllCallsSince-behind, HoldsAtLosses-read_count, HoldsAtLosses-trans, HoldsAtLosses-weaker, OnlyReadsSince-trans, StayUnprogrammed-read_count, StayUnprogrammed-trans, LeftByLoss-read, LossLeavesCleanly, KeptThread, ThreadView, CanChangePair, IoMeantFaultNoMemoryWroteNothing, IsPairCommitted, LossLeavesPairChanged, OnlyReadsThread, RefusesCommit, ChangesThreadBlocks, thread_pair_at}
-use Rattle.lfs_operations.specs.Ready.{IsReadyImage}
-use Rattle.lfs_operations.specs.RenamingOver.{ReportsErrorsOfReadThenCommit}
+use Rattle.lfs_operations.proofs.Common.{ℕ, ◌≡◌, ◌⊎◌, inl, inr, false, Some, List, Result, Err, refl, sym, ap, subst, ◌∙◌, arith, Blocks, PairChange, CallEvent, OnlyReadsSince, fault_count, IsPairOfDirectory, with_blocks, Pair, LossLeavesAtWorst-read, AllCallsSince-behind, HoldsAtLosses-read_count, HoldsAtLosses-trans, HoldsAtLosses-weaker, OnlyReadsSince-trans, StayUnprogrammed-read_count, StayUnprogrammed-trans, LeftByLoss-read, LossLeavesCleanly, KeptThread, ThreadView, CanChangePair, IoMeantFaultNoMemoryWroteNothing, IsPairCommitted, LossLeavesPairChanged, OnlyReadsThread, RefusesCommit, ChangesThreadBlocks, thread_pair_at, IfErr, Error, Io, NoMemory, IsReadyImage, ReportsErrorsOfReadThenCommit, ReportsErrorsOfCommitTakingNoBlock}
 use Rattle.lfs_operations.proofs.Held.{here, holds}
 use Rattle.lfs_operations.proofs.Putting.{read_is, with_history, same_err}
 use Rattle.lfs_operations.proofs.RenameRead.{changed_earlier, written_earlier}
@@ -27,7 +21,7 @@ refused_earlier t h new index changes reads is = record {
 pub refused_after_read : (t mid new : KeptThread) (index : ℕ) (changes : List PairChange) → OnlyReadsThread t mid → RefusesCommit mid index changes new → RefusesCommit t index changes new
 refused_after_read t mid new index changes only is = refused_earlier t mid.history new index changes only.reads (subst (λ (k : KeptThread). RefusesCommit k index changes new) (read_is t mid only) is)
 
-writes_earlier : (t : KeptThread) (h : List CallEvent) (new : KeptThread) (bs : List ℕ) → OnlyReadsSince t.disk.blocks t.history h → ChangesThreadBlocks bs (with_history t h) new → ChangesThreadBlocks bs t new
+pub writes_earlier : (t : KeptThread) (h : List CallEvent) (new : KeptThread) (bs : List ℕ) → OnlyReadsSince t.disk.blocks t.history h → ChangesThreadBlocks bs (with_history t h) new → ChangesThreadBlocks bs t new
 writes_earlier t h new bs reads w = record {
   others = w.others;
   elsewhere = StayUnprogrammed-trans (StayUnprogrammed-read_count bs reads) w.elsewhere;
@@ -89,21 +83,5 @@ later t h new result reads same reported = record {
 reported_later : {X : Type 0} (t mid new : KeptThread) (result : Result X Error) → OnlyReadsThread t mid → fault_count mid.history ≡ fault_count t.history → IoMeantFaultNoMemoryWroteNothing mid new result → IoMeantFaultNoMemoryWroteNothing t new result
 reported_later t mid new result only same reported = later t mid.history new result only.reads same (subst (λ (k : KeptThread). IoMeantFaultNoMemoryWroteNothing k new result) (read_is t mid only) reported)
 
-pub over_failed : {X Y : Type 0} (old mid new : ThreadView) (e : Error) (result : Result X Error) (given : Result Y Error) → result ≡ Err e → given ≡ Err e → OnlyReadsThread old.kept mid.kept
-    → fault_count mid.kept.history ≡ fault_count old.kept.history → new.failed ≡ is_err result → IoMeantFaultNoMemoryWroteNothing mid.kept new.kept result → ReportsErrorsOfReadThenCommit old new given
-over_failed old mid new e result given is same only faultless failed reported = record {
-  failed = inl (failed ∙ ap is_err is ∙ sym (ap is_err same));
-  reported = reported_again old.kept new.kept e result given is same (reported_later old.kept mid.kept new.kept result only faultless reported);
-}
-
-pub over_done : {X Y : Type 0} (old mid new : ThreadView) (x : X) (y : Y) (result : Result X Error) (given : Result Y Error) → result ≡ Ok x → given ≡ Ok y → OnlyReadsThread old.kept mid.kept
-    → fault_count mid.kept.history ≡ fault_count old.kept.history → new.failed ≡ is_err result → IoMeantFaultNoMemoryWroteNothing mid.kept new.kept result → ReportsErrorsOfReadThenCommit old new given
-over_done old mid new x y result given is same only faultless failed reported = record {
-  failed = inl (failed ∙ ap is_err is ∙ sym (ap is_err same));
-  reported = record {
-    errors = subst (λ r. IfErr r (λ x. (x ≡ Io) ⊎ (x ≡ NoMemory))) (sym same) tt;
-    fault = λ io. absurd (let z = sym same ∙ io in cc);
-    no_fault = λ other. (let k = reported_later old.kept mid.kept new.kept result only faultless reported in k.no_fault (λ io. let z = sym is ∙ io in absurd (cc)));
-    unwritten = λ none. absurd (let z = sym same ∙ none in cc);
-  };
-}
+pub over_later : {X : Type 0} (old mid new : ThreadView) (result : Result X Error) → OnlyReadsThread old.kept mid.kept → fault_count mid.kept.history ≡ fault_count old.kept.history → ReportsErrorsOfCommitTakingNoBlock mid new result → ReportsErrorsOfReadThenCommit old new result
+over_later old mid new result only faultless h = record { failed = inl h.failed; reported = reported_later old.kept mid.kept new.kept result only faultless h.reported }

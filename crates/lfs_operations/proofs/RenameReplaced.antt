@@ -1,12 +1,6 @@
 -- A rename within one pair onto a file.
-use Rattle.std.proofs.Common.{ℕ, ◌≡◌, ◌≤◌, ◌+◌, ◌⊎◌, inl, inr, true, List, [], ◌∷◌, ◌++◌, refl, sym, ap, subst, ◌∙◌, append_assoc, append-nil}
-use Rattle.lfs_operations.proofs.Common.{tree_renaming, Delete, raw_content, Disk, CallEvent, HasName, Name, is_valid_name, SurvivesLossSince, FitsInPair, Slot, Pair, blocks_of_pairs, IsTreeEntry, struct_blocks, tree_on_disk, used_blocks, IsChangedImage, IsCommit, commit_step, recovered_from, number_count, some_filled, renamed_addresses, site, Site, thread_at, LossLeavesCleanly, KeptThread, thread_pair_at}
+use Rattle.lfs_operations.proofs.Common.{ℕ, ◌≡◌, ◌≤◌, ◌+◌, ◌⊎◌, inl, inr, true, List, [], ◌∷◌, ◌++◌, refl, sym, ap, subst, ◌∙◌, append_assoc, append-nil, tree_renaming, Delete, raw_content, Disk, CallEvent, HasName, Name, is_valid_name, SurvivesLossSince, FitsInPair, Slot, Pair, blocks_of_pairs, IsTreeEntry, struct_blocks, tree_on_disk, used_blocks, IsChangedImage, IsCommit, commit_step, recovered_from, number_count, some_filled, renamed_addresses, site, Site, thread_at, LossLeavesCleanly, KeptThread, thread_pair_at, CanTurn, LeftByTurn, IsTurned, CanEditIn, ShowsUpdatedTree, CanRenameOnto, IsRenamedOnto, id_after_removal, onto_changes, tree_renamed, HasSlot}
 use Rattle.lfs_model.proofs.RenameOntoFile.{onto_file_ahead_completed, onto_file_behind_completed}
-use Rattle.lfs_operations.specs.Changing.{CanTurn, LeftByTurn, IsTurned}
-use Rattle.lfs_operations.specs.Editing.{CanEditIn}
-use Rattle.lfs_operations.specs.Ready.{ShowsUpdatedTree}
-use Rattle.lfs_operations.specs.Renaming.{CanRenameOnto, IsRenamedOnto, id_after_removal, onto_changes, tree_renamed}
-use Rattle.lfs_operations.specs.RenamingSlots.{HasSlot}
 use Rattle.lfs_operations.proofs.Held.{CompletesTo, raw_there}
 use Rattle.lfs_operations.proofs.RenameMade as made
 use Rattle.lfs_operations.proofs.RenameMade.{ComesAhead, ComesBehind, Leaves, behind_or_ahead}

@@ -1,16 +1,9 @@
 -- What the changes make that put a slot at an id.
-use Rattle.std.proofs.Common.{ℕ, ◌≡◌, ◌⊎◌, inl, inr, ◌+◌, ◌<◌, ◌≤◌, ◌==◌, Bool, true, false, cond, take, drop, List, [], ◌∷◌, ◌++◌, length, Option, Some, None, refl, sym, ap, ap₂, subst, ◌∙◌, arith, append_assoc, append-nil, eqb-true}
-use Rattle.std.specs.Prelude.{nat_lt, nat_le, ◌&&◌, is_some}
 use Rattle.std.specs.List.{insert}
-use Rattle.lfs_operations.proofs.Common.{le-ltb, ne_eqb, same_Some, PutAttribute, changed_content_of, RawSlot, RawContent, complete_slot, changed_at, empty_slot, kind_of_type, attributes_with, slot_of_id, read_struct, file_name_type, directory_name_type, IsSlotWellFormed, IsAllowed, Name, is_valid_name, Attributes, Slot, File, Directory, Superblock, is_superblock, Each, each_append, each_weaker, creates_with_struct, does_first, puts_attribute, tag_type-make_tag, tag_length-make_tag}
+use Rattle.lfs_operations.proofs.Common.{ℕ, ◌≡◌, ◌⊎◌, inl, inr, ◌+◌, ◌<◌, ◌≤◌, ◌==◌, Bool, true, false, cond, take, drop, List, [], ◌∷◌, ◌++◌, length, Option, Some, None, refl, sym, ap, ap₂, subst, ◌∙◌, arith, append_assoc, append-nil, eqb-true, le-ltb, ne_eqb, same_Some, PutAttribute, changed_content_of, RawSlot, RawContent, complete_slot, changed_at, empty_slot, kind_of_type, attributes_with, slot_of_id, read_struct, file_name_type, directory_name_type, IsSlotWellFormed, IsAllowed, Name, is_valid_name, Attributes, Slot, File, Directory, Superblock, is_superblock, Each, each_append, each_weaker, creates_with_struct, does_first, puts_attribute, tag_type-make_tag, tag_length-make_tag, nat_lt, nat_le, ◌&&◌, is_some, length-take-le, AttributesInOrder, AllowsIfSome, names_superblock, changed_inserted, with_attribute_put, NamelessSlot, attribute_changes, nameless_of, slot_changes}
 use Rattle.std.proofs.lemmas.Bool.{leb-true}
-use Rattle.std.proofs.lemmas.List.{length-take-le}
 use Rattle.std.proofs.Math.Seq.{get_or-append_seam}
-use Rattle.lfs_model.specs.layers.LoggedContent.{AttributesInOrder, AllowsIfSome}
 use Rattle.lfs_model.specs.format.Names.{is_component}
-use Rattle.lfs_model.specs.format.Slots.{names_superblock}
-use Rattle.lfs_model.proofs.Effects.{changed_inserted, with_attribute_put}
-use Rattle.lfs_operations.specs.RenamingSlots.{NamelessSlot, attribute_changes, nameless_of, slot_changes}
 
 -- ---- attributes, one after another
 

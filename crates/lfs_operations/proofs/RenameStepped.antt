@@ -1,10 +1,6 @@
 -- A rename within one pair as a step of the thread, whatever is replaced by whatever.
-use Rattle.std.proofs.Common.{ℕ, ◌≡◌, ◌≢◌, ◌≤◌, ◌+◌, List, [], ◌∷◌, ◌++◌, sym, ap, subst, ◌∙◌, arith}
-use Rattle.lfs_operations.proofs.Common.{tree_renaming, PairChange, Disk, CallEvent, Name, SurvivesLossSince, Session, Slot, path_or_root, Pair, Path, tree_on_disk, used_blocks, IsChangedImage, IsCommit, IsCompletion, renamed_addresses, Site, thread_at, file_blocks, LossLeavesCleanly, KeptThread, number_count}
+use Rattle.lfs_operations.proofs.Common.{ℕ, ◌≡◌, ◌≢◌, ◌≤◌, ◌+◌, List, [], ◌∷◌, ◌++◌, sym, ap, subst, ◌∙◌, arith, tree_renaming, PairChange, Disk, CallEvent, Name, SurvivesLossSince, Session, Slot, path_or_root, Pair, Path, tree_on_disk, used_blocks, IsChangedImage, IsCommit, IsCompletion, renamed_addresses, Site, thread_at, file_blocks, LossLeavesCleanly, KeptThread, number_count, LeftByTurn, IsTurned, ShowsUpdatedTree, CompletesRename, tree_renamed}
 use Rattle.lfs_model.specs.session.Operations as ops
-use Rattle.lfs_operations.specs.Changing.{LeftByTurn, IsTurned}
-use Rattle.lfs_operations.specs.Ready.{ShowsUpdatedTree}
-use Rattle.lfs_operations.specs.Renaming.{CompletesRename, tree_renamed}
 use Rattle.lfs_operations.proofs.RenamePlaced.{IsPlaced, splicing}
 use Rattle.lfs_operations.proofs.Splicing.{IsSplicing}
 use Rattle.lfs_operations.proofs.Stepped.{HasStep, becomes, put_step, survives}

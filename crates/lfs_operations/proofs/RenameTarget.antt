@@ -1,10 +1,5 @@
 -- An entry that takes the name of another one of its pair and directory: where both stand, and the slots that are left without them.
-use Rattle.std.proofs.Common.{ℕ, ◌≡◌, true, List, [], ◌∷◌, ◌++◌, length, Some, sym, ap, subst, ◌∙◌, arith, append_assoc, length-append, refl}
-use Rattle.std.specs.Prelude.{◌≢◌}
-use Rattle.lfs_operations.proofs.Common.{Delete, RawContent, complete_slots, IsPlaceOf, HasName, Name, is_valid_name, FitsInPair, Slot, Pair, IsTreeEntry, Each, each_right, KeptThread}
-use Rattle.lfs_operations.specs.Editing.{CanEditIn}
-use Rattle.lfs_operations.specs.Renaming.{id_after_removal}
-use Rattle.lfs_operations.specs.RenamingSlots.{HasSlot}
+use Rattle.lfs_operations.proofs.Common.{ℕ, ◌≡◌, true, List, [], ◌∷◌, ◌++◌, length, Some, sym, ap, subst, ◌∙◌, arith, append_assoc, length-append, refl, Delete, RawContent, complete_slots, IsPlaceOf, HasName, Name, is_valid_name, FitsInPair, Slot, Pair, IsTreeEntry, Each, each_right, KeptThread, ◌≢◌, CanEditIn, id_after_removal, HasSlot}
 use Rattle.lfs_operations.proofs.Held.{IsEntryIfOther, below, each_pair, fits_there, here, other_entries}
 use Rattle.lfs_operations.proofs.RenameMade as made
 use Rattle.lfs_operations.proofs.RenameMade.{ComesBehind, Leaves, fits_without, leaves_then, leaves_without}

@@ -1,11 +1,6 @@
 -- A rename within one pair to a name that is new.
-use Rattle.std.proofs.Common.{ℕ, ◌≡◌, ◌⊎◌, inl, inr, ◌-◌, ◌<◌, ◌≤◌, cond, List, [], ◌∷◌, ◌++◌, length, Some, refl, sym, ap, subst, ◌∙◌, arith, append_assoc, append-nil, length-append}
-use Rattle.lfs_operations.proofs.Common.{le-ltb, lt-ltb, tree_renaming, Delete, raw_content, CallEvent, BelongsAt, HasName, Name, SurvivesLossSince, FitsInPair, Slot, Pair, starts_superblock, IsTreeEntry, all_entries, tree_on_disk, IsChangedImage, no_move_from, place_at, IsPlace, some_filled, renamed_addresses, place_of_belongs, site, Site, thread_at, LossLeavesCleanly, KeptThread, thread_pair_at}
+use Rattle.lfs_operations.proofs.Common.{ℕ, ◌≡◌, ◌⊎◌, inl, inr, ◌-◌, ◌<◌, ◌≤◌, cond, List, [], ◌∷◌, ◌++◌, length, Some, refl, sym, ap, subst, ◌∙◌, arith, append_assoc, append-nil, length-append, le-ltb, lt-ltb, tree_renaming, Delete, raw_content, CallEvent, BelongsAt, HasName, Name, SurvivesLossSince, FitsInPair, Slot, Pair, starts_superblock, IsTreeEntry, all_entries, tree_on_disk, IsChangedImage, no_move_from, place_at, IsPlace, some_filled, renamed_addresses, place_of_belongs, site, Site, thread_at, LossLeavesCleanly, KeptThread, thread_pair_at, CanTurn, LeftByTurn, IsTurned, CanEditIn, CanRenameWithin, IsRenamedWithin, id_after_removal, within_changes, tree_renamed, HasSlot}
 use Rattle.lfs_model.proofs.RenameSteps.{ahead_follows, behind_follows, renamed_ahead_completed, renamed_behind_completed}
-use Rattle.lfs_operations.specs.Changing.{CanTurn, LeftByTurn, IsTurned}
-use Rattle.lfs_operations.specs.Editing.{CanEditIn}
-use Rattle.lfs_operations.specs.Renaming.{CanRenameWithin, IsRenamedWithin, id_after_removal, within_changes, tree_renamed}
-use Rattle.lfs_operations.specs.RenamingSlots.{HasSlot}
 use Rattle.lfs_operations.proofs.Held.{CompletesTo, below, fits_there, here, raw_there}
 use Rattle.lfs_operations.proofs.RenameMade as made
 use Rattle.lfs_operations.proofs.RenameMade.{ComesAhead, ComesBehind, Leaves, behind_or_ahead, fits_without, leaves_without}

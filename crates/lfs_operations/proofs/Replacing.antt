@@ -1,15 +1,8 @@
 -- An entry that becomes another of the same name, as a step of the thread.
-use Rattle.std.proofs.Common.{nat_eq, ℕ, ◌≡◌, ◌+◌, ◌<◌, ◌≤◌, true, false, List, [], ◌∷◌, ◌++◌, length, Some, refl, sym, ap, ap₂, subst, ◌∙◌, arith, length-append, set, sum_by}
-use Rattle.std.specs.Prelude.{is_some}
-use Rattle.std.specs.Option.{option_and_then}
-use Rattle.lfs_operations.proofs.Common.{same_Some, sum_by-append, sum_by-cons, PairChange, changed_content_of, RawContent, RawSlot, raw_content, complete_slot, complete_content, changed_at, slot_of_id, CanSplit, Disk, SameGeometry, disk_block, IsPlaceOf, Slot, PairContent, FitsInPair, is_superblock, same_pair, slot_size, Pair, pairs_gstate, tail_address_of, IsTreeEntry, IsWellFormedCtz, IsWritableEntry, LeadsTo, all_slots_not_moved, struct_blocks, used_blocks, no_move_from, completed_parts, completed_from, Each, each_pieces, each_right, number_count, count_append, Does, does_first, does_nothing, SameFileBlocks, entry_small, site, thread_is, is_site, same, number_is, IsDistinct, IsInFlight, Site, dirs_at, thread_at, begin_of, unmoved_in, logged_changed, changed_pair, KeptThread, RefusesCommit, thread_pair_at, complete_after}
+use Rattle.lfs_operations.proofs.Common.{nat_eq, ℕ, ◌≡◌, ◌+◌, ◌<◌, ◌≤◌, true, false, List, [], ◌∷◌, ◌++◌, length, Some, refl, sym, ap, ap₂, subst, ◌∙◌, arith, length-append, set, sum_by, same_Some, sum_by-append, sum_by-cons, PairChange, changed_content_of, RawContent, RawSlot, raw_content, complete_slot, complete_content, changed_at, slot_of_id, CanSplit, Disk, SameGeometry, disk_block, IsPlaceOf, Slot, PairContent, FitsInPair, is_superblock, same_pair, slot_size, Pair, pairs_gstate, tail_address_of, IsTreeEntry, IsWellFormedCtz, IsWritableEntry, LeadsTo, all_slots_not_moved, struct_blocks, used_blocks, no_move_from, completed_parts, completed_from, Each, each_pieces, each_right, number_count, count_append, Does, does_first, does_nothing, SameFileBlocks, entry_small, site, thread_is, is_site, same, number_is, IsDistinct, IsInFlight, Site, dirs_at, thread_at, begin_of, unmoved_in, logged_changed, changed_pair, KeptThread, RefusesCommit, thread_pair_at, complete_after, is_some, option_and_then, IsNamed, set_here, CanTurn, CanEditIn, editable_slot}
 use Rattle.lfs_model.proofs.Completed.{complete_set}
-use Rattle.lfs_model.proofs.Effects.{IsNamed}
 use Rattle.lfs_model.proofs.Halves.{set_cut}
-use Rattle.lfs_model.proofs.Moves.{set_here}
 use Rattle.lfs_model.proofs.Superblocks.{entry_is_other}
-use Rattle.lfs_operations.specs.Changing.{CanTurn}
-use Rattle.lfs_operations.specs.Editing.{CanEditIn, editable_slot}
 use Rattle.lfs_operations.proofs.Held.{CompletesTo, IsEntryIfOther, below, each_pair, fits_there, here, other_entries, raw_there}
 use Rattle.lfs_operations.proofs.RawSlots.{IsRaw, is_named, is_raw}
 use Rattle.lfs_operations.proofs.Splicing.{IsSplicing}

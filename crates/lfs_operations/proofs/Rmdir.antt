@@ -1,9 +1,6 @@
 -- The entry of an empty directory goes, and then its pair: what each of the two steps comes to, in an accepted image.
-use Rattle.std.proofs.Common.{ℕ, ◌≡◌, ◌≢◌, ◌&&◌, true, false, List, [], ◌∷◌, ◌++◌, length, Option, Some, None, refl, sym, ap, subst, ◌∙◌, arith}
-use Rattle.std.specs.Prelude.{is_some}
-use Rattle.lfs_operations.proofs.Common.{recursion_from_All, tree_with_subtree, tree_removing, Disk, Session, slot_of, Branch, Slot, Tail, is_superblock, zero_gstate, same_pair, path_or_root, Pair, pairs_gstate, is_hard_tail, pair_count_before_root, Path, IsAccepted, IsWritable, LeadsTo, all_slots_not_moved, all_entries, tree_on_disk, used_blocks, alike_itself, SameSlots, alike_append, IsChangedImage, SameFiles, slots_files, IsCompletion, number_count, each_left, each_right, softened, SameFileBlocks, HasNoMove, onward_all, IsStep, IsRmdir, rmdir_completed, IsGone, rmdir_named, rmdir_taken, Site, begin_of, dirs_at, thread_at, IsDevice, count_files, file_blocks, all_slots, unmoved_in, IsWritableChange, some_filled}
+use Rattle.lfs_operations.proofs.Common.{ℕ, ◌≡◌, ◌≢◌, ◌&&◌, true, false, List, [], ◌∷◌, ◌++◌, length, Option, Some, None, refl, sym, ap, subst, ◌∙◌, arith, recursion_from_All, tree_with_subtree, tree_removing, Disk, Session, slot_of, Branch, Slot, Tail, is_superblock, zero_gstate, same_pair, path_or_root, Pair, pairs_gstate, is_hard_tail, pair_count_before_root, Path, IsAccepted, IsWritable, LeadsTo, all_slots_not_moved, all_entries, tree_on_disk, used_blocks, alike_itself, SameSlots, alike_append, IsChangedImage, SameFiles, slots_files, IsCompletion, number_count, each_left, each_right, softened, SameFileBlocks, HasNoMove, onward_all, IsStep, IsRmdir, rmdir_completed, IsGone, rmdir_named, rmdir_taken, Site, begin_of, dirs_at, thread_at, IsDevice, count_files, file_blocks, all_slots, unmoved_in, IsWritableChange, some_filled, is_some, tail_over_drop}
 use Rattle.lfs_model.specs.session.Operations as ops
-use Rattle.lfs_operations.specs.Dropping.{tail_over_drop}
 use Rattle.lfs_operations.proofs.Owning.{count_used, slots_append}
 use Rattle.lfs_operations.proofs.Placing.{blocks_append}
 use Rattle.lfs_operations.proofs.RmdirPlaces.{HasPlaceOver, place_over}

@@ -1,9 +1,5 @@
 -- Where the pair of an empty directory stands in the thread, from the entry that names it.
-use Rattle.std.proofs.Common.{ℕ, zero, suc, ◌≡◌, ◌+◌, ◌<◌, true, false, cond, slice_get, get_or, List, [], ◌∷◌, ◌++◌, length, Option, Some, None, refl, sym, ap, subst, ◌∙◌, arith, append_assoc, append-nil, length-append, Bool, nat_eq}
-use Rattle.std.specs.Option.{option_and_then}
-use Rattle.std.specs.Prelude.{is_some}
-use Rattle.lfs_operations.proofs.Common.{same_Some, Disk, directory_address, continued_address, IsPairAt, IsPlaceOf, Name, Branch, Slot, same_pair, Pair, pairs_from_root, first_address, pairs_gstate, is_hard_tail, root_address, blocks_of_pairs, Path, branch_address, IsAccepted, LeadsTo, all_entries, no_move_from, HasDirectory, led_directory, HasNoMove, site_shows, onward_all, onward_some, Ends, IsRun, pair_back, pair_on, same_number, avoids_behind, avoids_front, slot_of_stands, Site, dirs_at, thread_at, IsChain, pairs_behind, ends_joined, KeptThread, empty_anchor, thread_pair_at, IsDistinct, Each, each_append, each_left, each_right, onward_append, before_gone, from_kept, two}
-use Rattle.lfs_operations.specs.Ready.{IsReadyImage}
+use Rattle.lfs_operations.proofs.Common.{ℕ, zero, suc, ◌≡◌, ◌+◌, ◌<◌, true, false, cond, slice_get, get_or, List, [], ◌∷◌, ◌++◌, length, Option, Some, None, refl, sym, ap, subst, ◌∙◌, arith, append_assoc, append-nil, length-append, Bool, nat_eq, same_Some, Disk, directory_address, continued_address, IsPairAt, IsPlaceOf, Name, Branch, Slot, same_pair, Pair, pairs_from_root, first_address, pairs_gstate, is_hard_tail, root_address, blocks_of_pairs, Path, branch_address, IsAccepted, LeadsTo, all_entries, no_move_from, HasDirectory, led_directory, HasNoMove, site_shows, onward_all, onward_some, Ends, IsRun, pair_back, pair_on, same_number, avoids_behind, avoids_front, slot_of_stands, Site, dirs_at, thread_at, IsChain, pairs_behind, ends_joined, KeptThread, empty_anchor, thread_pair_at, IsDistinct, Each, each_append, each_left, each_right, onward_append, before_gone, from_kept, two, option_and_then, is_some, IsReadyImage}
 use Rattle.lfs_operations.proofs.RemovedWhole.{last_pair}
 use Rattle.lfs_operations.proofs.Threads.{get_behind}
 

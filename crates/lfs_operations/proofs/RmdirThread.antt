@@ -1,11 +1,6 @@
 -- An empty directory that goes in two steps of the thread.
-use Rattle.std.proofs.Common.{Some, ℕ, ◌≡◌, ◌≢◌, ◌⊎◌, inl, inr, ◌-◌, ◌<◌, true, false, nat_eq, List, [], ◌∷◌, ◌++◌, length, None, refl, sym, ap, subst, ◌∙◌, arith, append_assoc, append-nil, length-append}
-use Rattle.lfs_operations.proofs.Common.{IsPairCommitted, LossLeavesPairChanged, IsDistinct, tree_removing, tree_with_subtree, Blocks, AreUsed, Disk, IsPairAt, HasEither as IsLeftOf, with_blocks, FitsInPair, Gstate, Slot, gstate_xor, zero_gstate, Pair, blocks_of_pairs, pairs_gstate, pair_count_before_root, tree_on_disk, used_blocks, IsCompletion, no_move_from, IsChangedImage, number_count, HasNoMove, sync_bit_delta, IsStep, directory_goes, step_chain, site, Site, dirs_at, thread_at, IsDevice, IsWritableChange, ends_joined, KeptThread, thread_pair_at, IsChain, Path}
+use Rattle.lfs_operations.proofs.Common.{Some, ℕ, ◌≡◌, ◌≢◌, ◌⊎◌, inl, inr, ◌-◌, ◌<◌, true, false, nat_eq, List, [], ◌∷◌, ◌++◌, length, None, refl, sym, ap, subst, ◌∙◌, arith, append_assoc, append-nil, length-append, IsPairCommitted, LossLeavesPairChanged, IsDistinct, tree_removing, tree_with_subtree, Blocks, AreUsed, Disk, IsPairAt, HasEither as IsLeftOf, with_blocks, FitsInPair, Gstate, Slot, gstate_xor, zero_gstate, Pair, blocks_of_pairs, pairs_gstate, pair_count_before_root, tree_on_disk, used_blocks, IsCompletion, no_move_from, IsChangedImage, number_count, HasNoMove, sync_bit_delta, IsStep, directory_goes, step_chain, site, Site, dirs_at, thread_at, IsDevice, IsWritableChange, ends_joined, KeptThread, thread_pair_at, IsChain, Path, IsPairDropped, LeftByDrop, SameInFlight, ShowsAfterDrops, CanEditIn, drops_with_its_slot, tree_without_entry, CanRemoveDirectory, IsDirectoryRemoved, unlink_changes}
 use Rattle.lfs_model.specs.session.Operations as ops
-use Rattle.lfs_operations.specs.Dropping.{IsPairDropped, LeftByDrop, SameInFlight, ShowsAfterDrops}
-use Rattle.lfs_operations.specs.Editing.{CanEditIn}
-use Rattle.lfs_operations.specs.Removing.{drops_with_its_slot, tree_without_entry}
-use Rattle.lfs_operations.specs.Unlinking.{CanRemoveDirectory, IsDirectoryRemoved, unlink_changes}
 use Rattle.lfs_operations.proofs.Removed.{alone, flag_ends, stays_there}
 use Rattle.lfs_operations.proofs.Rmdir.{HasPlace, Unlinks, place_of, unlinked_count}
 use Rattle.lfs_operations.proofs.RmdirPlaces.{HasOwnPair, led_to, own_pair, HasFront, flag_from}

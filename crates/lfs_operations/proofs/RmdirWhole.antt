@@ -1,7 +1,5 @@
 -- The entry of an empty directory goes with its pair, which held nothing else, and then the directory's own pair goes.
-use Rattle.std.proofs.Common.{ℕ, ◌≡◌, ◌⊎◌, inl, inr, ◌+◌, ◌<◌, Bool, true, false, cond, nat_eq, List, [], ◌∷◌, ◌++◌, length, Option, Some, None, refl, sym, ap, subst, ◌∙◌, arith, append_assoc, length-append}
-use Rattle.std.specs.Prelude.{is_some}
-use Rattle.lfs_operations.proofs.Common.{IsDistinct, tree_with_subtree, tree_removing, Disk, directory_address, continued_address, Session, slot_of, Branch, Slot, is_superblock, zero_gstate, same_pair, path_or_root, Pair, blocks_of_pairs, pairs_gstate, is_hard_tail, pair_count_before_root, Path, IsAccepted, IsWritable, LeadsTo, all_entries, tree_on_disk, SameSlots, alike_append, alike_itself, IsChangedImage, IsCompletion, Each, each_append, each_left, each_right, onward_all, IsStep, IsRmdir, before_gone, from_kept, rmdir_completed, IsGone, rmdir_named, rmdir_taken, avoids_behind, avoids_front, Site, begin_of, dirs_at, thread_at, IsWritableChange, two, same_parts}
+use Rattle.lfs_operations.proofs.Common.{ℕ, ◌≡◌, ◌⊎◌, inl, inr, ◌+◌, ◌<◌, Bool, true, false, cond, nat_eq, List, [], ◌∷◌, ◌++◌, length, Option, Some, None, refl, sym, ap, subst, ◌∙◌, arith, append_assoc, length-append, IsDistinct, tree_with_subtree, tree_removing, Disk, directory_address, continued_address, Session, slot_of, Branch, Slot, is_superblock, zero_gstate, same_pair, path_or_root, Pair, blocks_of_pairs, pairs_gstate, is_hard_tail, pair_count_before_root, Path, IsAccepted, IsWritable, LeadsTo, all_entries, tree_on_disk, SameSlots, alike_append, alike_itself, IsChangedImage, IsCompletion, Each, each_append, each_left, each_right, onward_all, IsStep, IsRmdir, before_gone, from_kept, rmdir_completed, IsGone, rmdir_named, rmdir_taken, avoids_behind, avoids_front, Site, begin_of, dirs_at, thread_at, IsWritableChange, two, same_parts, is_some}
 use Rattle.lfs_model.specs.session.Operations as ops
 use Rattle.lfs_model.proofs.Unthreaded.{SameParts}
 use Rattle.lfs_operations.proofs.RemovedWhole.{last_pair}

@@ -1,6 +1,5 @@
 -- The root directory stays where it is: as many pairs stand in front of it as before.
-use Rattle.std.proofs.Common.{ℕ, zero, suc, ◌≡◌, true, List, [], ◌∷◌, ◌++◌, length, drop, Option, Some, refl, sym, ap, subst, ◌∙◌, slice_get}
-use Rattle.lfs_operations.proofs.Common.{same_Some, Disk, same_pair, AreLinked, Pair, anchor_address, pairs_from_root, first_address, tail_address_of, root_address, starts_superblock, pair_count_before_root, IsAccepted, first_slots, pair_itself, same_number, IsChain, pairs_behind}
+use Rattle.lfs_operations.proofs.Common.{ℕ, zero, suc, ◌≡◌, true, List, [], ◌∷◌, ◌++◌, length, drop, Option, Some, refl, sym, ap, subst, ◌∙◌, slice_get, same_Some, Disk, same_pair, AreLinked, Pair, anchor_address, pairs_from_root, first_address, tail_address_of, root_address, starts_superblock, pair_count_before_root, IsAccepted, first_slots, pair_itself, same_number, IsChain, pairs_behind}
 use Rattle.lfs_model.specs.layers.Steps.{SameSlots}
 use Rattle.lfs_operations.proofs.Threads.{get_behind}
 

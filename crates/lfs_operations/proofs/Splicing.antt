@@ -1,7 +1,5 @@
 -- A pair of an accepted image in which some slots are replaced by others, as a commit of the laws.
-use Rattle.std.proofs.Common.{ℕ, zero, suc, ◌≡◌, ◌+◌, ◌<◌, ◌≤◌, false, nat_eq, List, [], ◌∷◌, ◌++◌, length, Some, refl, sym, ap, subst, ◌∙◌, arith, ◌⊎◌, inl, inr}
-use Rattle.lfs_operations.proofs.Common.{IsDistinct, flat_map, recursion_from_All, BlockStates, IsFree, IsInFlight, Free, InFlight, PairChange, Disk, disk_block, SameGeometry, Slot, PairContent, gstate_xor, Pair, blocks_of_pairs, pairs_gstate, starts_superblock, struct_blocks, all_slots_not_moved, used_blocks, IsAccepted, IsTreeEntry, IsWellFormedCtz, IsWritable, IsWritableSlot, SameFiles, IsCommit, Each, each_counted, each_from_counted, number_count, count_append, once_from_distinct, distinct_from_once, SameFileBlocks, gstate_append, gstate_cons, gstate_kept, gstate_right, Site, thread_at, IsSite, file_blocks, KeptThread, complete_after, BeginWithSuperblock, cases_lt}
-use Rattle.lfs_operations.specs.Ready.{IsReadyImage}
+use Rattle.lfs_operations.proofs.Common.{ℕ, zero, suc, ◌≡◌, ◌+◌, ◌<◌, ◌≤◌, false, nat_eq, List, [], ◌∷◌, ◌++◌, length, Some, refl, sym, ap, subst, ◌∙◌, arith, ◌⊎◌, inl, inr, IsDistinct, flat_map, recursion_from_All, BlockStates, IsFree, IsInFlight, Free, InFlight, PairChange, Disk, disk_block, SameGeometry, Slot, PairContent, gstate_xor, Pair, blocks_of_pairs, pairs_gstate, starts_superblock, struct_blocks, all_slots_not_moved, used_blocks, IsAccepted, IsTreeEntry, IsWellFormedCtz, IsWritable, IsWritableSlot, SameFiles, IsCommit, Each, each_counted, each_from_counted, number_count, count_append, once_from_distinct, distinct_from_once, SameFileBlocks, gstate_append, gstate_cons, gstate_kept, gstate_right, Site, thread_at, IsSite, file_blocks, KeptThread, complete_after, BeginWithSuperblock, cases_lt, IsReadyImage}
 use Rattle.lfs_operations.proofs.MovTurned.{IsTurn}
 use Rattle.lfs_operations.proofs.MovSet.{HasTurned}
 use Rattle.lfs_operations.proofs.Owning.{count_pairs}

@@ -1,11 +1,6 @@
 -- What a change or a split comes to, and what a stop in it leaves, as a commit of the laws.
-use Rattle.std.proofs.Common.{ℕ, ◌≡◌, ◌≢◌, true, false, ◌⊎◌, inl, inr, ⊎_elim, ◌+◌, ◌<◌, ◌≤◌, List, [], ◌∷◌, ◌++◌, length, sym, ap, subst, ◌∙◌, arith, append-nil, nat_eq}
-use Rattle.std.specs.Prelude.{Contains}
-use Rattle.lfs_operations.proofs.Common.{cases_lt, recursion_from_All, Blocks, AreUsed, IsFree, PairChange, Disk, block_count, HasEither as IsLeftOf, SurvivesLossSince, with_blocks, Slot, Pair, blocks_of_pairs, pairs_gstate, pair_count_before_root, Tree, IsAccepted, IsWritable, all_slots_not_moved, tree_on_disk, used_blocks, Contains-number_count, number_count-Contains, IsChangedImage, SameFiles, SameFileBlocks, ends_joined, IsCommit, number_count, once_from_distinct, count_append, HoldsAtLosses-weaker, Site, dirs_at, thread_at, IsDevice, CallEvent, LossLeavesCleanly, KeptThread, IsDistinct}
+use Rattle.lfs_operations.proofs.Common.{ℕ, ◌≡◌, ◌≢◌, true, false, ◌⊎◌, inl, inr, ⊎_elim, ◌+◌, ◌<◌, ◌≤◌, List, [], ◌∷◌, ◌++◌, length, sym, ap, subst, ◌∙◌, arith, append-nil, nat_eq, cases_lt, recursion_from_All, Blocks, AreUsed, IsFree, PairChange, Disk, block_count, HasEither as IsLeftOf, SurvivesLossSince, with_blocks, Slot, Pair, blocks_of_pairs, pairs_gstate, pair_count_before_root, Tree, IsAccepted, IsWritable, all_slots_not_moved, tree_on_disk, used_blocks, Contains-number_count, number_count-Contains, IsChangedImage, SameFiles, SameFileBlocks, ends_joined, IsCommit, number_count, once_from_distinct, count_append, HoldsAtLosses-weaker, Site, dirs_at, thread_at, IsDevice, CallEvent, LossLeavesCleanly, KeptThread, IsDistinct, Contains, PathAddresses, LeftByTurn, IsTurned, AreUsedUntilUpdate, ShowsReadyTree, ShowsUpdatedTree, HasNoneNew, KeepsTakenStates}
 use Rattle.lfs_model.proofs.Committed.{commit_writable}
-use Rattle.lfs_model.proofs.Laws.{PathAddresses}
-use Rattle.lfs_operations.specs.Changing.{LeftByTurn, IsTurned}
-use Rattle.lfs_operations.specs.Ready.{AreUsedUntilUpdate, ShowsReadyTree, ShowsUpdatedTree, HasNoneNew, KeepsTakenStates}
 use Rattle.lfs_operations.proofs.Owning.{count_pairs, used_count_now, used_same}
 use Rattle.lfs_operations.proofs.Placing.{left_after, left_still}
 use Rattle.lfs_operations.proofs.RootStays.{root_stays}

@@ -1,23 +1,13 @@
 -- A file that gets other contents, as a step of the thread.
-use Rattle.std.proofs.Common.{nat_eq, ℕ, ◌≡◌, ◌⊎◌, inl, inr, ◌<◌, ◌≤◌, true, false, List, [], ◌∷◌, ◌++◌, length, Some, None, refl, sym, ap, ap₂, subst, ◌∙◌, arith}
-use Rattle.std.specs.Prelude.{All}
-use Rattle.lfs_operations.proofs.Common.{IsDistinct, cases_lt, recursion_from_All, tree_with_change, Name, IsInFlight, InFlight, Used, PairChange, PutStruct, read_struct, Disk, SameGeometry, disk_block, CallEvent, Operation, SurvivesLossSince, Session, Slot, Struct, Inline, Ctz, Branch, File, Directory, Superblock, Attributes, is_superblock, same_pair, Pair, blocks_of_pairs, EntryMap, FileNode, Tree, branch_address, IsWritableEntry, IsWritableSlot, IsTreeEntry, LeadsTo, all_slots_not_moved, all_entries, struct_blocks, tree_on_disk, used_blocks, Contains-number_count, IsChangedImage, IsCompletion, commit_step, recovered_from, Each, number_count, count_append, distinct_from_once, each_counted, each_from_counted, each_right, once_from_distinct, SameFileBlocks, file_blocks_same, is_list_same, some_filled, Site, begin_of, thread_at, LossLeavesCleanly, KeptThread}
+use Rattle.lfs_operations.proofs.Common.{nat_eq, ℕ, ◌≡◌, ◌⊎◌, inl, inr, ◌<◌, ◌≤◌, true, false, List, [], ◌∷◌, ◌++◌, length, Some, None, refl, sym, ap, ap₂, subst, ◌∙◌, arith, IsDistinct, cases_lt, recursion_from_All, tree_with_change, Name, IsInFlight, InFlight, Used, PairChange, PutStruct, read_struct, Disk, SameGeometry, disk_block, CallEvent, Operation, SurvivesLossSince, Session, Slot, Struct, Inline, Ctz, Branch, File, Directory, Superblock, Attributes, is_superblock, same_pair, Pair, blocks_of_pairs, EntryMap, FileNode, Tree, branch_address, IsWritableEntry, IsWritableSlot, IsTreeEntry, LeadsTo, all_slots_not_moved, all_entries, struct_blocks, tree_on_disk, used_blocks, Contains-number_count, IsChangedImage, IsCompletion, commit_step, recovered_from, Each, number_count, count_append, distinct_from_once, each_counted, each_from_counted, each_right, once_from_distinct, SameFileBlocks, file_blocks_same, is_list_same, some_filled, Site, begin_of, thread_at, LossLeavesCleanly, KeptThread, All, SlotKind, HasKind, puts_struct, with_struct, bytes_change, close_completed, sync_completed, CanTurn, LeftByTurn, IsTurned, CanEditIn, editable_slot, CanSetStruct, HasStoredContents, tree_with_contents}
 use Rattle.lfs_model.specs.format.Disk.{inline_limit}
 use Rattle.lfs_model.specs.session.Operations as ops
 use Rattle.lfs_model.specs.session.SlotEdits.{StoresBytes}
-use Rattle.lfs_model.specs.format.Slots.{SlotKind}
 use Rattle.lfs_model.specs.session.Effects.{file_with_bytes}
 use Rattle.lfs_model.specs.tree.Tree.{struct_node}
 use Rattle.lfs_model.specs.tree.Profile.{InlineBytesFit}
-use Rattle.lfs_model.specs.tree.View.{HasKind}
 use Rattle.lfs_model.specs.tree.Shown.{struct_list_bytes}
-use Rattle.lfs_model.proofs.Effects.{puts_struct, with_struct}
 use Rattle.lfs_model.proofs.Files.{contents_same}
-use Rattle.lfs_model.proofs.Moves.{bytes_change}
-use Rattle.lfs_model.proofs.OneCommit.{close_completed, sync_completed}
-use Rattle.lfs_operations.specs.Changing.{CanTurn, LeftByTurn, IsTurned}
-use Rattle.lfs_operations.specs.Editing.{CanEditIn, editable_slot}
-use Rattle.lfs_operations.specs.Storing.{CanSetStruct, HasStoredContents, tree_with_contents}
 use Rattle.lfs_operations.proofs.Held.{each_pair}
 use Rattle.lfs_operations.proofs.RawSlots.{complete_struct}
 use Rattle.lfs_operations.proofs.Replacing as replacing

@@ -1,7 +1,5 @@
 -- Two free blocks that are taken.
-use Rattle.std.proofs.Common.{ℕ, zero, suc, ◌≡◌, ◌≢◌, ◌<◌, Bool, true, false, nat_eq, [], ◌∷◌, length, Some, refl, sym, ap, subst, ◌∙◌, arith, set, slice_get, eqb-true, eq-eqb}
-use Rattle.lfs_operations.proofs.Common.{same_Some, BlockState, BlockStates, IsFree, Free, InFlight, slice_get-set_same, slice_get-set_other}
-use Rattle.lfs_operations.specs.Changing.{AreTwoFree}
+use Rattle.lfs_operations.proofs.Common.{ℕ, zero, suc, ◌≡◌, ◌≢◌, ◌<◌, Bool, true, false, nat_eq, [], ◌∷◌, length, Some, refl, sym, ap, subst, ◌∙◌, arith, set, slice_get, eqb-true, eq-eqb, same_Some, BlockState, BlockStates, IsFree, Free, InFlight, slice_get-set_same, slice_get-set_other, AreTwoFree}
 
 pub within : (sets : BlockStates) (b : ℕ) (s : BlockState) → slice_get sets b ≡ Some s → b < length sets
 within [] b s e = absurd (cc)

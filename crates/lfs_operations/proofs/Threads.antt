@@ -1,9 +1,6 @@
 -- Pairs of a thread, by their numbers; and the pair of a number by its site: where it stands, and which blocks change with it.
-use Rattle.std.proofs.Common.{ℕ, suc, ◌≡◌, ◌+◌, ◌<◌, ◌≤◌, Bool, true, false, cond, eqb-true, nat_eq, List, [], ◌∷◌, ◌++◌, length, Some, refl, sym, ap, ap₂, subst, ◌∙◌, arith, append_assoc, length-append, get_or, set, insert, slice_get, take}
-use Rattle.lfs_operations.proofs.Common.{IsDistinct, AreUsed, IsFree, Free, content_at, current_block, Disk, disk_block, block_count, SameGeometry, PairContent, gstate_xor, zero_gstate, Pair, blocks_of_pairs, pairs_gstate, BeginsWith, superblock_entry, used_blocks, Each, number_count, once_from_distinct, distinct_from_once, Site, thread_at, HasFirst, KeepsOutsideBoth, KeptThread, thread_pair_at, empty_anchor, pairs_with, SameGeometryAs, HasOldPair, IsPairWritten, BeginWithSuperblock, gstate_comm, gstate_cons, gstate_right, sync_bit_delta, site_gstate_moved}
+use Rattle.lfs_operations.proofs.Common.{ℕ, suc, ◌≡◌, ◌+◌, ◌<◌, ◌≤◌, Bool, true, false, cond, eqb-true, nat_eq, List, [], ◌∷◌, ◌++◌, length, Some, refl, sym, ap, ap₂, subst, ◌∙◌, arith, append_assoc, length-append, get_or, set, insert, slice_get, take, IsDistinct, AreUsed, IsFree, Free, content_at, current_block, Disk, disk_block, block_count, SameGeometry, PairContent, gstate_xor, zero_gstate, Pair, blocks_of_pairs, pairs_gstate, BeginsWith, superblock_entry, used_blocks, Each, number_count, once_from_distinct, distinct_from_once, Site, thread_at, HasFirst, KeepsOutsideBoth, KeptThread, thread_pair_at, empty_anchor, pairs_with, SameGeometryAs, HasOldPair, IsPairWritten, BeginWithSuperblock, gstate_comm, gstate_cons, gstate_right, sync_bit_delta, site_gstate_moved, pairs_with_split, AreTwoFree}
 use Rattle.lfs_pair.specs.Commits.{KeepsOutsidePair}
-use Rattle.lfs_thread.specs.ThreadSteps.{pairs_with_split}
-use Rattle.lfs_operations.specs.Changing.{AreTwoFree}
 use Rattle.lfs_operations.proofs.Placing.{IsPlaced, all_apart}
 use Rattle.lfs_operations.proofs.Taking.{within}
 use Rattle.lfs_operations.proofs.Owning.{not_used}

@@ -1,9 +1,5 @@
 -- A pair of an image with nothing to recover, whose commit turns the sync bit: the step, and what a stop leaves.
-use Rattle.std.proofs.Common.{ℕ, ◌≡◌, ◌≢◌, ◌⊎◌, inl, inr, ◌+◌, true, false, List, [], ◌∷◌, ◌++◌, length, Some, refl, sym, ap, subst, ◌∙◌, arith, append-nil}
-use Rattle.lfs_operations.proofs.Common.{recursion_from_All, Blocks, PairChange, Disk, SameGeometry, HasEither as IsLeftOf, with_blocks, IsWritableSlot, IsWritable, all_slots_not_moved, tree_on_disk, pair_with_slots, FitsInPair, Slot, gstate_xor, zero_gstate, PathAddresses, Pair, pairs_gstate, starts_superblock, Tree, IsAccepted, fits_same, IsChangedImage, SameFiles, no_move_from, Each, SameFileBlocks, HasNoMove, sync_bit_delta, IsStep, IsSite, Site, thread_at, IsDevice, stays_shape, IsWritableChange, ends_joined, KeptThread, LossLeavesPairChanged, BeginWithSuperblock, complete_after}
-use Rattle.lfs_model.proofs.Splices.{IsSplice}
-use Rattle.lfs_model.proofs.StepsTaken.{commit_taken}
-use Rattle.lfs_operations.specs.Ready.{IsReadyImage}
+use Rattle.lfs_operations.proofs.Common.{ℕ, ◌≡◌, ◌≢◌, ◌⊎◌, inl, inr, ◌+◌, true, false, List, [], ◌∷◌, ◌++◌, length, Some, refl, sym, ap, subst, ◌∙◌, arith, append-nil, recursion_from_All, Blocks, PairChange, Disk, SameGeometry, HasEither as IsLeftOf, with_blocks, IsWritableSlot, IsWritable, all_slots_not_moved, tree_on_disk, pair_with_slots, FitsInPair, Slot, gstate_xor, zero_gstate, PathAddresses, Pair, pairs_gstate, starts_superblock, Tree, IsAccepted, fits_same, IsChangedImage, SameFiles, no_move_from, Each, SameFileBlocks, HasNoMove, sync_bit_delta, IsStep, IsSite, Site, thread_at, IsDevice, stays_shape, IsWritableChange, ends_joined, KeptThread, LossLeavesPairChanged, BeginWithSuperblock, complete_after, IsSplice, commit_taken, IsReadyImage}
 use Rattle.lfs_operations.proofs.MovSet.{HasTurned}
 use Rattle.lfs_operations.proofs.MovTurned.{IsTurn, content_with, left_alone}
 use Rattle.lfs_operations.proofs.Placing.{left_after, left_still}

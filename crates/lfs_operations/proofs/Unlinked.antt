@@ -1,9 +1,5 @@
 -- An entry that goes while the sync bit turns, as a change of its pair.
-use Rattle.std.proofs.Common.{ℕ, ◌≡◌, ◌<◌, List, [], ◌∷◌, ◌++◌, length, Some, refl, sym, ap, ap₂, subst, ◌∙◌, arith, length-append, remove, sum_by}
-use Rattle.std.specs.Option.{option_and_then}
-use Rattle.lfs_operations.proofs.Common.{PairContent, same_Some, sum_by-append, sum_by-cons, Delete, PutMove, changed_content_of, RawContent, complete_content, raw_content, MoveStateFits, FitsInPair, Gstate, Slot, gstate_xor, slot_size, Pair, complete_length, complete_remove, completed_from, completed_parts, deletes, does_first, does_nothing, puts_move, sync_bit_delta, remove_here, KeptThread, CanChangePair, RefusesCommit, complete_after, thread_pair_at}
-use Rattle.lfs_operations.specs.Editing.{CanEditIn}
-use Rattle.lfs_operations.specs.Unlinking.{unlink_changes}
+use Rattle.lfs_operations.proofs.Common.{ℕ, ◌≡◌, ◌<◌, List, [], ◌∷◌, ◌++◌, length, Some, refl, sym, ap, ap₂, subst, ◌∙◌, arith, length-append, remove, sum_by, PairContent, same_Some, sum_by-append, sum_by-cons, Delete, PutMove, changed_content_of, RawContent, complete_content, raw_content, MoveStateFits, FitsInPair, Gstate, Slot, gstate_xor, slot_size, Pair, complete_length, complete_remove, completed_from, completed_parts, deletes, does_first, does_nothing, puts_move, sync_bit_delta, remove_here, KeptThread, CanChangePair, RefusesCommit, complete_after, thread_pair_at, option_and_then, CanEditIn, unlink_changes}
 use Rattle.lfs_operations.proofs.DroppedTails.{move_xor}
 use Rattle.lfs_operations.proofs.Held.{CompletesTo, below, fits_there, here, raw_there}
 

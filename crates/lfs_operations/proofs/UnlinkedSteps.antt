@@ -1,15 +1,8 @@
--- Two steps of the thread, one after the other: what they write and tell, and what a stop in them leaves.
-use Rattle.std.proofs.Common.{◌⊎◌, ℕ, zero, suc, ◌≡◌, ◌≢◌, ◌-◌, ◌<◌, Result, Ok, List, [], ◌∷◌, get_or, set, refl, sym, ap, subst, ◌∙◌, true, false, cond, inl, inr}
-use Rattle.std.specs.Prelude.{All}
-use Rattle.lfs_operations.proofs.Common.{IsPairCommitted, LossLeavesPairChanged, PairChange, All-from_recursion, recursion_from_All, CallEvent, fault_count, SurvivesLossSince, PairContent, zero_gstate, Pair, address_blocks, addresses_blocks, tree_on_disk, AllCallsSince-behind, AllCallsSince-until, HoldsAtLosses-trans, HoldsAtLosses-weaker, LossLeavesCleanly, KeptThread, ThreadView, ChangesThreadBlocks, empty_anchor, thread_pair_at, sync_bit_delta}
-use Rattle.lfs_device.specs.declared.error.Error.{Error}
-use Rattle.lfs_operations.specs.Dropping.{IsPairDropped, LeftByDrop}
-use Rattle.lfs_operations.specs.Removing.{ReportsErrorsOfCommitTakingNoBlock, drops_with_its_slot, tree_without_entry, written_by_removal}
-use Rattle.lfs_operations.specs.Unlinking.{CanRemoveDirectory, unlink_changes, ReportsErrorsOfCommitsTakingNoBlock, number_after_drop}
+-- Two steps of the thread, one after the other: what they write and tell.
+use Rattle.lfs_operations.proofs.Common.{◌⊎◌, ℕ, zero, suc, ◌≡◌, ◌≢◌, ◌-◌, ◌<◌, Result, Ok, List, [], ◌∷◌, get_or, set, refl, sym, ap, subst, ◌∙◌, true, false, cond, inl, inr, IsPairCommitted, PairChange, All-from_recursion, recursion_from_All, fault_count, PairContent, Pair, address_blocks, addresses_blocks, KeptThread, ThreadView, ChangesThreadBlocks, empty_anchor, thread_pair_at, sync_bit_delta, All, Error, IsPairDropped, ReportsErrorsOfCommitTakingNoBlock, drops_with_its_slot, written_by_removal, CanRemoveDirectory, ReportsErrorsOfCommitsTakingNoBlock, number_after_drop}
 use Rattle.lfs_operations.proofs.Putting.{writes_trans, writes_wider}
 use Rattle.lfs_operations.proofs.RemovedWhole.{StandsWhole}
-use Rattle.lfs_operations.proofs.RmdirThread.{left_first, left_second}
-use Rattle.lfs_operations.proofs.UnlinkedWhole.{whole_first, whole_second, written_then}
+use Rattle.lfs_operations.proofs.UnlinkedWhole.{written_then}
 
 -- ---- blocks
 
@@ -56,29 +49,10 @@ steps_then old mid new a first second ok one two =
       no_fault = λ other. two.reported.no_fault other ∙ same;
     }
 
--- ---- at a stop
+-- ---- an entry's pair that goes with it
 
 module _ (t : KeptThread) (index id first gone : ℕ) (take : CanRemoveDirectory t index id first gone) where
-  module _ (goes : drops_with_its_slot t index first ≡ false) where
-    pub first_survives : (new : List CallEvent) → LossLeavesCleanly t.history new (LossLeavesPairChanged t index (unlink_changes t index id)) → SurvivesLossSince t.disk t.history new (tree_on_disk t.disk t.pairs) (tree_without_entry t take.can.path take.can.name)
-    first_survives new stops clean = HoldsAtLosses-weaker (left_first t index id first gone take goes) (stops clean)
-
-    pub both_survive : (m new : KeptThread) (bs cs : List ℕ) → IsPairCommitted t index (unlink_changes t index id) m → ChangesThreadBlocks bs t m → ChangesThreadBlocks cs m new → LossLeavesCleanly t.history m.history (LossLeavesPairChanged t index (unlink_changes t index id))
-        → LossLeavesCleanly m.history new.history (LeftByDrop m (gone - 1) zero_gstate) → SurvivesLossSince t.disk t.history new.history (tree_on_disk t.disk t.pairs) (tree_without_entry t take.can.path take.can.name)
-    both_survive m new bs cs h one two before after clean = HoldsAtLosses-trans
-        (HoldsAtLosses-weaker (left_first t index id first gone take goes) (before (AllCallsSince-until clean one.at_worst two.at_worst)))
-        (HoldsAtLosses-weaker (left_second t index id first gone take goes m h) (after (AllCallsSince-behind clean one.at_worst two.at_worst)))
-
   module _ (s : StandsWhole t index id take.can) where
-    pub first_survives_whole : (new : List CallEvent) → LossLeavesCleanly t.history new (LeftByDrop t (index - 1) sync_bit_delta) → SurvivesLossSince t.disk t.history new (tree_on_disk t.disk t.pairs) (tree_without_entry t take.can.path take.can.name)
-    first_survives_whole new stops clean = HoldsAtLosses-weaker (whole_first t index id first gone take s) (stops clean)
-
-    pub both_survive_whole : (m new : KeptThread) (bs cs : List ℕ) → IsPairDropped t (index - 1) sync_bit_delta m → ChangesThreadBlocks bs t m → ChangesThreadBlocks cs m new → LossLeavesCleanly t.history m.history (LeftByDrop t (index - 1) sync_bit_delta)
-        → LossLeavesCleanly m.history new.history (LeftByDrop m (number_after_drop index gone - 1) zero_gstate) → SurvivesLossSince t.disk t.history new.history (tree_on_disk t.disk t.pairs) (tree_without_entry t take.can.path take.can.name)
-    both_survive_whole m new bs cs h one two before after clean = HoldsAtLosses-trans
-        (HoldsAtLosses-weaker (whole_first t index id first gone take s) (before (AllCallsSince-until clean one.at_worst two.at_worst)))
-        (HoldsAtLosses-weaker (whole_second t index id first gone take s m h) (after (AllCallsSince-behind clean one.at_worst two.at_worst)))
-
     pub writes_whole : (m new : KeptThread) → IsPairDropped t (index - 1) sync_bit_delta m → ChangesThreadBlocks (address_blocks (thread_pair_at t (index - 1)).at) t m → ChangesThreadBlocks (address_blocks (thread_pair_at m (number_after_drop index gone - 1)).at) m new
         → ChangesThreadBlocks (addresses_blocks (thread_pair_at t (index - 1)).at (thread_pair_at t (gone - 1)).at) t new
     writes_whole m new h one two = go (written_then t index id first gone take s m h)

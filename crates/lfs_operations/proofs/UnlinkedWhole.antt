@@ -1,14 +1,7 @@
 -- An empty directory that goes in two steps of the thread, the first of which drops its entry's pair.
-use Rattle.std.proofs.Common.{ℕ, ◌≡◌, ◌⊎◌, inl, inr, ◌+◌, ◌-◌, ◌<◌, ◌≤◌, Bool, true, false, cond, List, [], ◌∷◌, ◌++◌, length, refl, sym, ap, ap₂, subst, ◌∙◌, arith, append_assoc, append-nil, length-append, None}
-use Rattle.std.specs.Prelude.{nat_lt}
 use Rattle.std.proofs.lemmas.Bool.{ltb-false, ltb-true}
-use Rattle.lfs_operations.proofs.Common.{tree_removing, tree_with_subtree, Blocks, Disk, HasEither as IsLeftOf, with_blocks, PairContent, Gstate, Slot, zero_gstate, Pair, pairs_gstate, starts_superblock, pair_count_before_root, Path, IsAccepted, IsWritable, LeadsTo, tree_on_disk, used_blocks, IsCompletion, no_move_from, number_count, HasNoMove, sync_bit_delta, IsStep, directory_goes, step_chain, Site, dirs_at, thread_at, drop_shape, file_blocks, IsWritableChange, KeptThread, IsPairWritten, thread_pair_at, IsChain}
+use Rattle.lfs_operations.proofs.Common.{ℕ, ◌≡◌, ◌⊎◌, inl, inr, ◌+◌, ◌-◌, ◌<◌, ◌≤◌, Bool, true, false, cond, List, [], ◌∷◌, ◌++◌, length, refl, sym, ap, ap₂, subst, ◌∙◌, arith, append_assoc, append-nil, length-append, None, tree_removing, tree_with_subtree, Blocks, Disk, HasEither as IsLeftOf, with_blocks, PairContent, Gstate, Slot, zero_gstate, Pair, pairs_gstate, starts_superblock, pair_count_before_root, Path, IsAccepted, IsWritable, LeadsTo, tree_on_disk, used_blocks, IsCompletion, no_move_from, number_count, HasNoMove, sync_bit_delta, IsStep, directory_goes, step_chain, Site, dirs_at, thread_at, drop_shape, file_blocks, IsWritableChange, KeptThread, IsPairWritten, thread_pair_at, IsChain, nat_lt, drop_taken, CanDropAt, IsPairDropped, LeftByDrop, content_after_drop, ShowsAfterDrops, CanEditIn, tree_without_entry, CanRemoveDirectory, IsDirectoryRemoved, number_after_drop}
 use Rattle.lfs_model.specs.session.Operations as ops
-use Rattle.lfs_model.proofs.StepsTaken.{drop_taken}
-use Rattle.lfs_operations.specs.Dropping.{CanDropAt, IsPairDropped, LeftByDrop, content_after_drop, ShowsAfterDrops}
-use Rattle.lfs_operations.specs.Editing.{CanEditIn}
-use Rattle.lfs_operations.specs.Removing.{tree_without_entry}
-use Rattle.lfs_operations.specs.Unlinking.{CanRemoveDirectory, IsDirectoryRemoved, number_after_drop}
 use Rattle.lfs_operations.proofs.Dropped.{HasMapWithout, IsToBeDropped, can_drop_pair, device_left, front_there, left_dropped, map_dropped, pairs_left, slots_left, state_left, tail_left}
 use Rattle.lfs_operations.proofs.DroppedTails.{front_is}
 use Rattle.lfs_operations.proofs.Placing.{left_after}

@@ -20,8 +20,9 @@ use Rattle.lfs_model.specs.tree.Tree.{Path, Tree, DirectoryNode}
 use Rattle.lfs_model.specs.tree.Shown.{LeadsTo, tree_on_disk}
 use Rattle.lfs_model.specs.layers.WrittenContent.{address_bytes}
 use Rattle.lfs_model.specs.layers.Steps.{IsCompletion, with_sync_inverted}
+use Rattle.lfs_model.specs.format.Thread.{address_blocks}
 use Rattle.lfs_thread.specs.Kept.{KeptThread, ThreadView}
-use Rattle.lfs_thread.specs.ThreadSteps.{ChangesThreadBlocks, complete_after, thread_pair_at}
+use Rattle.lfs_thread.specs.ThreadSteps.{CanThreadIn, IoMeantFaultNoMemoryKeptOtherBlocks, ChangesThreadBlocks, complete_after, thread_pair_at}
 use Rattle.lfs_operations.specs.Changing.{IsPairTouched}
 use Rattle.lfs_operations.specs.Ready.{ShowsReadyTree, IsReadyImage}
 
@@ -69,6 +70,16 @@ adding_changes t pair id name to = entry_changes t pair id name (address_bytes t
 -- what the first commit makes fits the pair
 abbrev pub FitsNewTail : KeptThread → ℕ → ℕ × ℕ → Type 0
 FitsNewTail t last fresh = (content : PairContent) → complete_after t last (threading_changes t last fresh) ≡ Some content → FitsInPair t.disk.block_size t.disk.page content
+
+-- The fresh pair can come into the thread after the last one, and what that pair then holds fits it.
+pub record CanLink (t : KeptThread) (last : ℕ) (fresh : ℕ × ℕ) : Type 0 where
+  pub can : CanThreadIn t last fresh (threading_changes t last fresh)
+  pub fits : FitsNewTail t last fresh
+
+-- what the first step reports, and whether the thread has failed after it
+pub record ReportsErrorsOfLink {X : Type 0} (old new : ThreadView) (fresh : ℕ × ℕ) (result : Result X Error) : Type 0 where
+  pub failed : new.failed ≡ is_err result
+  pub reported : IoMeantFaultNoMemoryKeptOtherBlocks (address_blocks fresh) old.kept new.kept result
 
 -- ---- what the operation leaves
 

@@ -1,34 +1,31 @@
 -- A rename from one pair onto an entry of another.
 use Rattle.std.specs.Prelude.{ℕ, ◌≡◌, ◌≢◌, ◌++◌, None, ◌≤◌, ◌<◌, ◌+◌, Bool, true, false, List, [], ◌∷◌, length}
-use Rattle.lfs_model.specs.tree.Tree.{Path, branch_address}
+use Rattle.lfs_model.specs.tree.Tree.{Path, Tree, branch_address}
 use Rattle.lfs_model.specs.session.TreeEdits.{without_prefix}
 use Rattle.lfs_model.specs.session.Operations as ops
 use Rattle.lfs_model.specs.session.Session.{Session}
 use Rattle.lfs_model.specs.session.Refusals.{path_or_root}
 use Rattle.lfs_model.specs.layers.Steps.{IsCompletion, number_count}
-use Rattle.lfs_model.specs.layers.Changes.{PairChange, Delete, PutMove}
+use Rattle.lfs_model.specs.layers.Changes.{PairChange}
 use Rattle.lfs_model.specs.session.InDirectory.{IsPairAt, IsPlaceOf}
 use Rattle.lfs_model.specs.layers.LoggedContent.{AreWords}
 use Rattle.lfs_model.specs.format.Names.{Name}
-use Rattle.lfs_model.specs.format.Slots.{Branch, Struct, gstate_xor, same_pair}
+use Rattle.lfs_model.specs.format.Slots.{Branch, Struct, same_pair}
 use Rattle.lfs_model.specs.format.Thread.{is_hard_tail}
 use Rattle.lfs_model.specs.tree.Profile.{IsWritableEntry}
 use Rattle.lfs_model.specs.tree.Shown.{struct_blocks, LeadsTo, tree_on_disk, used_blocks}
 use Rattle.lfs_thread.specs.Kept.{KeptThread}
-use Rattle.lfs_thread.specs.ThreadSteps.{OnlyReadsThread, thread_pair_at}
+use Rattle.lfs_thread.specs.ThreadSteps.{thread_pair_at}
 use Rattle.lfs_operations.specs.Editing.{CanEditIn, editable_slot}
 use Rattle.lfs_operations.specs.Dropping.{ShowsAfterDrops}
 use Rattle.lfs_operations.specs.Ready.{IsRawFormed}
 use Rattle.lfs_operations.specs.Removing.{drops_with_its_slot}
-use Rattle.lfs_operations.specs.RenamingSlots.{nameless_at, slot_changes}
-use Rattle.lfs_operations.specs.MoveEnds.{gstate_naming}
 use Rattle.lfs_operations.specs.MovingSteps.{IsPutEnded}
-use Rattle.lfs_operations.specs.MovingAcross.{tree_moved}
+use Rattle.lfs_operations.specs.MovingAcross.{CanRenameAcross, moving_changes, tree_moved}
 
--- the changes to the new pair: those of moving_changes, and the slot that was there is removed; the sync bit is set or not
+-- the changes to the new pair onto an entry: the slot that was there is removed; the sync bit is set or not
 abbrev pub entry_over_changes : Bool → KeptThread → (old_pair old_id new_pair new_id : ℕ) → Name → List PairChange
-entry_over_changes sync t old_pair old_id new_pair new_id name =
-    PutMove (gstate_xor (gstate_naming sync (thread_pair_at t old_pair).at old_id) (thread_pair_at t new_pair).content.move) ∷ Delete new_id ∷ slot_changes new_id name (nameless_at t old_pair old_id)
+entry_over_changes sync t old_pair old_id new_pair new_id name = moving_changes true sync t old_pair old_id new_pair new_id name
 
 abbrev pub file_over_changes : KeptThread → (old_pair old_id new_pair new_id : ℕ) → Name → List PairChange
 file_over_changes t old_pair old_id new_pair new_id name = entry_over_changes false t old_pair old_id new_pair new_id name
@@ -67,12 +64,20 @@ pub record CanReplaceEntryOver (t : KeptThread) (sync : Bool) (old_pair old_id f
   pub not_beneath : without_prefix (old.path ++ old.name ∷ []) (path ++ name ∷ []) ≡ None
   pub fits : IsWritableEntry t.disk.profile t.disk.block_size t.disk.page (record (editable_slot old) { name = name })
 
--- The slot was read, a copy of it was put in place of the other one, and then the move ended.
-pub record IsEntryReplaced (old : KeptThread) (sync : Bool) (old_pair old_id first new_pair new_id : ℕ) (name : Name) (new : KeptThread) : Type 0 where
-  pub from : KeptThread
-  pub only : OnlyReadsThread old from
-  pub address : AreWords (thread_pair_at from old_pair).at
-  pub done : IsPutEnded from old_pair old_id (drops_with_its_slot old old_pair first) new_pair (entry_over_changes sync from old_pair old_id new_pair new_id name) new
+-- the premises of a rename to a name that is new in the other pair, or onto an entry of it
+abbrev pub CanMoveAcross : KeptThread → (replaces sync : Bool) → (old_pair old_id first new_pair new_id : ℕ) → Name → Type 0
+CanMoveAcross t false sync old_pair old_id first new_pair new_id name = CanRenameAcross t old_pair old_id first new_pair new_id name
+CanMoveAcross t true sync old_pair old_id first new_pair new_id name = CanReplaceEntryOver t sync old_pair old_id first new_pair new_id name
+
+-- the tree after it
+abbrev pub tree_across : (t : KeptThread) (replaces sync : Bool) (old_pair old_id first new_pair new_id : ℕ) (name : Name) → CanMoveAcross t replaces sync old_pair old_id first new_pair new_id name → Tree
+tree_across t false sync old_pair old_id first new_pair new_id name rename = tree_moved t rename.old.path rename.old.name rename.path name
+tree_across t true sync old_pair old_id first new_pair new_id name rename = tree_moved t rename.old.path rename.old.name rename.path name
+
+-- A copy of the slot was put in, and then the move ended.
+pub record IsMovedAcross (old : KeptThread) (replaces sync : Bool) (old_pair old_id first new_pair new_id : ℕ) (name : Name) (new : KeptThread) : Type 0 where
+  pub address : AreWords (thread_pair_at old old_pair).at
+  pub done : IsPutEnded old old_pair old_id (drops_with_its_slot old old_pair first) new_pair (moving_changes replaces sync old old_pair old_id new_pair new_id name) new
 
 -- The tree has the entry in the file's place. So a rename of its path onto the file's is completed. The blocks of the file's list
 -- are `gone`, each once, and none of them is the image's.

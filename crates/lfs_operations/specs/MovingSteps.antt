@@ -14,7 +14,7 @@ use Rattle.lfs_model.specs.tree.Shown.{tree_on_disk}
 use Rattle.lfs_thread.specs.Kept.{KeptThread, ThreadView}
 use Rattle.lfs_thread.specs.ThreadDevice.{LossLeavesCleanly}
 use Rattle.lfs_thread.specs.ThreadSteps.{OnlyReadsThread, ChangesThreadBlocks, thread_pair_at}
-use Rattle.lfs_operations.specs.Changing.{HasTwoFree, LeftByTurn, IsTurned, ChangeIsTooLarge, TakesAtMostTwo, has_failed_after}
+use Rattle.lfs_operations.specs.Changing.{CanTurn, HasTwoFree, LeftByTurn, IsTurned, ChangeIsTooLarge, TakesAtMostTwo, has_failed_after}
 use Rattle.lfs_operations.specs.Removing.{drops_with_its_slot}
 use Rattle.lfs_operations.specs.MoveEnds.{CanEndAt, written_at_end, HasEndedAt}
 
@@ -28,6 +28,11 @@ pub record CanEndSecond (old : KeptThread) (old_pair old_id : ℕ) (goes : Bool)
   pub grown : length old.pairs ≤ length mid.pairs
   pub can : CanEndAt mid (number_after_insertion old_pair new_pair (length mid.pairs - length old.pairs)) old_id goes
   pub at : (thread_pair_at mid (number_after_insertion old_pair new_pair (length mid.pairs - length old.pairs))).at ≡ (thread_pair_at old old_pair).at
+
+-- The changes can be put into the new pair, and then the move can end at the old one.
+pub record CanPutAndEnd (t : KeptThread) (old_pair old_id : ℕ) (goes : Bool) (new_pair : ℕ) (changes : List PairChange) : Type 0 where
+  pub turns : CanTurn t new_pair changes
+  pub ends : (mid : KeptThread) → IsTurned t new_pair changes mid → CanEndSecond t old_pair old_id goes new_pair mid
 
 -- The changes were put into the new pair, and then the move ended. Pairs have no new blocks but at most two that were free.
 pub record IsPutEnded (old : KeptThread) (old_pair old_id : ℕ) (goes : Bool) (new_pair : ℕ) (changes : List PairChange) (new : KeptThread) : Type 0 where

@@ -11,7 +11,7 @@ ghost use Rattle.lfs_operations.specs.Editing.{CanEditIn, CanSetAttribute, HasRe
 ghost use Rattle.lfs_operations.specs.Removing.{ReportsErrorsOfCommitTakingNoBlock};
 ghost use Rattle.lfs_model.specs.format.Thread.{address_blocks};
 
-use crate::changes::change_or_split;
+use crate::changes::{change_or_split, commit_fitting};
 use lfs_device::{BlockDevice, Error};
 use lfs_pair::Change;
 use lfs_thread::Thread;
@@ -44,8 +44,7 @@ pub fn set_attribute<D: BlockDevice>(
         attr: kind,
         bytes,
     }];
-    change_or_split(alloc, thread, pair, &changes)?;
-    Ok(())
+    change_or_split(alloc, thread, pair, &changes)
 }
 
 /// Removes the attribute of that type from the entry at the id of a pair, if it has it.
@@ -67,6 +66,5 @@ pub fn remove_attribute<D: BlockDevice>(
         (tree_on_disk thread.old.kept.disk thread.old.kept.pairs) (tree_with_attributes_set thread.old.kept can.path can.name (attributes_without kind)) }
 {
     // What is left fits, so the commit is never refused.
-    thread.commit_pair_changes(alloc, pair, &[Change::NoAttr { id, attr: kind }])?;
-    Ok(())
+    commit_fitting(alloc, thread, pair, &[Change::NoAttr { id, attr: kind }])
 }

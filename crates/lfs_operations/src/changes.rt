@@ -5,7 +5,10 @@ ghost use Rattle.lfs_model.specs.session.History.{read_count};
 ghost use Rattle.lfs_model.specs.format.Slots.{array_address};
 ghost use Rattle.lfs_pair.specs.ChangeView.{changes_view};
 ghost use Rattle.lfs_thread.specs.ThreadDevice.{LossLeavesCleanly};
-ghost use Rattle.lfs_operations.specs.Changing.{AreTwoFree, CanTurn, HasTwoFree, IsPairSplit, LeftBySplit, LeftByTurn, IsTurned, ReportsErrorsOfCommitTakingBlocks, ReportsErrorsOfChangeOrSplit, WritesPairTwo, map_taking_two};
+ghost use Rattle.lfs_model.specs.format.Thread.{address_blocks};
+ghost use Rattle.lfs_thread.specs.ThreadSteps.{ChangesThreadBlocks, IsPairCommitted, LossLeavesPairChanged, thread_pair_at};
+ghost use Rattle.lfs_operations.specs.Removing.{ReportsErrorsOfCommitTakingNoBlock};
+ghost use Rattle.lfs_operations.specs.Changing.{AreTwoFree, CanCommit, CanTurn, HasTwoFree, IsPairSplit, LeftBySplit, LeftByTurn, IsTurned, ReportsErrorsOfCommitTakingBlocks, ReportsErrorsOfChangeOrSplit, WritesPairTwo, map_taking_two};
 
 use lfs_device::{BlockDevice, Error};
 use lfs_pair::{Change, Outcome};
@@ -49,8 +52,7 @@ fn split_in_two<D: BlockDevice>(
     let Some(fresh) = take_two_blocks(thread) else {
         return Err(Error::NoSpace);
     };
-    thread.split(alloc, index, fresh, changes)?;
-    Ok(())
+    thread.split(alloc, index, fresh, changes)
 }
 
 // Commits changes to a pair, or splits the pair where what they make doesn't fit.
@@ -70,9 +72,24 @@ pub(crate) fn change_or_split<D: BlockDevice>(
 {
     match thread.commit_pair_changes(alloc, index, changes)? {
         Outcome::Done => Ok(()),
-        Outcome::Full => {
-            split_in_two(alloc, thread, index, changes)?;
-            Ok(())
-        }
+        Outcome::Full => split_in_two(alloc, thread, index, changes),
     }
+}
+
+// Commits changes to a pair that fit it, so that the commit isn't refused.
+pub(crate) fn commit_fitting<D: BlockDevice>(
+    alloc: Global,
+    thread: &mut Thread<D>,
+    index: usize,
+    changes: &[Change<'_>],
+) -> Result<(), Error>
+    requires works { thread.old.failed ≡ false }
+    requires can { CanCommit thread.old.kept index (changes_view changes.now) }
+    ensures is_changed { OnOk result (IsPairCommitted thread.old.kept index (changes_view changes.now) thread.new.kept) }
+    ensures errors { ReportsErrorsOfCommitTakingNoBlock thread.old thread.new result }
+    ensures device { ChangesThreadBlocks (address_blocks (thread_pair_at thread.old.kept index).at) thread.old.kept thread.new.kept }
+    ensures stops { LossLeavesCleanly thread.old.kept.history thread.new.kept.history (LossLeavesPairChanged thread.old.kept index (changes_view changes.now)) }
+{
+    thread.commit_pair_changes(alloc, index, changes)?;
+    Ok(())
 }

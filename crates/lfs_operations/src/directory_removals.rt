@@ -12,6 +12,7 @@ ghost use Rattle.lfs_operations.specs.Removing.{ReportsErrorsOfCommitTakingNoBlo
 ghost use Rattle.lfs_operations.specs.Unlinking.{AreBeforeAltered, CanRemoveDirectory, IsDirectoryRemoved, ReportsErrorsOfCommitsTakingNoBlock, unlink_changes, number_after_drop};
 ghost use Rattle.lfs_model.specs.format.Thread.{address_blocks, addresses_blocks};
 
+use crate::changes::commit_fitting;
 use crate::drops::drop_pair_at;
 use crate::removals::drops_with_slot;
 use lfs_device::{BlockDevice, Error};
@@ -50,8 +51,7 @@ fn unlink_directory_entry<D: BlockDevice>(
     let state = gstate_xor_delta(&thread.delta(pair), &sync_delta());
     let changes = [Change::Delete { id }, Change::Move { state }];
     // What is left fits, so the commit is never refused.
-    thread.commit_pair_changes(alloc, pair, &changes)?;
-    Ok(())
+    commit_fitting(alloc, thread, pair, &changes)
 }
 
 // Returns the number of a pair after another one was dropped.
@@ -81,8 +81,7 @@ fn remove_keeping_pair<D: BlockDevice>(
         (tree_on_disk thread.old.kept.disk thread.old.kept.pairs) (tree_without_entry thread.old.kept take.can.path take.can.name) }
 {
     unlink_directory_entry(alloc, thread, pair, id)?;
-    drop_pair_at(alloc, thread, gone, &MoveState::none())?;
-    Ok(())
+    drop_pair_at(alloc, thread, gone, &MoveState::none())
 }
 
 // Removes an empty directory with its entry's pair, which has no other slot.
@@ -110,8 +109,7 @@ fn remove_with_pair<D: BlockDevice>(
         thread,
         number_after_dropped(pair, gone),
         &MoveState::none(),
-    )?;
-    Ok(())
+    )
 }
 
 /// Removes the empty directory at the id of a pair from its directory, which begins with the pair

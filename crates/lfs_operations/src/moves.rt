@@ -1,7 +1,7 @@
 // Slots that move from one pair into another.
 
-ghost use Rattle.std.specs.Prelude.{◌≡◌, ◌<◌, ◌-◌, ◌^◌, ◌∷◌, true, false, length, IfOk, OnOk};
-ghost use Rattle.lfs_model.specs.layers.Changes.{Delete, PutMove};
+ghost use Rattle.std.specs.Prelude.{◌≡◌, ◌<◌, ◌-◌, ◌^◌, ◌∷◌, ◌++◌, true, false, length, IfOk, OnOk};
+ghost use Rattle.lfs_model.specs.layers.Changes.{PutMove};
 ghost use Rattle.lfs_model.specs.format.Slots.{gstate_xor};
 ghost use Rattle.lfs_operations.specs.RenamingView.{slot_copy};
 ghost use Rattle.lfs_operations.specs.RenamingSlots.{slot_changes};
@@ -10,19 +10,18 @@ ghost use Rattle.lfs_model.specs.crash.PowerLoss.{SurvivesLossSince};
 ghost use Rattle.lfs_model.specs.format.Thread.{pairs_gstate, address_blocks, addresses_blocks};
 ghost use Rattle.lfs_model.specs.tree.Shown.{tree_on_disk};
 ghost use Rattle.lfs_tag.specs.FieldsView.{move_view};
-ghost use Rattle.lfs_thread.specs.Kept.{KeptThread};
 ghost use Rattle.lfs_thread.specs.ThreadSteps.{ChangesThreadBlocks, thread_pair_at};
 ghost use Rattle.lfs_pair.specs.ChangeView.{changes_view};
 ghost use Rattle.lfs_operations.specs.Altering.{ChangesGiven};
-ghost use Rattle.lfs_operations.specs.Changing.{CanTurn, IsTurned, WritesThreadTwo};
+ghost use Rattle.lfs_operations.specs.Changing.{WritesThreadTwo};
 ghost use Rattle.lfs_operations.specs.MoveEnds.{CanEndAt, HasEndedAt, written_at_end, gstate_naming, delta_without_move};
-ghost use Rattle.lfs_operations.specs.MovingSteps.{CanEndSecond, IsPutEnded, SurvivesBothCommits, ReportsErrorsOfCommitsTakingBlocks, WritesTwoTwo, second_commit_pair, number_after_insertion};
-ghost use Rattle.lfs_operations.specs.MovingAcross.{CanRenameAcross, IsRenamedAcross, across_changes, tree_moved};
-ghost use Rattle.lfs_operations.specs.MovingOnto.{CanReplaceEntryOver, CanReplaceFileOver, CanReplaceDirectoryOver, IsEntryReplaced, IsFileReplaced, entry_over_changes, file_over_changes};
+ghost use Rattle.lfs_operations.specs.MovingSteps.{CanPutAndEnd, IsPutEnded, SurvivesBothCommits, ReportsErrorsOfCommitsTakingBlocks, WritesTwoTwo, second_commit_pair, number_after_insertion};
+ghost use Rattle.lfs_operations.specs.MovingAcross.{CanRenameAcross, IsRenamedAcross, across_changes, clearing_changes, moving_changes, tree_moved};
+ghost use Rattle.lfs_operations.specs.MovingOnto.{CanMoveAcross, CanReplaceFileOver, CanReplaceDirectoryOver, IsMovedAcross, IsFileReplaced, entry_over_changes, file_over_changes, tree_across};
 ghost use Rattle.lfs_operations.specs.Removing.{ReportsErrorsOfCommitTakingNoBlock};
 ghost use Rattle.lfs_operations.specs.EndingMove.{gstate_without_move};
 
-use crate::changes::change_or_split;
+use crate::changes::{change_or_split, commit_fitting};
 use crate::drops::drop_pair_at;
 use crate::removals::drops_with_slot;
 use crate::slot_copies::{SlotCopy, copy_pair_slot, push_slot_changes};
@@ -32,6 +31,21 @@ use lfs_tag::MoveState;
 use lfs_tag::kinds::DELETE;
 use lfs_thread::{Thread, gstate_xor_delta, number_at_address};
 use std::alloc::{AllocError, Global};
+
+/// Which way an entry goes from one pair into another.
+#[derive(Clone, Copy)]
+pub struct Route {
+    /// The number of the entry's pair in the thread.
+    pub old_pair: usize,
+    /// The entry's id in that pair.
+    pub old_id: u16,
+    /// The number of the first pair of the entry's directory.
+    pub first: usize,
+    /// The number of the pair into which the entry goes.
+    pub new_pair: usize,
+    /// The id at which it is put there.
+    pub new_id: u16,
+}
 
 // Returns a pair's delta of the global state, changed so that no move is set.
 fn delta_without_move<D: BlockDevice>(thread: &Thread<D>, pair: usize) -> MoveState
@@ -63,12 +77,8 @@ fn end_by_commit<D: BlockDevice>(
 {
     let state = delta_without_move(thread, pair);
     // What is left fits, so the commit is never refused.
-    thread.commit_pair_changes(
-        alloc,
-        pair,
-        &[Change::Delete { id }, Change::Move { state }],
-    )?;
-    Ok(())
+    let changes = [Change::Delete { id }, Change::Move { state }];
+    commit_fitting(alloc, thread, pair, &changes)
 }
 
 // Returns the global state without the move that is set.
@@ -97,8 +107,7 @@ fn end_by_drop<D: BlockDevice>(
         (tree_on_disk thread.old.kept.disk thread.old.kept.pairs) (tree_on_disk thread.old.kept.disk thread.old.kept.pairs) }
 {
     let state = settled_gstate(thread);
-    drop_pair_at(alloc, thread, pair, &state)?;
-    Ok(())
+    drop_pair_at(alloc, thread, pair, &state)
 }
 
 // Removes the slot that a set move names, and ends the move. Where the pair has no other slot and
@@ -138,68 +147,101 @@ fn number_after_inserted(pair: usize, other: usize, fresh: usize) -> usize
 fn put_and_end<D: BlockDevice>(
     alloc: Global,
     thread: &mut Thread<D>,
-    old_pair: usize,
-    old_id: u16,
+    route: Route,
     goes: bool,
-    new_pair: usize,
     changes: &[Change<'_>],
 ) -> Result<(), Error>
     requires works { thread.old.failed ≡ false }
-    requires can { CanTurn thread.old.kept new_pair (changes_view changes.now) }
-    requires ends { (mid : KeptThread) → IsTurned thread.old.kept new_pair (changes_view changes.now) mid → CanEndSecond thread.old.kept old_pair old_id goes new_pair mid }
-    ensures done { OnOk result (IsPutEnded thread.old.kept old_pair old_id goes new_pair (changes_view changes.now) thread.new.kept) }
-    ensures errors { ReportsErrorsOfCommitsTakingBlocks thread.old thread.new new_pair (changes_view changes.now) result }
-    ensures device { WritesTwoTwo thread.old.kept (written_at_end old_pair goes) new_pair thread.new.kept }
-    ensures survives { SurvivesBothCommits thread.old.kept new_pair (changes_view changes.now) thread.new.kept }
+    requires can { CanPutAndEnd thread.old.kept route.old_pair route.old_id goes route.new_pair (changes_view changes.now) }
+    ensures done { OnOk result (IsPutEnded thread.old.kept route.old_pair route.old_id goes route.new_pair (changes_view changes.now) thread.new.kept) }
+    ensures errors { ReportsErrorsOfCommitsTakingBlocks thread.old thread.new route.new_pair (changes_view changes.now) result }
+    ensures device { WritesTwoTwo thread.old.kept (written_at_end route.old_pair goes) route.new_pair thread.new.kept }
+    ensures survives { SurvivesBothCommits thread.old.kept route.new_pair (changes_view changes.now) thread.new.kept }
 {
     let before = thread.len();
-    change_or_split(alloc, thread, new_pair, changes)?;
+    change_or_split(alloc, thread, route.new_pair, changes)?;
     let fresh = thread.len() - before;
-    let pair = number_after_inserted(old_pair, new_pair, fresh);
-    end_move(alloc, thread, pair, old_id, goes)?;
-    Ok(())
+    let pair = number_after_inserted(route.old_pair, route.new_pair, fresh);
+    end_move(alloc, thread, pair, route.old_id, goes)
 }
 
 // Returns the delta of a pair that sets a move, which names a slot of another pair. With `sync` it
 // sets the sync bit, too. No move is set before.
-fn move_setting_delta<D: BlockDevice>(
-    thread: &Thread<D>,
-    old_pair: usize,
-    old_id: u16,
-    new_pair: usize,
-    sync: bool,
-) -> MoveState
+fn move_setting_delta<D: BlockDevice>(thread: &Thread<D>, route: Route, sync: bool) -> MoveState
     requires works { thread.now.failed ≡ false }
-    requires old_below { old_pair < length thread.now.kept.pairs }
-    requires new_below { new_pair < length thread.now.kept.pairs }
-    ensures delta { move_view result ≡ gstate_xor (gstate_naming sync (thread_pair_at thread.now.kept old_pair).at old_id) (thread_pair_at thread.now.kept new_pair).content.move }
-    ensures address { AreWords (thread_pair_at thread.now.kept old_pair).at }
+    requires old_below { route.old_pair < length thread.now.kept.pairs }
+    requires new_below { route.new_pair < length thread.now.kept.pairs }
+    ensures delta { move_view result ≡ gstate_xor (gstate_naming sync (thread_pair_at thread.now.kept route.old_pair).at route.old_id) (thread_pair_at thread.now.kept route.new_pair).content.move }
+    ensures address { AreWords (thread_pair_at thread.now.kept route.old_pair).at }
 {
-    let pair = thread.blocks_of_pair(old_pair);
+    let pair = thread.blocks_of_pair(route.old_pair);
     let state = MoveState {
         sync,
         kind: DELETE,
-        id: old_id,
+        id: route.old_id,
         pair,
     };
-    let delta = thread.delta(new_pair);
+    let delta = thread.delta(route.new_pair);
     gstate_xor_delta(&state, &delta)
 }
 
-// Returns the changes that set a delta of the global state, and put in a copied slot at an id.
-fn copying_changes<'a>(
+// Adds the change that removes the slot at an id, if that slot is replaced.
+fn push_clearing<'a>(
+    changes: &mut Vec<Change<'a>>,
+    replaces: bool,
+    id: u16,
+) -> Result<(), AllocError>
+    ensures { OnOk result (changes_view changes.new.items ≡ changes_view changes.old.items ++ clearing_changes replaces id) }
+{
+    if replaces {
+        changes.push(Change::Delete { id })?;
+    }
+    Ok(())
+}
+
+// Returns the changes that set a delta of the global state, and put in a copied slot at an id. With
+// `replaces` the slot that is there goes first.
+fn moving_changes<'a>(
     alloc: Global,
     state: MoveState,
+    replaces: bool,
     id: u16,
     name: &'a [u8],
     copy: &'a SlotCopy,
 ) -> Result<Vec<Change<'a>>, AllocError>
-    ensures { IfOk result (λ changes. changes_view changes.items ≡ PutMove (move_view state) ∷ slot_changes id name.now (slot_copy copy.now)) }
+    ensures { IfOk result (λ changes. changes_view changes.items ≡ PutMove (move_view state) ∷ (clearing_changes replaces id ++ slot_changes id name.now (slot_copy copy.now))) }
 {
     let mut changes = Vec::new(alloc);
     changes.push(Change::Move { state })?;
+    push_clearing(&mut changes, replaces, id)?;
     push_slot_changes(&mut changes, id, name, copy)?;
     Ok(changes)
+}
+
+// Puts a copy of an entry into another pair, and sets a move that names the old slot. Then it
+// removes the old slot, and ends the move. With `replaces` the slot that is at the place goes first,
+// and with `sync` the sync bit is set with the move.
+fn move_across<D: BlockDevice>(
+    alloc: Global,
+    thread: &mut Thread<D>,
+    route: Route,
+    name: &[u8],
+    replaces: bool,
+    sync: bool,
+) -> Result<(), Error>
+    requires works { thread.old.failed ≡ false }
+    requires can { CanMoveAcross thread.old.kept replaces sync route.old_pair route.old_id route.first route.new_pair route.new_id name.now }
+    ensures moved { OnOk result (IsMovedAcross thread.old.kept replaces sync route.old_pair route.old_id route.first route.new_pair route.new_id name.now thread.new.kept) }
+    ensures errors { ReportsErrorsOfCommitsTakingBlocks thread.old thread.new route.new_pair (moving_changes replaces sync thread.old.kept route.old_pair route.old_id route.new_pair route.new_id name.now) result }
+    ensures device { WritesTwoTwo thread.old.kept (second_commit_pair thread.old.kept route.old_pair route.first) route.new_pair thread.new.kept }
+    ensures survives { (rename : CanMoveAcross thread.old.kept replaces sync route.old_pair route.old_id route.first route.new_pair route.new_id name.now) → SurvivesLossSince thread.old.kept.disk thread.old.kept.history thread.new.kept.history
+        (tree_on_disk thread.old.kept.disk thread.old.kept.pairs) (tree_across thread.old.kept replaces sync route.old_pair route.old_id route.first route.new_pair route.new_id name.now rename) }
+{
+    let goes = drops_with_slot(thread, route.old_pair, route.first);
+    let copy = copy_pair_slot(alloc, thread, route.old_pair, route.old_id)?;
+    let state = move_setting_delta(thread, route, sync);
+    let changes = moving_changes(alloc, state, replaces, route.new_id, name, &copy)?;
+    put_and_end(alloc, thread, route, goes, &changes)
 }
 
 /// Renames an entry of one pair to a name that belongs at an id of another pair, in the same
@@ -208,7 +250,7 @@ fn copying_changes<'a>(
 /// name, and sets a move that names the old slot. From then on the old slot counts as gone. The
 /// second removes the old slot and ends the move.
 ///
-/// `first` is the number of the first pair of the entry's directory. An old pair that has no other
+/// An old pair that has no other
 /// slot, and isn't that first pair, is dropped with the slot. A new pair without room is split into
 /// itself and two free blocks.
 ///
@@ -220,76 +262,20 @@ fn copying_changes<'a>(
 pub fn rename_across_pairs<D: BlockDevice>(
     alloc: Global,
     thread: &mut Thread<D>,
-    old_pair: usize,
-    old_id: u16,
-    first: usize,
-    new_pair: usize,
-    new_id: u16,
+    route: Route,
     name: &[u8],
 ) -> Result<(), Error>
     requires works { thread.old.failed ≡ false }
-    requires can { CanRenameAcross thread.old.kept old_pair old_id first new_pair new_id name.now }
-    ensures renamed { OnOk result ((rename : CanRenameAcross thread.old.kept old_pair old_id first new_pair new_id name.now)
+    requires can { CanRenameAcross thread.old.kept route.old_pair route.old_id route.first route.new_pair route.new_id name.now }
+    ensures renamed { OnOk result ((rename : CanRenameAcross thread.old.kept route.old_pair route.old_id route.first route.new_pair route.new_id name.now)
         → IsRenamedAcross thread.old.kept thread.new.kept rename.old.path rename.old.name rename.path name.now) }
-    ensures alters { OnOk result (ChangesGiven thread.old.kept (address_blocks (thread_pair_at thread.old.kept old_pair).at) thread.new.kept) }
-    ensures errors { ReportsErrorsOfCommitsTakingBlocks thread.old thread.new new_pair (across_changes thread.old.kept old_pair old_id new_pair new_id name.now) result }
-    ensures device { WritesTwoTwo thread.old.kept (second_commit_pair thread.old.kept old_pair first) new_pair thread.new.kept }
-    ensures survives { (rename : CanRenameAcross thread.old.kept old_pair old_id first new_pair new_id name.now) → SurvivesLossSince thread.old.kept.disk thread.old.kept.history thread.new.kept.history
+    ensures alters { OnOk result (ChangesGiven thread.old.kept (address_blocks (thread_pair_at thread.old.kept route.old_pair).at) thread.new.kept) }
+    ensures errors { ReportsErrorsOfCommitsTakingBlocks thread.old thread.new route.new_pair (across_changes thread.old.kept route.old_pair route.old_id route.new_pair route.new_id name.now) result }
+    ensures device { WritesTwoTwo thread.old.kept (second_commit_pair thread.old.kept route.old_pair route.first) route.new_pair thread.new.kept }
+    ensures survives { (rename : CanRenameAcross thread.old.kept route.old_pair route.old_id route.first route.new_pair route.new_id name.now) → SurvivesLossSince thread.old.kept.disk thread.old.kept.history thread.new.kept.history
         (tree_on_disk thread.old.kept.disk thread.old.kept.pairs) (tree_moved thread.old.kept rename.old.path rename.old.name rename.path name.now) }
 {
-    let goes = drops_with_slot(thread, old_pair, first);
-    let copy = copy_pair_slot(alloc, thread, old_pair, old_id)?;
-    let state = move_setting_delta(thread, old_pair, old_id, new_pair, false);
-    let changes = copying_changes(alloc, state, new_id, name, &copy)?;
-    put_and_end(alloc, thread, old_pair, old_id, goes, new_pair, &changes)?;
-    Ok(())
-}
-
-// Returns the changes that set a delta of the global state, and put a copied slot in place of the
-// slot at an id.
-fn replacing_changes<'a>(
-    alloc: Global,
-    state: MoveState,
-    id: u16,
-    name: &'a [u8],
-    copy: &'a SlotCopy,
-) -> Result<Vec<Change<'a>>, AllocError>
-    ensures { IfOk result (λ changes. changes_view changes.items ≡ PutMove (move_view state) ∷ Delete id ∷ slot_changes id name.now (slot_copy copy.now)) }
-{
-    let mut changes = Vec::new(alloc);
-    changes.push(Change::Move { state })?;
-    changes.push(Change::Delete { id })?;
-    push_slot_changes(&mut changes, id, name, copy)?;
-    Ok(changes)
-}
-
-// Puts the entry at an id of a pair in place of the one at an id of another pair, as
-// `rename_across_pairs` does. The sync bit is set with it, or not.
-fn replace_across<D: BlockDevice>(
-    alloc: Global,
-    thread: &mut Thread<D>,
-    old_pair: usize,
-    old_id: u16,
-    first: usize,
-    new_pair: usize,
-    new_id: u16,
-    name: &[u8],
-    sync: bool,
-) -> Result<(), Error>
-    requires works { thread.old.failed ≡ false }
-    requires can { CanReplaceEntryOver thread.old.kept sync old_pair old_id first new_pair new_id name.now }
-    ensures moved { OnOk result (IsEntryReplaced thread.old.kept sync old_pair old_id first new_pair new_id name.now thread.new.kept) }
-    ensures errors { ReportsErrorsOfCommitsTakingBlocks thread.old thread.new new_pair (entry_over_changes sync thread.old.kept old_pair old_id new_pair new_id name.now) result }
-    ensures device { WritesTwoTwo thread.old.kept (second_commit_pair thread.old.kept old_pair first) new_pair thread.new.kept }
-    ensures survives { (rename : CanReplaceEntryOver thread.old.kept sync old_pair old_id first new_pair new_id name.now) → SurvivesLossSince thread.old.kept.disk thread.old.kept.history thread.new.kept.history
-        (tree_on_disk thread.old.kept.disk thread.old.kept.pairs) (tree_moved thread.old.kept rename.old.path rename.old.name rename.path name.now) }
-{
-    let goes = drops_with_slot(thread, old_pair, first);
-    let copy = copy_pair_slot(alloc, thread, old_pair, old_id)?;
-    let state = move_setting_delta(thread, old_pair, old_id, new_pair, sync);
-    let changes = replacing_changes(alloc, state, new_id, name, &copy)?;
-    put_and_end(alloc, thread, old_pair, old_id, goes, new_pair, &changes)?;
-    Ok(())
+    move_across(alloc, thread, route, name, false, false)
 }
 
 /// Renames an entry of one pair onto a file at an id of another pair, in the same directory or
@@ -301,26 +287,20 @@ fn replace_across<D: BlockDevice>(
 pub fn onto_file_across<D: BlockDevice>(
     alloc: Global,
     thread: &mut Thread<D>,
-    old_pair: usize,
-    old_id: u16,
-    first: usize,
-    new_pair: usize,
-    new_id: u16,
+    route: Route,
     name: &[u8],
 ) -> Result<(), Error>
     requires works { thread.old.failed ≡ false }
-    requires can { CanReplaceFileOver thread.old.kept old_pair old_id first new_pair new_id name.now }
-    ensures replaced { OnOk result ((rename : CanReplaceFileOver thread.old.kept old_pair old_id first new_pair new_id name.now)
+    requires can { CanReplaceFileOver thread.old.kept route.old_pair route.old_id route.first route.new_pair route.new_id name.now }
+    ensures replaced { OnOk result ((rename : CanReplaceFileOver thread.old.kept route.old_pair route.old_id route.first route.new_pair route.new_id name.now)
         → IsFileReplaced thread.old.kept thread.new.kept rename.old.path rename.old.name rename.path name.now rename.target.stands.slot.struct) }
-    ensures alters { OnOk result (ChangesGiven thread.old.kept (addresses_blocks (thread_pair_at thread.old.kept old_pair).at (thread_pair_at thread.old.kept new_pair).at) thread.new.kept) }
-    ensures errors { ReportsErrorsOfCommitsTakingBlocks thread.old thread.new new_pair (file_over_changes thread.old.kept old_pair old_id new_pair new_id name.now) result }
-    ensures device { WritesTwoTwo thread.old.kept (second_commit_pair thread.old.kept old_pair first) new_pair thread.new.kept }
-    ensures survives { (rename : CanReplaceFileOver thread.old.kept old_pair old_id first new_pair new_id name.now) → SurvivesLossSince thread.old.kept.disk thread.old.kept.history thread.new.kept.history
+    ensures alters { OnOk result (ChangesGiven thread.old.kept (addresses_blocks (thread_pair_at thread.old.kept route.old_pair).at (thread_pair_at thread.old.kept route.new_pair).at) thread.new.kept) }
+    ensures errors { ReportsErrorsOfCommitsTakingBlocks thread.old thread.new route.new_pair (file_over_changes thread.old.kept route.old_pair route.old_id route.new_pair route.new_id name.now) result }
+    ensures device { WritesTwoTwo thread.old.kept (second_commit_pair thread.old.kept route.old_pair route.first) route.new_pair thread.new.kept }
+    ensures survives { (rename : CanReplaceFileOver thread.old.kept route.old_pair route.old_id route.first route.new_pair route.new_id name.now) → SurvivesLossSince thread.old.kept.disk thread.old.kept.history thread.new.kept.history
         (tree_on_disk thread.old.kept.disk thread.old.kept.pairs) (tree_moved thread.old.kept rename.old.path rename.old.name rename.path name.now) }
 {
-    replace_across(
-        alloc, thread, old_pair, old_id, first, new_pair, new_id, name, false,
-    )
+    move_across(alloc, thread, route, name, true, false)
 }
 
 /// Renames an entry of one pair onto an empty directory at an id of another pair, in the same
@@ -333,31 +313,25 @@ pub fn onto_file_across<D: BlockDevice>(
 pub fn onto_directory_across<D: BlockDevice>(
     alloc: Global,
     thread: &mut Thread<D>,
-    old_pair: usize,
-    old_id: u16,
-    first: usize,
-    new_pair: usize,
-    new_id: u16,
+    route: Route,
     name: &[u8],
     gone: usize,
 ) -> Result<(), Error>
     requires works { thread.old.failed ≡ false }
-    requires can { CanReplaceDirectoryOver thread.old.kept old_pair old_id first new_pair new_id name.now gone }
-    ensures renamed { OnOk result ((rename : CanReplaceDirectoryOver thread.old.kept old_pair old_id first new_pair new_id name.now gone)
+    requires can { CanReplaceDirectoryOver thread.old.kept route.old_pair route.old_id route.first route.new_pair route.new_id name.now gone }
+    ensures renamed { OnOk result ((rename : CanReplaceDirectoryOver thread.old.kept route.old_pair route.old_id route.first route.new_pair route.new_id name.now gone)
         → IsRenamedAcross thread.old.kept thread.new.kept rename.old.path rename.old.name rename.path name.now) }
-    ensures alters { OnOk result (ChangesGiven thread.old.kept (addresses_blocks (thread_pair_at thread.old.kept old_pair).at (thread_pair_at thread.old.kept new_pair).at) thread.new.kept) }
-    ensures errors { ReportsErrorsOfCommitsTakingBlocks thread.old thread.new new_pair (entry_over_changes true thread.old.kept old_pair old_id new_pair new_id name.now) result }
+    ensures alters { OnOk result (ChangesGiven thread.old.kept (addresses_blocks (thread_pair_at thread.old.kept route.old_pair).at (thread_pair_at thread.old.kept route.new_pair).at) thread.new.kept) }
+    ensures errors { ReportsErrorsOfCommitsTakingBlocks thread.old thread.new route.new_pair (entry_over_changes true thread.old.kept route.old_pair route.old_id route.new_pair route.new_id name.now) result }
     ensures device { WritesThreadTwo thread.old.kept thread.new.kept }
-    ensures survives { (rename : CanReplaceDirectoryOver thread.old.kept old_pair old_id first new_pair new_id name.now gone) → SurvivesLossSince thread.old.kept.disk thread.old.kept.history thread.new.kept.history
+    ensures survives { (rename : CanReplaceDirectoryOver thread.old.kept route.old_pair route.old_id route.first route.new_pair route.new_id name.now gone) → SurvivesLossSince thread.old.kept.disk thread.old.kept.history thread.new.kept.history
         (tree_on_disk thread.old.kept.disk thread.old.kept.pairs) (tree_moved thread.old.kept rename.old.path rename.old.name rename.path name.now) }
 {
     let at = thread.blocks_of_pair(gone);
-    replace_across(
-        alloc, thread, old_pair, old_id, first, new_pair, new_id, name, true,
-    )?;
+    move_across(alloc, thread, route, name, true, true)?;
     // Other pairs may have been put in or dropped before it in the thread.
-    if let Some(index) = number_at_address(thread, at) {
-        drop_pair_at(alloc, thread, index, &MoveState::none())?;
+    match number_at_address(thread, at) {
+        Some(index) => drop_pair_at(alloc, thread, index, &MoveState::none()),
+        None => Ok(()),
     }
-    Ok(())
 }

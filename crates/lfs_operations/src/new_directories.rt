@@ -1,6 +1,6 @@
 // Empty directories that are made.
 
-ghost use Rattle.std.specs.Prelude.{◌≡◌, ◌<◌, ◌^◌, ℕ, false, is_err, length, Err, OnOk};
+ghost use Rattle.std.specs.Prelude.{◌≡◌, ◌<◌, ◌^◌, ℕ, false, length, Err, OnOk};
 ghost use Rattle.lfs_device.specs.Bytes.{HoldBytes};
 ghost use Rattle.lfs_model.specs.format.Disk.{block_count};
 ghost use Rattle.lfs_model.specs.crash.PowerLoss.{HasEither, SurvivesLossSince};
@@ -9,9 +9,9 @@ ghost use Rattle.lfs_model.specs.tree.Shown.{tree_on_disk};
 ghost use Rattle.lfs_model.specs.layers.Steps.{with_sync_inverted};
 ghost use Rattle.lfs_tag.specs.FieldsView.{move_view};
 ghost use Rattle.lfs_thread.specs.ThreadDevice.{LossLeavesCleanly};
-ghost use Rattle.lfs_thread.specs.ThreadSteps.{CanThreadIn, IoMeantFaultNoMemoryKeptOtherBlocks, IsThreadedIn, LossLeavesThreadedIn, ChangesThreadBlocks, thread_pair_at};
+ghost use Rattle.lfs_thread.specs.ThreadSteps.{IsThreadedIn, LossLeavesThreadedIn, ChangesThreadBlocks, thread_pair_at};
 ghost use Rattle.lfs_operations.specs.Changing.{CanTurn, LeftByTurn, IsTurned, ReportsErrorsOfChangeOrSplit, WritesPairTwo};
-ghost use Rattle.lfs_operations.specs.Making.{AreBothAltered, CanMakeAt, FitsNewTail, IsRunEnd, IsDirectoryMade, ReportsErrorsOfMakingDirectory, WritesPairsFour, entry_changes, adding_changes, threading_changes, tree_with_directory};
+ghost use Rattle.lfs_operations.specs.Making.{AreBothAltered, CanLink, CanMakeAt, IsRunEnd, IsDirectoryMade, ReportsErrorsOfLink, ReportsErrorsOfMakingDirectory, WritesPairsFour, entry_changes, adding_changes, threading_changes, tree_with_directory};
 ghost use Rattle.lfs_model.specs.format.Thread.{address_blocks, addresses_blocks};
 
 use crate::changes::{change_or_split, take_two_blocks};
@@ -67,11 +67,9 @@ fn link_pair_after<D: BlockDevice>(
     fresh: [u32; 2],
 ) -> Result<(), Error>
     requires works { thread.old.failed ≡ false }
-    requires can { CanThreadIn thread.old.kept last (array_address fresh) (threading_changes thread.old.kept last (array_address fresh)) }
-    requires fits { FitsNewTail thread.old.kept last (array_address fresh) }
+    requires can { CanLink thread.old.kept last (array_address fresh) }
     ensures is_joined { OnOk result (IsThreadedIn thread.old.kept last (array_address fresh) (threading_changes thread.old.kept last (array_address fresh)) thread.new.kept) }
-    ensures failed { thread.new.failed ≡ is_err result }
-    ensures errors { IoMeantFaultNoMemoryKeptOtherBlocks (address_blocks (array_address fresh)) thread.old.kept thread.new.kept result }
+    ensures errors { ReportsErrorsOfLink thread.old thread.new (array_address fresh) result }
     ensures device { ChangesThreadBlocks (addresses_blocks (thread_pair_at thread.old.kept last).at (array_address fresh)) thread.old.kept thread.new.kept }
     ensures stops { LossLeavesCleanly thread.old.kept.history thread.new.kept.history (LossLeavesThreadedIn thread.old.kept last (array_address fresh) (threading_changes thread.old.kept last (array_address fresh))) }
 {
@@ -120,8 +118,7 @@ fn put_directory_entry<'a, D: BlockDevice>(
             state: turned_sync_delta(&thread.delta(pair)),
         },
     ];
-    change_or_split(alloc, thread, pair, &changes)?;
-    Ok(())
+    change_or_split(alloc, thread, pair, &changes)
 }
 
 // Puts the entry of the directory that begins at an address into a pair, and clears the sync bit.
@@ -141,8 +138,7 @@ fn put_new_entry<D: BlockDevice>(
     ensures stops { LossLeavesCleanly thread.old.kept.history thread.new.kept.history (LeftByTurn thread.old.kept pair (adding_changes thread.old.kept pair id name.now (array_address at))) }
 {
     let branch = pair_bytes(at);
-    put_directory_entry(alloc, thread, pair, id, name, &branch)?;
-    Ok(())
+    put_directory_entry(alloc, thread, pair, id, name, &branch)
 }
 
 /// Makes an empty directory, whose entry is put in at the id of the pair where its name belongs
@@ -179,6 +175,5 @@ pub fn make_directory<D: BlockDevice>(
     };
     link_pair_after(alloc, thread, last, fresh)?;
     lemma_device_facts(thread);
-    put_new_entry(alloc, thread, pair, id, name, fresh)?;
-    Ok(())
+    put_new_entry(alloc, thread, pair, id, name, fresh)
 }

@@ -51,6 +51,5 @@ pub fn create_file<D: BlockDevice>(
             bytes: &[],
         },
     ];
-    change_or_split(alloc, thread, pair, &changes)?;
-    Ok(())
+    change_or_split(alloc, thread, pair, &changes)
 }

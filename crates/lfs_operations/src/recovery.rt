@@ -16,6 +16,7 @@ ghost use Rattle.lfs_operations.specs.Recovering.{CanClearSync, CanDropPairs, Ha
 ghost use Rattle.lfs_operations.specs.EndingMove.{CanEndMove, HasEndedMove, HasMovedSlot, has_one_follower};
 ghost use Rattle.lfs_operations.specs.Removing.{ReportsErrorsOfCommitTakingNoBlock};
 
+use crate::changes::commit_fitting;
 use crate::drops::drop_pair_at;
 use crate::moves;
 use crate::new_directories::lemma_device_facts;
@@ -67,8 +68,7 @@ fn set_gstate_in<D: BlockDevice>(
     lemma_device_facts(thread);
     let state = delta_to_gstate(thread, index, wanted);
     // The pair has the slots that it had, so the commit is never refused.
-    thread.commit_pair_changes(alloc, index, &[Change::Move { state }])?;
-    Ok(())
+    commit_fitting(alloc, thread, index, &[Change::Move { state }])
 }
 
 // Returns the global state that is wanted after a pair is dropped: zero after the last one.
@@ -96,9 +96,10 @@ fn clear_sync_bit<D: BlockDevice>(alloc: Global, thread: &mut Thread<D>) -> Resu
 {
     if thread.state().sync {
         let last = thread.len() - 1;
-        set_gstate_in(alloc, thread, last, &MoveState::none())?;
+        set_gstate_in(alloc, thread, last, &MoveState::none())
+    } else {
+        Ok(())
     }
-    Ok(())
 }
 
 /// Drops the pairs of directories that no path leads to, in one commit each, to the pair before it
@@ -131,8 +132,7 @@ pub fn drop_unreached_pairs<D: BlockDevice>(
         let wanted = lemma_gstate_zero(thread, dropped + 1 == unreached.len());
         drop_pair_at(alloc, thread, behind, &wanted)?;
     }
-    clear_sync_bit(alloc, thread)?;
-    Ok(())
+    clear_sync_bit(alloc, thread)
 }
 
 // Returns the number of the pair whose slot a set move names. Returns None where no move is set.
@@ -179,6 +179,5 @@ pub fn end_move<D: BlockDevice>(alloc: Global, thread: &mut Thread<D>) -> Result
     };
     let goes = one_after_tail(thread, index);
     lemma_device_facts(thread);
-    moves::end_move(alloc, thread, index, state.id, goes)?;
-    Ok(())
+    moves::end_move(alloc, thread, index, state.id, goes)
 }

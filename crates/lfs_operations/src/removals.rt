@@ -9,6 +9,7 @@ ghost use Rattle.lfs_operations.specs.Editing.{editable_slot};
 ghost use Rattle.lfs_operations.specs.Removing.{CanRemoveIn, IsFileRemoved, ReportsErrorsOfCommitTakingNoBlock, drops_with_its_slot, tree_without_entry, written_by_removal};
 ghost use Rattle.lfs_model.specs.format.Thread.{address_blocks};
 
+use crate::changes::commit_fitting;
 use crate::drops::drop_pair_at;
 use lfs_device::{BlockDevice, Error};
 use lfs_pair::Change;
@@ -50,10 +51,9 @@ pub fn remove_file<D: BlockDevice>(
         (tree_on_disk thread.old.kept.disk thread.old.kept.pairs) (tree_without_entry thread.old.kept take.can.path take.can.name) }
 {
     if drops_with_slot(thread, pair, first) {
-        drop_pair_at(alloc, thread, pair, &MoveState::none())?;
-        return Ok(());
+        drop_pair_at(alloc, thread, pair, &MoveState::none())
+    } else {
+        // What is left fits, so the commit is never refused.
+        commit_fitting(alloc, thread, pair, &[Change::Delete { id }])
     }
-    // What is left fits, so the commit is never refused.
-    thread.commit_pair_changes(alloc, pair, &[Change::Delete { id }])?;
-    Ok(())
 }

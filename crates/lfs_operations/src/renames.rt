@@ -68,8 +68,7 @@ pub fn rename<D: BlockDevice>(
 {
     let copy = copy_pair_slot(alloc, thread, pair, id)?;
     let changes = renaming_changes(alloc, id, place, name, &copy)?;
-    change_or_split(alloc, thread, pair, &changes)?;
-    Ok(())
+    change_or_split(alloc, thread, pair, &changes)
 }
 
 // Returns the changes that remove the slots at an id and a place, and put in a copy of the first at
@@ -116,6 +115,5 @@ pub fn rename_onto_file<D: BlockDevice>(
 {
     let copy = copy_pair_slot(alloc, thread, pair, id)?;
     let changes = renaming_onto_changes(alloc, id, place, name, &copy)?;
-    change_or_split(alloc, thread, pair, &changes)?;
-    Ok(())
+    change_or_split(alloc, thread, pair, &changes)
 }

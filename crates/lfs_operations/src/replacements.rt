@@ -14,6 +14,7 @@ ghost use Rattle.lfs_operations.specs.RenamingView.{slot_copy};
 ghost use Rattle.lfs_operations.specs.RenamingSlots.{slot_changes};
 ghost use Rattle.lfs_model.specs.format.Thread.{address_blocks, addresses_blocks};
 
+use crate::changes::commit_fitting;
 use crate::directory_removals::sync_delta;
 use crate::drops::drop_pair_at;
 use crate::renames::id_after_removed;
@@ -73,8 +74,7 @@ pub(crate) fn rename_over_directory<D: BlockDevice>(
     let changes = changes_replacing_directory(alloc, state, id, place, name, &copy)?;
     // Two slots are replaced by one, with the name of the one and the rest of the other. So the
     // commit is never refused.
-    thread.commit_pair_changes(alloc, pair, &changes)?;
-    Ok(())
+    commit_fitting(alloc, thread, pair, &changes)
 }
 
 /// Renames the entry at the id of a pair onto an empty directory of the same pair and directory.
@@ -107,6 +107,5 @@ pub fn rename_onto_directory<D: BlockDevice>(
         (tree_on_disk thread.old.kept.disk thread.old.kept.pairs) (tree_renamed thread.old.kept rename.over.can.path rename.over.can.name name.now) }
 {
     rename_over_directory(alloc, thread, pair, id, place, name)?;
-    drop_pair_at(alloc, thread, gone, &MoveState::none())?;
-    Ok(())
+    drop_pair_at(alloc, thread, gone, &MoveState::none())
 }

@@ -39,6 +39,5 @@ pub fn set_struct<D: BlockDevice>(
         (tree_on_disk thread.old.kept.disk thread.old.kept.pairs) (tree_with_contents thread.old.kept store.can.path store.can.name store.contents) }
 {
     let changes = [Change::Struct { id, kind, bytes }];
-    change_or_split(alloc, thread, pair, &changes)?;
-    Ok(())
+    change_or_split(alloc, thread, pair, &changes)
 }

@@ -25,8 +25,8 @@ use crate::tree::Tree;
 use lfs_device::{BlockDevice, Error};
 use lfs_lookup::{FileStorage, Path, PathLookup, SlotPosition};
 use lfs_operations::{
-    onto_directory_across, onto_file_across, rename, rename_across_pairs, rename_onto_directory,
-    rename_onto_file,
+    Route, onto_directory_across, onto_file_across, rename, rename_across_pairs,
+    rename_onto_directory, rename_onto_file,
 };
 use lfs_thread::Thread;
 use std::alloc::Global;
@@ -73,16 +73,14 @@ fn replace_file<D: BlockDevice>(
     if from.pair == slot.pair {
         rename_onto_file(alloc, thread, from.pair, from.id, slot.id, name)
     } else {
-        onto_file_across(
-            alloc,
-            thread,
-            from.pair,
-            from.id,
-            source.first,
-            slot.pair,
-            slot.id,
-            name,
-        )
+        let route = Route {
+            old_pair: from.pair,
+            old_id: from.id,
+            first: source.first,
+            new_pair: slot.pair,
+            new_id: slot.id,
+        };
+        onto_file_across(alloc, thread, route, name)
     }
 }
 
@@ -126,17 +124,14 @@ fn move_onto_directory<D: BlockDevice>(
     if from.pair == slot.pair {
         rename_onto_directory(alloc, thread, from.pair, from.id, slot.id, name, gone)
     } else {
-        onto_directory_across(
-            alloc,
-            thread,
-            from.pair,
-            from.id,
-            source.first,
-            slot.pair,
-            slot.id,
-            name,
-            gone,
-        )
+        let route = Route {
+            old_pair: from.pair,
+            old_id: from.id,
+            first: source.first,
+            new_pair: slot.pair,
+            new_id: slot.id,
+        };
+        onto_directory_across(alloc, thread, route, name, gone)
     }
 }
 
@@ -161,9 +156,14 @@ fn move_onto_found<D: BlockDevice>(
             if slot.pair == place.pair {
                 rename(alloc, thread, slot.pair, slot.id, place.id, name)
             } else {
-                rename_across_pairs(
-                    alloc, thread, slot.pair, slot.id, first, place.pair, place.id, name,
-                )
+                let route = Route {
+                    old_pair: slot.pair,
+                    old_id: slot.id,
+                    first,
+                    new_pair: place.pair,
+                    new_id: place.id,
+                };
+                rename_across_pairs(alloc, thread, route, name)
             }
         }
         PathLookup::File { slot, contents, .. } => {

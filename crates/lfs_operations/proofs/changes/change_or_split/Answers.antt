@@ -1,8 +1,6 @@
-use Rattle.std.proofs.Common.{arith, ap, sym, subst, ◌∙◌, inl, inr, Ok, Err}
-use Rattle.lfs_operations.proofs.Common.{err_from_is_err_and, HoldsAtLosses-weaker, changes_view, LossLeavesCleanly, KeptThread, cached_log}
+use Rattle.lfs_operations.proofs.Common.{arith, ap, subst, ◌∙◌, inl, inr, Ok, on_ok_weaker, HoldsAtLosses-weaker, changes_view, LossLeavesCleanly, KeptThread, cached_log, IsPairSplit, LeftBySplit, ReportsFaultsChangingNothingAtNoSpace, WritesPairTwo}
 use Rattle.lfs_device.specs.declared.error.Error.TheVariants as Error
 use Rattle.lfs_pair.specs.declared.commits.Outcome.TheVariants as Outcome
-use Rattle.lfs_operations.specs.Changing.{IsPairSplit, LeftBySplit, ReportsErrorsOfChangeOrSplit, ReportsFaultsChangingNothingAtNoSpace, WritesPairTwo}
 use Rattle.lfs_operations.proofs.Putting.{read_at_most, read_is, cut_later, reports_later, writes_later, stops_later, not_both}
 use Rattle.lfs_operations.proofs.changes.change_or_split.Goals as goal
 
@@ -12,70 +10,38 @@ returns-in_err-commit_pair_changes-clause-stops g c clean = HoldsAtLosses-weaker
 pub returns-in-Done-clause-stops : goal.returns-in-Done-clause-stops
 returns-in-Done-clause-stops g c clean = HoldsAtLosses-weaker (λ left l. inl l) (c.commit_pair_changes.ensures.stops clean)
 
-pub returns-in_ok-split_in_two-in-Full-clause-is_put : goal.returns-in_ok-split_in_two-in-Full-clause-is_put
-returns-in_ok-split_in_two-in-Full-clause-is_put g c =
+pub returns-in-Full-clause-is_put : goal.returns-in-Full-clause-is_put
+returns-in-Full-clause-is_put g c =
     let old = c.args.thread.now.kept in
     let r = c.commit_pair_changes.ensures.full (c.in_ok-commit_pair_changes.was ∙ ap Ok c.in-Full.is) in
-    inr (
+    on_ok_weaker c.split_in_two.result (λ is. inr (
       (r.content, (r.made, r.too_large)),
       cut_later old c.commit_pair_changes.new.self.kept.history r.only.reads c.args.index (changes_view c.args.changes.now) c.split_in_two.new.thread.kept
-          (subst (λ (k : KeptThread). IsPairSplit k c.args.index (changes_view c.args.changes.now) c.split_in_two.new.thread.kept) (read_is old c.commit_pair_changes.new.self.kept r.only) c.in_ok-split_in_two-in-Full.ensures.is_cut),
-    )
+          (subst (λ (k : KeptThread). IsPairSplit k c.args.index (changes_view c.args.changes.now) c.split_in_two.new.thread.kept) (read_is old c.commit_pair_changes.new.self.kept r.only) is),
+    )) c.split_in_two.ensures.is_cut
 
-pub returns-in_ok-split_in_two-in-Full-clause-errors : goal.returns-in_ok-split_in_two-in-Full-clause-errors
-returns-in_ok-split_in_two-in-Full-clause-errors g c =
+pub returns-in-Full-clause-errors : goal.returns-in-Full-clause-errors
+returns-in-Full-clause-errors g c =
     let old = c.args.thread.now.kept in
     let was = c.in_ok-commit_pair_changes.was ∙ ap Ok c.in-Full.is in
     let r = c.commit_pair_changes.ensures.full was in
     let reported = reports_later old c.commit_pair_changes.new.self.kept.history r.only.reads c.args.index (changes_view c.args.changes.now) c.split_in_two.new.thread.kept c.split_in_two.result
     (c.commit_pair_changes.ensures.errors.no_fault (λ io. not_both c.commit_pair_changes.result Outcome.Full Error.Io was io))
     (subst (λ (k : KeptThread). ReportsFaultsChangingNothingAtNoSpace k c.split_in_two.new.thread.kept c.split_in_two.result) (read_is old c.commit_pair_changes.new.self.kept r.only) c.split_in_two.ensures.errors.reports) in
-    subst (λ r. ReportsErrorsOfChangeOrSplit c.args.thread.now c.split_in_two.new.thread c.args.index (changes_view c.args.changes.now) r) c.in_ok-split_in_two-in-Full.was (record {
+    record {
       reports = record { failed = c.split_in_two.ensures.errors.failed; reports = reported };
       too_large = λ none. (r.content, (r.made, r.too_large));
-    })
+    }
 
-pub returns-in_err-split_in_two-in-Full-clause-errors : goal.returns-in_err-split_in_two-in-Full-clause-errors
-returns-in_err-split_in_two-in-Full-clause-errors g c =
-    let old = c.args.thread.now.kept in
-    let was = c.in_ok-commit_pair_changes.was ∙ ap Ok c.in-Full.is in
-    let r = c.commit_pair_changes.ensures.full was in
-    let reported = reports_later old c.commit_pair_changes.new.self.kept.history r.only.reads c.args.index (changes_view c.args.changes.now) c.split_in_two.new.thread.kept c.split_in_two.result
-    (c.commit_pair_changes.ensures.errors.no_fault (λ io. not_both c.commit_pair_changes.result Outcome.Full Error.Io was io))
-    (subst (λ (k : KeptThread). ReportsFaultsChangingNothingAtNoSpace k c.split_in_two.new.thread.kept c.split_in_two.result) (read_is old c.commit_pair_changes.new.self.kept r.only) c.split_in_two.ensures.errors.reports) in
-    let from = c.from_residual-in_err-split_in_two-in-Full in
-    let p = err_from_is_err_and from.result from.ensures.1 in
-    subst (λ r. ReportsErrorsOfChangeOrSplit c.args.thread.now c.split_in_two.new.thread c.args.index (changes_view c.args.changes.now) r) (c.in_err-split_in_two-in-Full.was ∙ ap Err (sym p.2) ∙ sym p.1) (record {
-      reports = record { failed = c.split_in_two.ensures.errors.failed; reports = reported };
-      too_large = λ none. (r.content, (r.made, r.too_large));
-    })
-
-pub returns-in_ok-split_in_two-in-Full-clause-device : goal.returns-in_ok-split_in_two-in-Full-clause-device
-returns-in_ok-split_in_two-in-Full-clause-device g c =
+pub returns-in-Full-clause-device : goal.returns-in-Full-clause-device
+returns-in-Full-clause-device g c =
     let old = c.args.thread.now.kept in
     let r = c.commit_pair_changes.ensures.full (c.in_ok-commit_pair_changes.was ∙ ap Ok c.in-Full.is) in
     writes_later old c.commit_pair_changes.new.self.kept.history r.only.reads c.args.index (changes_view c.args.changes.now) c.split_in_two.new.thread.kept
     (subst (λ (k : KeptThread). WritesPairTwo k c.args.index c.split_in_two.new.thread.kept) (read_is old c.commit_pair_changes.new.self.kept r.only) c.split_in_two.ensures.device)
 
-pub returns-in_err-split_in_two-in-Full-clause-device : goal.returns-in_err-split_in_two-in-Full-clause-device
-returns-in_err-split_in_two-in-Full-clause-device g c =
-    let old = c.args.thread.now.kept in
-    let r = c.commit_pair_changes.ensures.full (c.in_ok-commit_pair_changes.was ∙ ap Ok c.in-Full.is) in
-    writes_later old c.commit_pair_changes.new.self.kept.history r.only.reads c.args.index (changes_view c.args.changes.now) c.split_in_two.new.thread.kept
-    (subst (λ (k : KeptThread). WritesPairTwo k c.args.index c.split_in_two.new.thread.kept) (read_is old c.commit_pair_changes.new.self.kept r.only) c.split_in_two.ensures.device)
-
-pub returns-in_ok-split_in_two-in-Full-clause-stops : goal.returns-in_ok-split_in_two-in-Full-clause-stops
-returns-in_ok-split_in_two-in-Full-clause-stops g c =
-    let old = c.args.thread.now.kept in
-    let r = c.commit_pair_changes.ensures.full (c.in_ok-commit_pair_changes.was ∙ ap Ok c.in-Full.is) in
-    stops_later old c.commit_pair_changes.new.self.kept.history r.only.reads c.args.index (changes_view c.args.changes.now) c.split_in_two.new.thread.kept
-    (r.content, (r.made, r.too_large))
-    (subst (λ (k : KeptThread). WritesPairTwo k c.args.index c.split_in_two.new.thread.kept) (read_is old c.commit_pair_changes.new.self.kept r.only) c.split_in_two.ensures.device)
-    c.commit_pair_changes.ensures.stops
-    (subst (λ (k : KeptThread). LossLeavesCleanly k.history c.split_in_two.new.thread.kept.history (LeftBySplit k c.args.index (changes_view c.args.changes.now))) (read_is old c.commit_pair_changes.new.self.kept r.only) c.split_in_two.ensures.stops)
-
-pub returns-in_err-split_in_two-in-Full-clause-stops : goal.returns-in_err-split_in_two-in-Full-clause-stops
-returns-in_err-split_in_two-in-Full-clause-stops g c =
+pub returns-in-Full-clause-stops : goal.returns-in-Full-clause-stops
+returns-in-Full-clause-stops g c =
     let old = c.args.thread.now.kept in
     let r = c.commit_pair_changes.ensures.full (c.in_ok-commit_pair_changes.was ∙ ap Ok c.in-Full.is) in
     stops_later old c.commit_pair_changes.new.self.kept.history r.only.reads c.args.index (changes_view c.args.changes.now) c.split_in_two.new.thread.kept
@@ -96,15 +62,8 @@ returns-in-Done-clause-few g c =
     let most = read_at_most (cached_log c.args.thread.now c.args.index) in
     omega (arith, few, most)
 
-pub returns-in_err-split_in_two-in-Full-clause-few : goal.returns-in_err-split_in_two-in-Full-clause-few
-returns-in_err-split_in_two-in-Full-clause-few g c =
-    let first = c.commit_pair_changes.ensures.device.few in
-    let most = read_at_most (cached_log c.args.thread.now c.args.index) in
-    let second = c.split_in_two.ensures.few in
-    omega (arith, first, most, second)
-
-pub returns-in_ok-split_in_two-in-Full-clause-few : goal.returns-in_ok-split_in_two-in-Full-clause-few
-returns-in_ok-split_in_two-in-Full-clause-few g c =
+pub returns-in-Full-clause-few : goal.returns-in-Full-clause-few
+returns-in-Full-clause-few g c =
     let first = c.commit_pair_changes.ensures.device.few in
     let most = read_at_most (cached_log c.args.thread.now c.args.index) in
     let second = c.split_in_two.ensures.few in

@@ -1,8 +1,6 @@
-use Rattle.std.proofs.Common.{arith, ap, sym, subst, ◌∙◌, Err}
-use Rattle.lfs_operations.proofs.Common.{err_from_is_err_and, array_address, LossLeavesCleanly, ThreadView, cached_log, CanSplitAt, IoMeantFaultNoMemoryWroteNothing, LossLeavesPairSplit, IsSplitInTwo, ChangesThreadBlocks, thread_pair_at, changes_view, addresses_blocks}
+use Rattle.lfs_operations.proofs.Common.{arith, ap, sym, subst, on_ok_weaker, array_address, LossLeavesCleanly, ThreadView, cached_log, CanSplitAt, LossLeavesPairSplit, IsSplitInTwo, ChangesThreadBlocks, thread_pair_at, changes_view, addresses_blocks, WritesPairTwo}
 use Rattle.lfs_model.specs.session.History.{read_count}
-use Rattle.lfs_operations.specs.Changing.{WritesPairTwo, map_taking_two}
-use Rattle.lfs_operations.proofs.Putting.{read_at_most, can_split, cut_in, stops_by_cut, writes_in, writes_none, reports_state}
+use Rattle.lfs_operations.proofs.Putting.{read_at_most, can_split, cut_in, stops_by_cut, writes_in, writes_none}
 use Rattle.lfs_operations.proofs.changes.split_in_two.Goals as goal
 
 pub returns-in_default-clause-device : goal.returns-in_default-clause-device
@@ -13,17 +11,6 @@ pub split-requires-clause-can : goal.split-requires-clause-can
 split-requires-clause-can g c =
     subst (λ (t : ThreadView). CanSplitAt t.kept c.args.index (array_address c.in-Some.fresh) (changes_view c.args.changes.now)) (sym c.in-Some.ensures.taken)
     (can_split c.args.thread.now.kept c.args.index (array_address c.in-Some.fresh) (changes_view c.args.changes.now) c.requires.can c.in-Some.ensures.were_free)
-
-pub returns-in_err-split-clause-errors : goal.returns-in_err-split-clause-errors
-returns-in_err-split-clause-errors g c =
-    let p = err_from_is_err_and c.from_residual.result c.from_residual.ensures.1 in
-    reports_state c.args.thread.now c.split.new.self (map_taking_two c.args.thread.now.kept.map (array_address c.in-Some.fresh)) p.0 c.split.result c.from_residual.result (c.in_err-split.was ∙ ap Err (sym p.2)) p.1 c.split.ensures.failed
-    (subst (λ (t : ThreadView). IoMeantFaultNoMemoryWroteNothing t.kept c.split.new.self.kept c.split.result) c.in-Some.ensures.taken c.split.ensures.errors)
-
-pub returns-in_err-split-clause-stops : goal.returns-in_err-split-clause-stops
-returns-in_err-split-clause-stops g c =
-    stops_by_cut c.args.thread.now.kept c.args.index (array_address c.in-Some.fresh) (changes_view c.args.changes.now) c.in-Some.ensures.were_free c.split.new.self.kept.history
-    (subst (λ (t : ThreadView). LossLeavesCleanly t.kept.history c.split.new.self.kept.history (LossLeavesPairSplit t.kept c.args.index (array_address c.in-Some.fresh) (changes_view c.args.changes.now))) c.in-Some.ensures.taken c.split.ensures.stops)
 
 pub returns-clause-stops : goal.returns-clause-stops
 returns-clause-stops g c =
@@ -36,22 +23,15 @@ returns-clause-device g c =
     (subst (λ (t : ThreadView). ChangesThreadBlocks (addresses_blocks (thread_pair_at t.kept c.args.index).at (array_address c.in-Some.fresh)) t.kept c.split.new.self.kept) c.in-Some.ensures.taken c.split.ensures.device.only)
 
 pub returns-clause-is_cut : goal.returns-clause-is_cut
-returns-clause-is_cut g c = (
+returns-clause-is_cut g c = on_ok_weaker c.split.result (λ is. (
   array_address c.in-Some.fresh,
   cut_in c.args.thread.now.kept c.args.index (array_address c.in-Some.fresh) (changes_view c.args.changes.now) c.in-Some.ensures.were_free c.split.new.self.kept
-      (subst (λ (t : ThreadView). IsSplitInTwo t.kept c.args.index (array_address c.in-Some.fresh) (changes_view c.args.changes.now) c.split.new.self.kept) c.in-Some.ensures.taken c.in_ok-split.ensures.done)
+      (subst (λ (t : ThreadView). IsSplitInTwo t.kept c.args.index (array_address c.in-Some.fresh) (changes_view c.args.changes.now) c.split.new.self.kept) c.in-Some.ensures.taken is)
       (subst (λ (t : ThreadView). ChangesThreadBlocks (addresses_blocks (thread_pair_at t.kept c.args.index).at (array_address c.in-Some.fresh)) t.kept c.split.new.self.kept) c.in-Some.ensures.taken c.split.ensures.device.only),
-)
+)) c.split.ensures.done
 
 pub returns-in_default-clause-few : goal.returns-in_default-clause-few
 returns-in_default-clause-few g c = let same = ap (λ (t : ThreadView). read_count t.kept.history) c.in_default.ensures.same in omega (arith, same)
-
-pub returns-in_err-split-clause-few : goal.returns-in_err-split-clause-few
-returns-in_err-split-clause-few g c =
-    let few = c.split.ensures.device.few in
-    let most = read_at_most (cached_log c.take_two_blocks.new.thread c.args.index) in
-    let taken = ap (λ (t : ThreadView). read_count t.kept.history) c.in-Some.ensures.taken in
-    omega (arith, few, most, taken)
 
 pub returns-clause-few : goal.returns-clause-few
 returns-clause-few g c =

@@ -1,5 +1,4 @@
-use Rattle.std.proofs.Common.{ap, sym, subst, ◌∙◌, set}
-use Rattle.lfs_operations.proofs.Common.{BlockStates, IsFree, Free, InFlight, ThreadView}
+use Rattle.lfs_operations.proofs.Common.{ap, sym, subst, ◌∙◌, set, BlockStates, IsFree, Free, InFlight, ThreadView}
 use Rattle.lfs_operations.proofs.Taking.{two_free, not_two, put_back}
 use Rattle.lfs_operations.proofs.changes.take_two_blocks.Goals as goal
 

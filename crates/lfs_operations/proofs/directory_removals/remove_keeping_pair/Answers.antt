@@ -1,11 +1,10 @@
-use Rattle.std.proofs.Common.{ap, sym, subst, ◌∙◌, ◌-◌, Err}
-use Rattle.lfs_operations.proofs.Common.{err_from_is_err_and, Gstate, LossLeavesCleanly, ChangesThreadBlocks, thread_pair_at, address_blocks, addresses_blocks}
-use Rattle.lfs_operations.specs.Dropping.{CanDropAt, IsPairDropped, LeftByDrop}
+use Rattle.lfs_operations.proofs.Common.{ap, sym, subst, ◌∙◌, ◌-◌, Err, on_ok_weaker, err_from_is_err_and, Gstate, LossLeavesCleanly, ChangesThreadBlocks, thread_pair_at, addresses_blocks, CanDropAt, IsPairDropped, LeftByDrop, tree_on_disk, tree_without_entry}
+use Rattle.lfs_operations.proofs.Putting.{survives_more, survives_step}
 use Rattle.lfs_operations.proofs.AlteredDrops.{beside_alters}
 use Rattle.lfs_operations.proofs.Removed.{reports_again}
 use Rattle.lfs_operations.proofs.LastDrop.{can_drop_last}
-use Rattle.lfs_operations.proofs.RmdirThread.{directory_removed, may_go}
-use Rattle.lfs_operations.proofs.UnlinkedSteps.{both_survive, first_survives, steps_from, steps_then, writes_first, writes_two, written_beside}
+use Rattle.lfs_operations.proofs.RmdirThread.{directory_removed, may_go, left_first, left_second}
+use Rattle.lfs_operations.proofs.UnlinkedSteps.{steps_from, steps_then, writes_first, writes_two, written_beside}
 use Rattle.lfs_operations.proofs.directory_removals.remove_keeping_pair.Goals as goal
 
 pub drop_pair_at-requires-clause-can : goal.drop_pair_at-requires-clause-can
@@ -25,30 +24,11 @@ returns-in_err-unlink_directory_entry-clause-device g c =
     (writes_first (thread_pair_at c.args.thread.now.kept c.args.pair).at (thread_pair_at c.args.thread.now.kept (c.args.gone - 1)).at c.unlink_directory_entry.ensures.device)
 
 pub returns-in_err-unlink_directory_entry-clause-survives : goal.returns-in_err-unlink_directory_entry-clause-survives
-returns-in_err-unlink_directory_entry-clause-survives g c take = first_survives c.args.thread.now.kept c.args.pair c.args.id c.args.first c.args.gone take c.requires.stays c.unlink_directory_entry.new.thread.kept.history c.unlink_directory_entry.ensures.stops
-
-pub returns-in_err-drop_pair_at-clause-errors : goal.returns-in_err-drop_pair_at-clause-errors
-returns-in_err-drop_pair_at-clause-errors g c =
-    let r = c.from_residual-in_err-drop_pair_at in
-    let p = err_from_is_err_and r.result r.ensures.1 in
-    steps_then c.args.thread.now c.unlink_directory_entry.new.thread c.drop_pair_at.new.thread c.in_ok-unlink_directory_entry.field-0 c.unlink_directory_entry.result r.result c.in_ok-unlink_directory_entry.was c.unlink_directory_entry.ensures.errors
-    (reports_again c.unlink_directory_entry.new.thread c.drop_pair_at.new.thread p.0 c.drop_pair_at.result r.result (c.in_err-drop_pair_at.was ∙ ap Err (sym p.2)) p.1 c.drop_pair_at.ensures.errors.failed c.drop_pair_at.ensures.errors.reported)
-
-pub returns-in_err-drop_pair_at-clause-device : goal.returns-in_err-drop_pair_at-clause-device
-returns-in_err-drop_pair_at-clause-device g c =
-    subst (λ at. ChangesThreadBlocks (addresses_blocks at (thread_pair_at c.args.thread.now.kept (c.args.gone - 1)).at) c.args.thread.now.kept c.drop_pair_at.new.thread.kept) (sym (written_beside c.args.thread.now.kept c.args.pair c.args.first c.requires.stays))
-    (writes_two c.args.thread.now.kept c.unlink_directory_entry.new.thread.kept c.drop_pair_at.new.thread.kept c.args.pair c.args.gone _ c.in_ok-unlink_directory_entry.ensures.is_unlinked
-    c.unlink_directory_entry.ensures.device c.drop_pair_at.ensures.device)
-
-pub returns-in_err-drop_pair_at-clause-survives : goal.returns-in_err-drop_pair_at-clause-survives
-returns-in_err-drop_pair_at-clause-survives g c take = both_survive c.args.thread.now.kept c.args.pair c.args.id c.args.first c.args.gone take c.requires.stays c.unlink_directory_entry.new.thread.kept c.drop_pair_at.new.thread.kept
-    (address_blocks (thread_pair_at c.args.thread.now.kept c.args.pair).at) (address_blocks (thread_pair_at c.unlink_directory_entry.new.thread.kept (c.args.gone - 1)).at)
-    c.in_ok-unlink_directory_entry.ensures.is_unlinked c.unlink_directory_entry.ensures.device c.drop_pair_at.ensures.device c.unlink_directory_entry.ensures.stops
-    (subst (λ (s : Gstate). LossLeavesCleanly c.unlink_directory_entry.new.thread.kept.history c.drop_pair_at.new.thread.kept.history (LeftByDrop c.unlink_directory_entry.new.thread.kept (c.args.gone - 1) s)) c.none.ensures c.drop_pair_at.ensures.stops)
+returns-in_err-unlink_directory_entry-clause-survives g c take = survives_step c.args.thread.now.kept.disk (left_first c.args.thread.now.kept c.args.pair c.args.id c.args.first c.args.gone take c.requires.stays) c.unlink_directory_entry.ensures.stops
 
 pub returns-clause-is_removed : goal.returns-clause-is_removed
-returns-clause-is_removed g c take = directory_removed c.args.thread.now.kept c.args.pair c.args.id c.args.first c.args.gone take c.requires.stays c.unlink_directory_entry.new.thread.kept c.in_ok-unlink_directory_entry.ensures.is_unlinked c.drop_pair_at.new.thread.kept
-    (subst (λ (s : Gstate). IsPairDropped c.unlink_directory_entry.new.thread.kept (c.args.gone - 1) s c.drop_pair_at.new.thread.kept) c.none.ensures c.in_ok-drop_pair_at.ensures.is_dropped)
+returns-clause-is_removed g c = on_ok_weaker c.drop_pair_at.result (λ is take. directory_removed c.args.thread.now.kept c.args.pair c.args.id c.args.first c.args.gone take c.requires.stays c.unlink_directory_entry.new.thread.kept c.in_ok-unlink_directory_entry.ensures.is_unlinked c.drop_pair_at.new.thread.kept
+    (subst (λ (s : Gstate). IsPairDropped c.unlink_directory_entry.new.thread.kept (c.args.gone - 1) s c.drop_pair_at.new.thread.kept) c.none.ensures is)) c.drop_pair_at.ensures.is_dropped
 
 pub returns-clause-device : goal.returns-clause-device
 returns-clause-device g c =
@@ -57,12 +37,20 @@ returns-clause-device g c =
     c.unlink_directory_entry.ensures.device c.drop_pair_at.ensures.device)
 
 pub returns-clause-survives : goal.returns-clause-survives
-returns-clause-survives g c take = both_survive c.args.thread.now.kept c.args.pair c.args.id c.args.first c.args.gone take c.requires.stays c.unlink_directory_entry.new.thread.kept c.drop_pair_at.new.thread.kept
-    (address_blocks (thread_pair_at c.args.thread.now.kept c.args.pair).at) (address_blocks (thread_pair_at c.unlink_directory_entry.new.thread.kept (c.args.gone - 1)).at)
-    c.in_ok-unlink_directory_entry.ensures.is_unlinked c.unlink_directory_entry.ensures.device c.drop_pair_at.ensures.device c.unlink_directory_entry.ensures.stops
-    (subst (λ (s : Gstate). LossLeavesCleanly c.unlink_directory_entry.new.thread.kept.history c.drop_pair_at.new.thread.kept.history (LeftByDrop c.unlink_directory_entry.new.thread.kept (c.args.gone - 1) s)) c.none.ensures c.drop_pair_at.ensures.stops)
+returns-clause-survives g c take =
+    let t = c.args.thread.now.kept in
+    let m = c.unlink_directory_entry.new.thread.kept in
+    survives_more (tree_on_disk t.disk t.pairs) (tree_without_entry t take.can.path take.can.name) c.unlink_directory_entry.ensures.device c.drop_pair_at.ensures.device
+    (survives_step t.disk (left_first t c.args.pair c.args.id c.args.first c.args.gone take c.requires.stays) c.unlink_directory_entry.ensures.stops)
+    (left_second t c.args.pair c.args.id c.args.first c.args.gone take c.requires.stays m c.in_ok-unlink_directory_entry.ensures.is_unlinked)
+    (subst (λ (s : Gstate). LossLeavesCleanly m.history c.drop_pair_at.new.thread.kept.history (LeftByDrop m (c.args.gone - 1) s)) c.none.ensures c.drop_pair_at.ensures.stops)
 
 pub returns-clause-alters : goal.returns-clause-alters
 returns-clause-alters g c =
+    on_ok_weaker c.drop_pair_at.result (λ is.
     beside_alters c.args.thread.now.kept c.args.pair c.args.id c.args.first c.args.gone c.requires.can c.requires.stays c.unlink_directory_entry.new.thread.kept c.in_ok-unlink_directory_entry.ensures.is_unlinked c.drop_pair_at.new.thread.kept
-    (subst (λ (s : Gstate). IsPairDropped c.unlink_directory_entry.new.thread.kept (c.args.gone - 1) s c.drop_pair_at.new.thread.kept) c.none.ensures c.in_ok-drop_pair_at.ensures.is_dropped)
+    (subst (λ (s : Gstate). IsPairDropped c.unlink_directory_entry.new.thread.kept (c.args.gone - 1) s c.drop_pair_at.new.thread.kept) c.none.ensures is))
+    c.drop_pair_at.ensures.is_dropped
+
+pub returns-clause-errors : goal.returns-clause-errors
+returns-clause-errors g c = steps_then c.args.thread.now c.unlink_directory_entry.new.thread c.drop_pair_at.new.thread c.in_ok-unlink_directory_entry.field-0 c.unlink_directory_entry.result c.drop_pair_at.result c.in_ok-unlink_directory_entry.was c.unlink_directory_entry.ensures.errors c.drop_pair_at.ensures.errors

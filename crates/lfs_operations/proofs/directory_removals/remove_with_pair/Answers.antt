@@ -1,14 +1,11 @@
-use Rattle.std.proofs.Common.{ℕ, ◌≡◌, sym, subst, ◌∙◌, ◌-◌, ap, Err}
-use Rattle.lfs_operations.proofs.Common.{err_from_is_err_and, Gstate, zero_gstate, LossLeavesCleanly, KeptThread, ChangesThreadBlocks, thread_pair_at, address_blocks, addresses_blocks}
-use Rattle.lfs_tag.specs.FieldsView.{move_view}
-use Rattle.lfs_operations.specs.Dropping.{CanDropAt, IsPairDropped, LeftByDrop}
-use Rattle.lfs_operations.specs.Unlinking.{number_after_drop}
+use Rattle.lfs_operations.proofs.Common.{ℕ, ◌≡◌, sym, subst, ◌∙◌, ◌-◌, ap, Err, on_ok_weaker, err_from_is_err_and, Gstate, zero_gstate, LossLeavesCleanly, KeptThread, ChangesThreadBlocks, thread_pair_at, address_blocks, addresses_blocks, move_view, CanDropAt, IsPairDropped, LeftByDrop, number_after_drop, tree_on_disk, tree_without_entry}
+use Rattle.lfs_operations.proofs.Putting.{survives_more, survives_step}
 use Rattle.lfs_operations.proofs.AlteredDrops.{whole_alters}
 use Rattle.lfs_operations.proofs.Removed.{reports_again}
 use Rattle.lfs_operations.proofs.RemovedWhole.{stands_whole}
 use Rattle.lfs_operations.proofs.LastDrop.{can_drop_last}
-use Rattle.lfs_operations.proofs.UnlinkedWhole.{can_drop_entry, may_go, whole_removed}
-use Rattle.lfs_operations.proofs.UnlinkedSteps.{both_survive_whole, first_survives_whole, steps_from, steps_then, writes_first, writes_whole, written_whole}
+use Rattle.lfs_operations.proofs.UnlinkedWhole.{can_drop_entry, may_go, whole_removed, whole_first, whole_second}
+use Rattle.lfs_operations.proofs.UnlinkedSteps.{steps_from, steps_then, writes_first, writes_whole, written_whole}
 use Rattle.lfs_operations.proofs.directory_removals.remove_with_pair.Goals as goal
 
 then_dropped : (m : KeptThread) (i j : ℕ) (s : Gstate) (new : KeptThread) → i ≡ j → s ≡ zero_gstate → IsPairDropped m (i - 1) s new → IsPairDropped m (j - 1) zero_gstate new
@@ -37,36 +34,16 @@ returns-in_err-drop_pair_at-clause-device g c =
     (writes_first (thread_pair_at c.args.thread.now.kept (c.args.pair - 1)).at (thread_pair_at c.args.thread.now.kept (c.args.gone - 1)).at c.drop_pair_at.ensures.device)
 
 pub returns-in_err-drop_pair_at-clause-survives : goal.returns-in_err-drop_pair_at-clause-survives
-returns-in_err-drop_pair_at-clause-survives g c take = first_survives_whole c.args.thread.now.kept c.args.pair c.args.id c.args.first c.args.gone take (stands_whole c.args.thread.now.kept c.args.pair c.args.id c.args.first take.can take.begins c.requires.goes) c.drop_pair_at.new.thread.kept.history
-    (subst (λ (s : Gstate). LossLeavesCleanly c.args.thread.now.kept.history c.drop_pair_at.new.thread.kept.history (LeftByDrop c.args.thread.now.kept (c.args.pair - 1) s)) c.sync_delta.ensures c.drop_pair_at.ensures.stops)
-
-pub returns-in_err-drop_pair_at-2-clause-errors : goal.returns-in_err-drop_pair_at-2-clause-errors
-returns-in_err-drop_pair_at-2-clause-errors g c =
-    let r = c.from_residual-in_err-drop_pair_at-2 in
-    let p = err_from_is_err_and r.result r.ensures.1 in
-    steps_then c.args.thread.now c.drop_pair_at.new.thread c.drop_pair_at-2.new.thread c.in_ok-drop_pair_at.field-0 c.drop_pair_at.result r.result c.in_ok-drop_pair_at.was c.drop_pair_at.ensures.errors
-    (reports_again c.drop_pair_at.new.thread c.drop_pair_at-2.new.thread p.0 c.drop_pair_at-2.result r.result (c.in_err-drop_pair_at-2.was ∙ ap Err (sym p.2)) p.1 c.drop_pair_at-2.ensures.errors.failed c.drop_pair_at-2.ensures.errors.reported)
-
-pub returns-in_err-drop_pair_at-2-clause-device : goal.returns-in_err-drop_pair_at-2-clause-device
-returns-in_err-drop_pair_at-2-clause-device g c =
-    subst (λ at. ChangesThreadBlocks (addresses_blocks at (thread_pair_at c.args.thread.now.kept (c.args.gone - 1)).at) c.args.thread.now.kept c.drop_pair_at-2.new.thread.kept) (sym (written_whole c.args.thread.now.kept c.args.pair c.args.first c.requires.goes))
-    (writes_whole c.args.thread.now.kept c.args.pair c.args.id c.args.first c.args.gone c.requires.can (stands_whole c.args.thread.now.kept c.args.pair c.args.id c.args.first c.requires.can.can c.requires.can.begins c.requires.goes) c.drop_pair_at.new.thread.kept c.drop_pair_at-2.new.thread.kept
-    (subst (λ (s : Gstate). IsPairDropped c.args.thread.now.kept (c.args.pair - 1) s c.drop_pair_at.new.thread.kept) c.sync_delta.ensures c.in_ok-drop_pair_at.ensures.is_dropped)
-    c.drop_pair_at.ensures.device (subst (λ (i : ℕ). ChangesThreadBlocks (address_blocks (thread_pair_at c.drop_pair_at.new.thread.kept (i - 1)).at) c.drop_pair_at.new.thread.kept c.drop_pair_at-2.new.thread.kept) c.number_after_dropped.ensures c.drop_pair_at-2.ensures.device))
-
-pub returns-in_err-drop_pair_at-2-clause-survives : goal.returns-in_err-drop_pair_at-2-clause-survives
-returns-in_err-drop_pair_at-2-clause-survives g c take = both_survive_whole c.args.thread.now.kept c.args.pair c.args.id c.args.first c.args.gone take (stands_whole c.args.thread.now.kept c.args.pair c.args.id c.args.first take.can take.begins c.requires.goes) c.drop_pair_at.new.thread.kept c.drop_pair_at-2.new.thread.kept
-    (address_blocks (thread_pair_at c.args.thread.now.kept (c.args.pair - 1)).at) (address_blocks (thread_pair_at c.drop_pair_at.new.thread.kept (number_after_drop c.args.pair c.args.gone - 1)).at)
-    (subst (λ (s : Gstate). IsPairDropped c.args.thread.now.kept (c.args.pair - 1) s c.drop_pair_at.new.thread.kept) c.sync_delta.ensures c.in_ok-drop_pair_at.ensures.is_dropped)
-    c.drop_pair_at.ensures.device (subst (λ (i : ℕ). ChangesThreadBlocks (address_blocks (thread_pair_at c.drop_pair_at.new.thread.kept (i - 1)).at) c.drop_pair_at.new.thread.kept c.drop_pair_at-2.new.thread.kept) c.number_after_dropped.ensures c.drop_pair_at-2.ensures.device)
-    (subst (λ (s : Gstate). LossLeavesCleanly c.args.thread.now.kept.history c.drop_pair_at.new.thread.kept.history (LeftByDrop c.args.thread.now.kept (c.args.pair - 1) s)) c.sync_delta.ensures c.drop_pair_at.ensures.stops)
-    (subst (λ (i : ℕ). LossLeavesCleanly c.drop_pair_at.new.thread.kept.history c.drop_pair_at-2.new.thread.kept.history (LeftByDrop c.drop_pair_at.new.thread.kept (i - 1) zero_gstate)) c.number_after_dropped.ensures
-    (subst (λ (s : Gstate). LossLeavesCleanly c.drop_pair_at.new.thread.kept.history c.drop_pair_at-2.new.thread.kept.history (LeftByDrop c.drop_pair_at.new.thread.kept (c.number_after_dropped.result - 1) s)) c.none.ensures c.drop_pair_at-2.ensures.stops))
+returns-in_err-drop_pair_at-clause-survives g c take =
+    let t = c.args.thread.now.kept in
+    let m = c.drop_pair_at.new.thread.kept in
+    survives_step t.disk (whole_first t c.args.pair c.args.id c.args.first c.args.gone take (stands_whole t c.args.pair c.args.id c.args.first take.can take.begins c.requires.goes))
+    (subst (λ (s : Gstate). LossLeavesCleanly t.history m.history (LeftByDrop t (c.args.pair - 1) s)) c.sync_delta.ensures c.drop_pair_at.ensures.stops)
 
 pub returns-clause-is_removed : goal.returns-clause-is_removed
-returns-clause-is_removed g c take = whole_removed c.args.thread.now.kept c.args.pair c.args.id c.args.first c.args.gone take (stands_whole c.args.thread.now.kept c.args.pair c.args.id c.args.first take.can take.begins c.requires.goes) c.drop_pair_at.new.thread.kept
+returns-clause-is_removed g c = on_ok_weaker c.drop_pair_at-2.result (λ is take. whole_removed c.args.thread.now.kept c.args.pair c.args.id c.args.first c.args.gone take (stands_whole c.args.thread.now.kept c.args.pair c.args.id c.args.first take.can take.begins c.requires.goes) c.drop_pair_at.new.thread.kept
     (subst (λ (s : Gstate). IsPairDropped c.args.thread.now.kept (c.args.pair - 1) s c.drop_pair_at.new.thread.kept) c.sync_delta.ensures c.in_ok-drop_pair_at.ensures.is_dropped)
-    c.drop_pair_at-2.new.thread.kept (then_dropped c.drop_pair_at.new.thread.kept c.number_after_dropped.result (number_after_drop c.args.pair c.args.gone) (move_view c.none.result) c.drop_pair_at-2.new.thread.kept c.number_after_dropped.ensures c.none.ensures c.in_ok-drop_pair_at-2.ensures.is_dropped)
+    c.drop_pair_at-2.new.thread.kept (then_dropped c.drop_pair_at.new.thread.kept c.number_after_dropped.result (number_after_drop c.args.pair c.args.gone) (move_view c.none.result) c.drop_pair_at-2.new.thread.kept c.number_after_dropped.ensures c.none.ensures is)) c.drop_pair_at-2.ensures.is_dropped
 
 pub returns-clause-device : goal.returns-clause-device
 returns-clause-device g c =
@@ -76,16 +53,25 @@ returns-clause-device g c =
     c.drop_pair_at.ensures.device (subst (λ (i : ℕ). ChangesThreadBlocks (address_blocks (thread_pair_at c.drop_pair_at.new.thread.kept (i - 1)).at) c.drop_pair_at.new.thread.kept c.drop_pair_at-2.new.thread.kept) c.number_after_dropped.ensures c.drop_pair_at-2.ensures.device))
 
 pub returns-clause-survives : goal.returns-clause-survives
-returns-clause-survives g c take = both_survive_whole c.args.thread.now.kept c.args.pair c.args.id c.args.first c.args.gone take (stands_whole c.args.thread.now.kept c.args.pair c.args.id c.args.first take.can take.begins c.requires.goes) c.drop_pair_at.new.thread.kept c.drop_pair_at-2.new.thread.kept
-    (address_blocks (thread_pair_at c.args.thread.now.kept (c.args.pair - 1)).at) (address_blocks (thread_pair_at c.drop_pair_at.new.thread.kept (number_after_drop c.args.pair c.args.gone - 1)).at)
-    (subst (λ (s : Gstate). IsPairDropped c.args.thread.now.kept (c.args.pair - 1) s c.drop_pair_at.new.thread.kept) c.sync_delta.ensures c.in_ok-drop_pair_at.ensures.is_dropped)
-    c.drop_pair_at.ensures.device (subst (λ (i : ℕ). ChangesThreadBlocks (address_blocks (thread_pair_at c.drop_pair_at.new.thread.kept (i - 1)).at) c.drop_pair_at.new.thread.kept c.drop_pair_at-2.new.thread.kept) c.number_after_dropped.ensures c.drop_pair_at-2.ensures.device)
-    (subst (λ (s : Gstate). LossLeavesCleanly c.args.thread.now.kept.history c.drop_pair_at.new.thread.kept.history (LeftByDrop c.args.thread.now.kept (c.args.pair - 1) s)) c.sync_delta.ensures c.drop_pair_at.ensures.stops)
-    (subst (λ (i : ℕ). LossLeavesCleanly c.drop_pair_at.new.thread.kept.history c.drop_pair_at-2.new.thread.kept.history (LeftByDrop c.drop_pair_at.new.thread.kept (i - 1) zero_gstate)) c.number_after_dropped.ensures
-    (subst (λ (s : Gstate). LossLeavesCleanly c.drop_pair_at.new.thread.kept.history c.drop_pair_at-2.new.thread.kept.history (LeftByDrop c.drop_pair_at.new.thread.kept (c.number_after_dropped.result - 1) s)) c.none.ensures c.drop_pair_at-2.ensures.stops))
+returns-clause-survives g c take =
+    let t = c.args.thread.now.kept in
+    let m = c.drop_pair_at.new.thread.kept in
+    let new = c.drop_pair_at-2.new.thread.kept in
+    let whole = stands_whole t c.args.pair c.args.id c.args.first take.can take.begins c.requires.goes in
+    survives_more (tree_on_disk t.disk t.pairs) (tree_without_entry t take.can.path take.can.name) c.drop_pair_at.ensures.device c.drop_pair_at-2.ensures.device
+    (survives_step t.disk (whole_first t c.args.pair c.args.id c.args.first c.args.gone take whole)
+    (subst (λ (s : Gstate). LossLeavesCleanly t.history m.history (LeftByDrop t (c.args.pair - 1) s)) c.sync_delta.ensures c.drop_pair_at.ensures.stops))
+    (whole_second t c.args.pair c.args.id c.args.first c.args.gone take whole m (subst (λ (s : Gstate). IsPairDropped t (c.args.pair - 1) s m) c.sync_delta.ensures c.in_ok-drop_pair_at.ensures.is_dropped))
+    (subst (λ (i : ℕ). LossLeavesCleanly m.history new.history (LeftByDrop m (i - 1) zero_gstate)) c.number_after_dropped.ensures
+    (subst (λ (s : Gstate). LossLeavesCleanly m.history new.history (LeftByDrop m (c.number_after_dropped.result - 1) s)) c.none.ensures c.drop_pair_at-2.ensures.stops))
 
 pub returns-clause-alters : goal.returns-clause-alters
 returns-clause-alters g c =
+    on_ok_weaker c.drop_pair_at-2.result (λ is.
     whole_alters c.args.thread.now.kept c.args.pair c.args.id c.args.first c.args.gone c.requires.can (stands_whole c.args.thread.now.kept c.args.pair c.args.id c.args.first c.requires.can.can c.requires.can.begins c.requires.goes) c.drop_pair_at.new.thread.kept
     (subst (λ (s : Gstate). IsPairDropped c.args.thread.now.kept (c.args.pair - 1) s c.drop_pair_at.new.thread.kept) c.sync_delta.ensures c.in_ok-drop_pair_at.ensures.is_dropped)
-    c.drop_pair_at-2.new.thread.kept (then_dropped c.drop_pair_at.new.thread.kept c.number_after_dropped.result (number_after_drop c.args.pair c.args.gone) (move_view c.none.result) c.drop_pair_at-2.new.thread.kept c.number_after_dropped.ensures c.none.ensures c.in_ok-drop_pair_at-2.ensures.is_dropped)
+    c.drop_pair_at-2.new.thread.kept (then_dropped c.drop_pair_at.new.thread.kept c.number_after_dropped.result (number_after_drop c.args.pair c.args.gone) (move_view c.none.result) c.drop_pair_at-2.new.thread.kept c.number_after_dropped.ensures c.none.ensures is))
+    c.drop_pair_at-2.ensures.is_dropped
+
+pub returns-clause-errors : goal.returns-clause-errors
+returns-clause-errors g c = steps_then c.args.thread.now c.drop_pair_at.new.thread c.drop_pair_at-2.new.thread c.in_ok-drop_pair_at.field-0 c.drop_pair_at.result c.drop_pair_at-2.result c.in_ok-drop_pair_at.was c.drop_pair_at.ensures.errors c.drop_pair_at-2.ensures.errors

@@ -1,8 +1,4 @@
-use Rattle.std.proofs.Common.{ℕ, ◌≡◌, ◌+◌, ◌-◌, ◌<◌, [], ◌∷◌, Some, length, subst, ap, ap₂, ◌∙◌, arith}
-use Rattle.lfs_operations.proofs.Common.{recursion_from_All, PairChange, PutMove, content_at, Disk, Pair, complete_after, thread_pair_at, tail_setting_change}
-use Rattle.lfs_device.specs.Bytes.{HoldBytes}
-use Rattle.lfs_tag.specs.FieldsView.{move_view}
-use Rattle.lfs_operations.specs.Dropping.{tail_over_drop}
+use Rattle.lfs_operations.proofs.Common.{ℕ, ◌≡◌, ◌+◌, ◌-◌, ◌<◌, [], ◌∷◌, Some, length, subst, ap, ap₂, ◌∙◌, arith, recursion_from_All, PairChange, PutMove, content_at, Disk, Pair, complete_after, thread_pair_at, tail_setting_change, HoldBytes, move_view, tail_over_drop}
 use Rattle.lfs_operations.proofs.DroppedTails.{taking_made}
 use Rattle.lfs_operations.proofs.drops.drop_changes_at.Goals as goal
 

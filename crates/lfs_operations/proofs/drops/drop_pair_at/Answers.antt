@@ -1,9 +1,5 @@
-use Rattle.std.proofs.Common.{ℕ, ◌≡◌, ◌+◌, ◌-◌, ◌<◌, List, Some, length, Ok, Err, subst, sym, ap, ◌∙◌, arith}
-use Rattle.lfs_operations.proofs.Common.{err_from_is_err_and, HoldsAtLosses-weaker, changes_view, PairChange, CanDropNext, IsNextDropped, LossLeavesPairChanged, RefusesCommit, complete_after, KeptThread, Gstate}
-use Rattle.lfs_pair.specs.declared.commits.Outcome.{Outcome}
+use Rattle.lfs_operations.proofs.Common.{ℕ, ◌≡◌, ◌+◌, ◌-◌, ◌<◌, List, Some, length, Ok, Err, subst, sym, ap, ◌∙◌, arith, err_from_is_err_and, HoldsAtLosses-weaker, changes_view, PairChange, CanDropNext, IsNextDropped, LossLeavesPairChanged, RefusesCommit, complete_after, KeptThread, Gstate, Outcome, move_view, CanDropAt, IsPairDropped, dropping_changes, content_after_drop}
 use Rattle.lfs_pair.specs.declared.commits.Outcome.TheVariants as outcome
-use Rattle.lfs_tag.specs.FieldsView.{move_view}
-use Rattle.lfs_operations.specs.Dropping.{CanDropAt, IsPairDropped, dropping_changes, content_after_drop}
 use Rattle.lfs_operations.proofs.DroppedTails.{can_drop, drop_not_refused, has_dropped, left_by_drop}
 use Rattle.lfs_operations.proofs.Removed.{reports_again}
 use Rattle.lfs_operations.proofs.drops.drop_pair_at.Goals as goal

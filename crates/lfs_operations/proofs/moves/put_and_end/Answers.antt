@@ -1,83 +1,76 @@
-use Rattle.std.proofs.Common.{ℕ, ap, ap₂, length, sym, subst, ◌∙◌, ◌-◌, arith, Err}
-use Rattle.lfs_operations.proofs.Common.{err_from_is_err_and, changes_view, ChangesThreadBlocks, thread_pair_at, address_blocks}
-use Rattle.lfs_operations.specs.MoveEnds.{CanEndAt, HasEndedAt, written_at_end}
-use Rattle.lfs_operations.specs.MovingSteps.{ReportsErrorsOfCommitsTakingBlocks, number_after_insertion}
+use Rattle.lfs_operations.proofs.Common.{inl, ℕ, ap, ap₂, length, sym, subst, ◌∙◌, ◌-◌, arith, Err, on_ok_weaker, err_from_is_err_and, changes_view, ChangesThreadBlocks, thread_pair_at, address_blocks, CanEndAt, HasEndedAt, written_at_end, ReportsErrorsOfCommitsTakingBlocks, number_after_insertion}
 use Rattle.lfs_operations.proofs.MovReporting.{not_io, survives_both, reports_of_end, writes_at_end, writes_first}
 use Rattle.lfs_operations.proofs.OntoWritten.{end_within, put_within}
 use Rattle.lfs_operations.proofs.moves.put_and_end.Goals as goal
 
+pub returns-in_err-change_or_split-clause-errors : goal.returns-in_err-change_or_split-clause-errors
+returns-in_err-change_or_split-clause-errors g c =
+    let p = err_from_is_err_and c.from_residual.result c.from_residual.ensures.1 in
+    let e = c.change_or_split.ensures.errors in
+    subst (λ r. ReportsErrorsOfCommitsTakingBlocks c.args.thread.now c.change_or_split.new.thread c.args.route.new_pair (changes_view c.args.changes.now) r) (c.in_err-change_or_split.was ∙ ap Err (sym p.2) ∙ sym p.1)
+    (record {
+      failed = inl e.reports.failed;
+      errors = e.reports.reports.errors;
+      fault = e.reports.reports.fault;
+      no_fault = e.reports.reports.no_fault;
+      unchanged = e.reports.reports.unchanged;
+      no_space = e.reports.reports.no_space;
+      too_large = e.too_large;
+    })
+
 pub returns-in_err-change_or_split-clause-device : goal.returns-in_err-change_or_split-clause-device
-returns-in_err-change_or_split-clause-device g c = writes_first c.args.thread.now.kept c.change_or_split.new.thread.kept (written_at_end c.args.old_pair c.args.goes) c.args.new_pair c.change_or_split.ensures.device
+returns-in_err-change_or_split-clause-device g c = writes_first c.args.thread.now.kept c.change_or_split.new.thread.kept (written_at_end c.args.route.old_pair c.args.goes) c.args.route.new_pair c.change_or_split.ensures.device
 
 pub overflow_sub-fresh : goal.overflow_sub-fresh
 overflow_sub-fresh g c =
-    let ends = c.requires.ends c.change_or_split.new.thread.kept c.in_ok-change_or_split.ensures.is_put in
+    let ends = c.requires.can.ends c.change_or_split.new.thread.kept c.in_ok-change_or_split.ensures.is_put in
     omega (arith, ends.grown, c.len-before.ensures, c.len.ensures)
 
 pub number_after_inserted-pair-requires : goal.number_after_inserted-pair-requires
 number_after_inserted-pair-requires g c =
-    let ends = c.requires.ends c.change_or_split.new.thread.kept c.in_ok-change_or_split.ensures.is_put in
-    let same = ap₂ (λ m n. number_after_insertion c.args.old_pair c.args.new_pair (m - n)) c.len.ensures c.len-before.ensures in
+    let ends = c.requires.can.ends c.change_or_split.new.thread.kept c.in_ok-change_or_split.ensures.is_put in
+    let same = ap₂ (λ m n. number_after_insertion c.args.route.old_pair c.args.route.new_pair (m - n)) c.len.ensures c.len-before.ensures in
     let below = ends.can.below in
     let fits = c.len.type_inv in
     omega (arith, same, below, fits, c.len.ensures)
 
 pub end_move-requires-clause-can : goal.end_move-requires-clause-can
 end_move-requires-clause-can g c =
-    let ends = c.requires.ends c.change_or_split.new.thread.kept c.in_ok-change_or_split.ensures.is_put in
-    subst (λ i. CanEndAt c.change_or_split.new.thread.kept i c.args.old_id c.args.goes)
-    (sym (c.number_after_inserted-pair.ensures ∙ ap₂ (λ m n. number_after_insertion c.args.old_pair c.args.new_pair (m - n)) c.len.ensures c.len-before.ensures)) ends.can
-
-pub returns-in_err-end_move-clause-errors : goal.returns-in_err-end_move-clause-errors
-returns-in_err-end_move-clause-errors g c =
-    let from = c.from_residual-in_err-end_move in
-    let p = err_from_is_err_and from.result from.ensures.1 in
-    subst (λ r. ReportsErrorsOfCommitsTakingBlocks c.args.thread.now c.end_move.new.thread c.args.new_pair (changes_view c.args.changes.now) r) (c.in_err-end_move.was ∙ ap Err (sym p.2) ∙ sym p.1)
-    (reports_of_end c.args.thread.now c.change_or_split.new.thread c.end_move.new.thread c.args.new_pair (changes_view c.args.changes.now) c.end_move.result
-    (c.change_or_split.ensures.errors.reports.reports.no_fault (not_io c.change_or_split.result c.in_ok-change_or_split.field-0 c.in_ok-change_or_split.was)) c.end_move.ensures.errors)
-
-pub returns-in_err-end_move-clause-device : goal.returns-in_err-end_move-clause-device
-returns-in_err-end_move-clause-device g c =
-    let index = c.number_after_inserted-pair.ensures ∙ ap₂ (λ m n. number_after_insertion c.args.old_pair c.args.new_pair (m - n)) c.len.ensures c.len-before.ensures in
-    writes_at_end c.args.thread.now.kept c.change_or_split.new.thread.kept c.end_move.new.thread.kept c.args.old_pair c.args.old_id c.args.goes c.args.new_pair (changes_view c.args.changes.now) c.in_ok-change_or_split.ensures.is_put c.requires.can.can.below
-    (c.requires.ends c.change_or_split.new.thread.kept c.in_ok-change_or_split.ensures.is_put) c.change_or_split.ensures.device
-    (subst (λ (i : ℕ). ChangesThreadBlocks (address_blocks (thread_pair_at c.change_or_split.new.thread.kept (written_at_end i c.args.goes)).at) c.change_or_split.new.thread.kept c.end_move.new.thread.kept) index c.end_move.ensures.device)
-
-pub returns-in_err-end_move-clause-survives : goal.returns-in_err-end_move-clause-survives
-returns-in_err-end_move-clause-survives g c =
-    survives_both c.args.thread.now.kept c.change_or_split.new.thread.kept c.end_move.new.thread.kept c.args.new_pair (changes_view c.args.changes.now) c.in_ok-change_or_split.ensures.is_put c.change_or_split.ensures.stops c.change_or_split.ensures.device
-    c.end_move.ensures.device.at_worst c.end_move.ensures.survives
+    let ends = c.requires.can.ends c.change_or_split.new.thread.kept c.in_ok-change_or_split.ensures.is_put in
+    subst (λ i. CanEndAt c.change_or_split.new.thread.kept i c.args.route.old_id c.args.goes)
+    (sym (c.number_after_inserted-pair.ensures ∙ ap₂ (λ m n. number_after_insertion c.args.route.old_pair c.args.route.new_pair (m - n)) c.len.ensures c.len-before.ensures)) ends.can
 
 pub returns-clause-done : goal.returns-clause-done
 returns-clause-done g c =
-    let index = c.number_after_inserted-pair.ensures ∙ ap₂ (λ m n. number_after_insertion c.args.old_pair c.args.new_pair (m - n)) c.len.ensures c.len-before.ensures in
+    on_ok_weaker c.end_move.result (λ is.
+    let index = c.number_after_inserted-pair.ensures ∙ ap₂ (λ m n. number_after_insertion c.args.route.old_pair c.args.route.new_pair (m - n)) c.len.ensures c.len-before.ensures in
     let mid = c.change_or_split.new.thread.kept in
     let new = c.end_move.new.thread.kept in
-    let ends = c.requires.ends mid c.in_ok-change_or_split.ensures.is_put in
-    let ended = subst (λ (i : ℕ). HasEndedAt mid i c.args.old_id c.args.goes new) index c.in_ok-end_move.ensures.ended in
+    let ends = c.requires.can.ends mid c.in_ok-change_or_split.ensures.is_put in
+    let ended = subst (λ (i : ℕ). HasEndedAt mid i c.args.route.old_id c.args.goes new) index is in
     record {
       mid = mid;
       put = c.in_ok-change_or_split.ensures.is_put;
       ended = ended;
-      blocks = end_within c.args.thread.now.kept mid new (number_after_insertion c.args.old_pair c.args.new_pair (length mid.pairs - length c.args.thread.now.kept.pairs)) c.args.old_id c.args.goes
-          (put_within c.args.thread.now.kept mid c.args.new_pair (changes_view c.args.changes.now) c.requires.can.can.below c.in_ok-change_or_split.ensures.is_put c.change_or_split.ensures.device) ends.can.below ended
+      blocks = end_within c.args.thread.now.kept mid new (number_after_insertion c.args.route.old_pair c.args.route.new_pair (length mid.pairs - length c.args.thread.now.kept.pairs)) c.args.route.old_id c.args.goes
+          (put_within c.args.thread.now.kept mid c.args.route.new_pair (changes_view c.args.changes.now) c.requires.can.turns.can.below c.in_ok-change_or_split.ensures.is_put c.change_or_split.ensures.device) ends.can.below ended
           (subst (λ (i : ℕ). ChangesThreadBlocks (address_blocks (thread_pair_at mid (written_at_end i c.args.goes)).at) mid new) index c.end_move.ensures.device);
-    }
+    })
+    c.end_move.ensures.ended
 
 pub returns-clause-errors : goal.returns-clause-errors
 returns-clause-errors g c =
-    subst (λ r. ReportsErrorsOfCommitsTakingBlocks c.args.thread.now c.end_move.new.thread c.args.new_pair (changes_view c.args.changes.now) r) c.in_ok-end_move.was
-    (reports_of_end c.args.thread.now c.change_or_split.new.thread c.end_move.new.thread c.args.new_pair (changes_view c.args.changes.now) c.end_move.result
-    (c.change_or_split.ensures.errors.reports.reports.no_fault (not_io c.change_or_split.result c.in_ok-change_or_split.field-0 c.in_ok-change_or_split.was)) c.end_move.ensures.errors)
+    reports_of_end c.args.thread.now c.change_or_split.new.thread c.end_move.new.thread c.args.route.new_pair (changes_view c.args.changes.now) c.end_move.result
+    (c.change_or_split.ensures.errors.reports.reports.no_fault (not_io c.change_or_split.result c.in_ok-change_or_split.field-0 c.in_ok-change_or_split.was)) c.end_move.ensures.errors
 
 pub returns-clause-device : goal.returns-clause-device
 returns-clause-device g c =
-    let index = c.number_after_inserted-pair.ensures ∙ ap₂ (λ m n. number_after_insertion c.args.old_pair c.args.new_pair (m - n)) c.len.ensures c.len-before.ensures in
-    writes_at_end c.args.thread.now.kept c.change_or_split.new.thread.kept c.end_move.new.thread.kept c.args.old_pair c.args.old_id c.args.goes c.args.new_pair (changes_view c.args.changes.now) c.in_ok-change_or_split.ensures.is_put c.requires.can.can.below
-    (c.requires.ends c.change_or_split.new.thread.kept c.in_ok-change_or_split.ensures.is_put) c.change_or_split.ensures.device
+    let index = c.number_after_inserted-pair.ensures ∙ ap₂ (λ m n. number_after_insertion c.args.route.old_pair c.args.route.new_pair (m - n)) c.len.ensures c.len-before.ensures in
+    writes_at_end c.args.thread.now.kept c.change_or_split.new.thread.kept c.end_move.new.thread.kept c.args.route.old_pair c.args.route.old_id c.args.goes c.args.route.new_pair (changes_view c.args.changes.now) c.in_ok-change_or_split.ensures.is_put c.requires.can.turns.can.below
+    (c.requires.can.ends c.change_or_split.new.thread.kept c.in_ok-change_or_split.ensures.is_put) c.change_or_split.ensures.device
     (subst (λ (i : ℕ). ChangesThreadBlocks (address_blocks (thread_pair_at c.change_or_split.new.thread.kept (written_at_end i c.args.goes)).at) c.change_or_split.new.thread.kept c.end_move.new.thread.kept) index c.end_move.ensures.device)
 
 pub returns-clause-survives : goal.returns-clause-survives
 returns-clause-survives g c =
-    survives_both c.args.thread.now.kept c.change_or_split.new.thread.kept c.end_move.new.thread.kept c.args.new_pair (changes_view c.args.changes.now) c.in_ok-change_or_split.ensures.is_put c.change_or_split.ensures.stops c.change_or_split.ensures.device
+    survives_both c.args.thread.now.kept c.change_or_split.new.thread.kept c.end_move.new.thread.kept c.args.route.new_pair (changes_view c.args.changes.now) c.in_ok-change_or_split.ensures.is_put c.change_or_split.ensures.stops c.change_or_split.ensures.device
     c.end_move.ensures.device.at_worst c.end_move.ensures.survives

@@ -1,5 +1,4 @@
-use Rattle.std.proofs.Common.{◌≡◌, ◌<◌, ◌+◌, ◌-◌, length, drop}
-use Rattle.lfs_operations.proofs.Common.{joined_count}
+use Rattle.lfs_operations.proofs.Common.{◌≡◌, ◌<◌, ◌+◌, ◌-◌, length, drop, joined_count}
 use Rattle.lfs_operations.proofs.new_directories.last_directory_pair.Given as goal
 
 abbrev pub invariant-loop-next : goal.invariant-loop-next

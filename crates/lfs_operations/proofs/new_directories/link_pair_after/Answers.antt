@@ -1,16 +1,20 @@
-use Rattle.std.proofs.Common.{ap, sym, subst, ◌∙◌, ◌≡◌, ◌∷◌, [], false, Some, Ok, Err}
-use Rattle.lfs_operations.proofs.Common.{err_from_is_err_and, PutMove, PutTail, Gstate, array_address, with_sync_inverted, IsThreadedIn, complete_after, thread_pair_at, address_blocks}
-use Rattle.lfs_pair.specs.declared.commits.Outcome.{Outcome}
+use Rattle.lfs_operations.proofs.Common.{ap, sym, subst, ◌∙◌, ◌≡◌, ◌∷◌, [], false, Some, Ok, Err, err_from_is_err_and, PutMove, PutTail, Gstate, array_address, with_sync_inverted, is_err, CanThreadIn, IsThreadedIn, complete_after, thread_pair_at, address_blocks, Outcome, move_view, threading_changes}
 use Rattle.lfs_pair.specs.declared.commits.Outcome.TheVariants as outcome
-use Rattle.lfs_tag.specs.FieldsView.{move_view}
-use Rattle.lfs_operations.specs.Making.{threading_changes}
 use Rattle.lfs_operations.proofs.MakingReported.{reported_again}
 use Rattle.lfs_operations.proofs.new_directories.link_pair_after.Goals as goal
+
+pub thread_in-requires-clause-can : goal.thread_in-requires-clause-can
+thread_in-requires-clause-can g c = subst (λ (m : Gstate). CanThreadIn c.args.thread.now.kept c.args.last (array_address c.args.fresh) (PutTail false (Some (array_address c.args.fresh)) ∷ PutMove m ∷ []))
+    (sym (c.turned_sync_delta.ensures ∙ ap with_sync_inverted c.delta.ensures)) c.requires.can.can
 
 pub returns-in_err-thread_in-clause-errors : goal.returns-in_err-thread_in-clause-errors
 returns-in_err-thread_in-clause-errors g c =
     let p = err_from_is_err_and c.from_residual.result c.from_residual.ensures.1 in
-    reported_again (address_blocks (array_address c.args.fresh)) c.args.thread.now.kept c.thread_in.new.self.kept p.0 c.thread_in.result c.from_residual.result (c.in_err-thread_in.was ∙ ap Err (sym p.2)) p.1 c.thread_in.ensures.errors
+    let was = c.in_err-thread_in.was ∙ ap Err (sym p.2) in
+    record {
+      failed = c.thread_in.ensures.failed ∙ ap is_err was ∙ sym (ap is_err p.1);
+      reported = reported_again (address_blocks (array_address c.args.fresh)) c.args.thread.now.kept c.thread_in.new.self.kept p.0 c.thread_in.result c.from_residual.result was p.1 c.thread_in.ensures.errors;
+    }
 
 pub returns-clause-is_joined : goal.returns-clause-is_joined
 returns-clause-is_joined g c = by c.in_ok-thread_in.field-0 c.in_ok-thread_in.was
@@ -23,5 +27,5 @@ returns-clause-is_joined g c = by c.in_ok-thread_in.field-0 c.in_ok-thread_in.wa
         (c.thread_in.ensures.done is)
     by outcome.Full is =
         let b = c.thread_in.ensures.full is in
-        absurd (b.too_large (c.requires.fits b.content
+        absurd (b.too_large (c.requires.can.fits b.content
         (subst (λ (m : Gstate). complete_after c.args.thread.now.kept c.args.last (PutTail false (Some (array_address c.args.fresh)) ∷ PutMove m ∷ []) ≡ Some b.content) delta b.made)))

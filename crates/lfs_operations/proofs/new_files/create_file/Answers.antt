@@ -1,26 +1,15 @@
-use Rattle.std.proofs.Common.{ap, sym, subst, ◌∙◌, Err}
-use Rattle.lfs_operations.proofs.Common.{err_from_is_err_and}
-use Rattle.lfs_operations.specs.Changing.{ReportsErrorsOfChangeOrSplit}
-use Rattle.lfs_operations.specs.Creating.{creation_changes}
+use Rattle.lfs_operations.proofs.Common.{on_ok_weaker}
 use Rattle.lfs_operations.proofs.Created.{alters, can_put, created, create_survives}
 use Rattle.lfs_operations.proofs.new_files.create_file.Goals as goal
 
 pub change_or_split-requires-clause-can : goal.change_or_split-requires-clause-can
 change_or_split-requires-clause-can g c = can_put c.args.thread.now.kept c.args.pair c.args.id c.args.name.now c.requires.can
 
-pub returns-in_err-change_or_split-clause-errors : goal.returns-in_err-change_or_split-clause-errors
-returns-in_err-change_or_split-clause-errors g c =
-    let p = err_from_is_err_and c.from_residual.result c.from_residual.ensures.1 in
-    subst (λ r. ReportsErrorsOfChangeOrSplit c.args.thread.now c.change_or_split.new.thread c.args.pair (creation_changes c.args.id c.args.name.now) r) (c.in_err-change_or_split.was ∙ ap Err (sym p.2) ∙ sym p.1) c.change_or_split.ensures.errors
-
-pub returns-in_err-change_or_split-clause-survives : goal.returns-in_err-change_or_split-clause-survives
-returns-in_err-change_or_split-clause-survives g c can = create_survives c.args.thread.now.kept c.args.pair c.args.id c.args.name.now can c.change_or_split.new.thread.kept.history c.change_or_split.ensures.stops
-
 pub returns-clause-created : goal.returns-clause-created
-returns-clause-created g c can = created c.args.thread.now.kept c.args.pair c.args.id c.args.name.now can c.change_or_split.new.thread.kept c.in_ok-change_or_split.ensures.is_put
+returns-clause-created g c = on_ok_weaker c.change_or_split.result (λ is can. created c.args.thread.now.kept c.args.pair c.args.id c.args.name.now can c.change_or_split.new.thread.kept is) c.change_or_split.ensures.is_put
 
 pub returns-clause-survives : goal.returns-clause-survives
 returns-clause-survives g c can = create_survives c.args.thread.now.kept c.args.pair c.args.id c.args.name.now can c.change_or_split.new.thread.kept.history c.change_or_split.ensures.stops
 
 pub returns-clause-alters : goal.returns-clause-alters
-returns-clause-alters g c = alters c.args.thread.now.kept c.args.pair c.args.id c.args.name.now (c.requires.can) c.change_or_split.new.thread.kept c.in_ok-change_or_split.ensures.is_put
+returns-clause-alters g c = on_ok_weaker c.change_or_split.result (λ is. alters c.args.thread.now.kept c.args.pair c.args.id c.args.name.now (c.requires.can) c.change_or_split.new.thread.kept is) c.change_or_split.ensures.is_put

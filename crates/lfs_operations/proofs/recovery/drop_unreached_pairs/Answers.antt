@@ -1,7 +1,4 @@
-use Rattle.std.proofs.Common.{suc, ◌≡◌, ◌+◌, ◌-◌, ap, sym, subst, ◌∙◌, drop, length, arith, refl, Err}
-use Rattle.std.specs.Prelude.{slice_index_or}
-use Rattle.lfs_operations.proofs.Common.{err_from_is_err_and, blocks_of_pairs, pairs_gstate, KeptThread}
-use Rattle.lfs_tag.specs.FieldsView.{move_view}
+use Rattle.lfs_operations.proofs.Common.{suc, ◌≡◌, ◌+◌, ◌-◌, ap, sym, subst, ◌∙◌, drop, length, arith, refl, Err, on_ok_weaker, err_from_is_err_and, blocks_of_pairs, pairs_gstate, KeptThread, slice_index_or, move_view}
 use Rattle.lfs_operations.proofs.RecoverEnd.{can_end, end_survives, ends, none_reported, reports_steps}
 use Rattle.lfs_operations.proofs.RecoverUnderWay.{IsUnderWay, begins, can_take, drop_all, indexes, moves_on, next_at, stays_by, survives_on, wanted, way_at, writes_on}
 use Rattle.lfs_operations.proofs.RecoverWrites.{writes_fewer}
@@ -94,31 +91,18 @@ clear_sync_bit-requires-clause-can g c =
     can_end c.args.thread.now.kept c.loop-dropped.thread.kept c.loop-dropped.dropped
     (subst (IsUnderWay c.args.thread.now.kept c.loop-dropped.thread.kept c.loop-dropped.dropped) (drop_all c.loop-dropped.dropped c.args.unreached.now (omega (arith, past))) c.loop-dropped.invariant.way)
 
-pub returns-in_err-clear_sync_bit-clause-errors : goal.returns-in_err-clear_sync_bit-clause-errors
-returns-in_err-clear_sync_bit-clause-errors g c =
-    let p = err_from_is_err_and c.from_residual-in_err-clear_sync_bit.result c.from_residual-in_err-clear_sync_bit.ensures.1 in
-    reports_steps c.args.thread.now c.loop-dropped.thread c.clear_sync_bit.new.thread p.0 c.clear_sync_bit.result c.from_residual-in_err-clear_sync_bit.result c.loop-dropped.invariant.no_fault (c.in_err-clear_sync_bit.was ∙ ap Err (sym p.2)) p.1 c.clear_sync_bit.ensures.errors
-
-pub returns-in_err-clear_sync_bit-clause-device : goal.returns-in_err-clear_sync_bit-clause-device
-returns-in_err-clear_sync_bit-clause-device g c = writes_trans c.loop-dropped.invariant.way.writes (writes_fewer _ (blocks_of_pairs c.args.thread.now.kept.pairs) c.loop-dropped.invariant.way.fewer c.clear_sync_bit.ensures.device)
-
 pub returns-clause-device : goal.returns-clause-device
 returns-clause-device g c = writes_trans c.loop-dropped.invariant.way.writes (writes_fewer _ (blocks_of_pairs c.args.thread.now.kept.pairs) c.loop-dropped.invariant.way.fewer c.clear_sync_bit.ensures.device)
 
-pub returns-in_err-clear_sync_bit-clause-survives : goal.returns-in_err-clear_sync_bit-clause-survives
-returns-in_err-clear_sync_bit-clause-survives g c =
-    let past = c.loop-dropped-test.false in
-    end_survives c.args.thread.now.kept c.loop-dropped.thread.kept c.loop-dropped.dropped
-    (subst (IsUnderWay c.args.thread.now.kept c.loop-dropped.thread.kept c.loop-dropped.dropped) (drop_all c.loop-dropped.dropped c.args.unreached.now (omega (arith, past))) c.loop-dropped.invariant.way)
-    c.clear_sync_bit.new.thread.kept (stays_by _ c.loop-dropped.thread.kept c.clear_sync_bit.new.thread.kept c.clear_sync_bit.ensures.device) c.clear_sync_bit.ensures.survives
-
 pub returns-clause-recovered : goal.returns-clause-recovered
 returns-clause-recovered g c =
+    on_ok_weaker c.clear_sync_bit.result (λ is.
     let past = c.loop-dropped-test.false in
     ends c.args.thread.now.kept c.loop-dropped.thread.kept c.loop-dropped.dropped
     (subst (IsUnderWay c.args.thread.now.kept c.loop-dropped.thread.kept c.loop-dropped.dropped) (drop_all c.loop-dropped.dropped c.args.unreached.now (omega (arith, past))) c.loop-dropped.invariant.way)
     c.requires.can.writable c.requires.can.large c.clear_sync_bit.new.thread.kept c.args.unreached.now c.requires.can.reported
-    (writes_trans c.loop-dropped.invariant.way.writes (writes_fewer _ (blocks_of_pairs c.args.thread.now.kept.pairs) c.loop-dropped.invariant.way.fewer c.clear_sync_bit.ensures.device)) (stays_by _ c.loop-dropped.thread.kept c.clear_sync_bit.new.thread.kept c.clear_sync_bit.ensures.device) c.in_ok-clear_sync_bit.ensures.is_cleared
+    (writes_trans c.loop-dropped.invariant.way.writes (writes_fewer _ (blocks_of_pairs c.args.thread.now.kept.pairs) c.loop-dropped.invariant.way.fewer c.clear_sync_bit.ensures.device)) (stays_by _ c.loop-dropped.thread.kept c.clear_sync_bit.new.thread.kept c.clear_sync_bit.ensures.device) is)
+    c.clear_sync_bit.ensures.is_cleared
 
 pub returns-clause-survives : goal.returns-clause-survives
 returns-clause-survives g c =
@@ -132,13 +116,6 @@ returns-in_err-drop_pair_at-clause-nothing g c recovered =
     let none = ap length (none_reported c.args.thread.now.kept.pairs c.args.unreached.now recovered c.requires.can.reported) in
     let low = c.loop-dropped-test.true in
     absurd (omega arith)
-
-pub returns-in_err-clear_sync_bit-clause-nothing : goal.returns-in_err-clear_sync_bit-clause-nothing
-returns-in_err-clear_sync_bit-clause-nothing g c recovered =
-    let none = ap length (none_reported c.args.thread.now.kept.pairs c.args.unreached.now recovered c.requires.can.reported) in
-    let in_all = c.loop-dropped.invariant.within in
-    let same = c.loop-dropped.invariant.still (omega arith) in
-    c.clear_sync_bit.ensures.nothing (ap (λ (t : KeptThread). pairs_gstate t.pairs) same ∙ recovered.gstate) ∙ same
 
 pub returns-clause-nothing : goal.returns-clause-nothing
 returns-clause-nothing g c recovered =

@@ -1,5 +1,4 @@
-use Rattle.std.proofs.Common.{◌≡◌, ◌≤◌, drop, false, length}
-use Rattle.lfs_operations.proofs.Common.{fault_count}
+use Rattle.lfs_operations.proofs.Common.{◌≡◌, ◌≤◌, drop, false, length, fault_count}
 use Rattle.lfs_operations.proofs.RecoverUnderWay.{IsUnderWay}
 use Rattle.lfs_operations.proofs.recovery.drop_unreached_pairs.Given as goal
 

@@ -1,8 +1,5 @@
-use Rattle.std.proofs.Common.{ℕ, ◌≡◌, Bool, ap, sym, subst₂, ◌∙◌, Err, refl}
-use Rattle.lfs_operations.proofs.Common.{err_from_is_err_and, Gstate, blocks_of_pairs, pairs_gstate, thread_pair_at}
-use Rattle.lfs_operations.specs.MoveEnds.{CanEndAt, HasEndedAt, written_at_end}
+use Rattle.lfs_operations.proofs.Common.{ℕ, ◌≡◌, Bool, ap, sym, subst₂, on_ok_weaker, Gstate, blocks_of_pairs, pairs_gstate, thread_pair_at, CanEndAt, HasEndedAt, written_at_end}
 use Rattle.lfs_operations.proofs.MakingContents.{logged_there}
-use Rattle.lfs_operations.proofs.RecoverEnd.{reports_steps}
 use Rattle.lfs_operations.proofs.RecoverEnded.{can_at, ended_at, written_below}
 use Rattle.lfs_operations.proofs.RecoverWrites.{two_fewer, writes_fewer}
 use Rattle.lfs_operations.proofs.recovery.end_move.Goals as goal
@@ -15,23 +12,16 @@ end_move-requires-clause-can g c =
     subst₂ (λ (k : ℕ) (b : Bool). CanEndAt t i k b) (sym n) (sym c.one_after_tail-goes.ensures)
     (can_at t c.requires.can i c.in-Some.ensures.there (logged_there t.disk (thread_pair_at t i).at c.lemma_device_facts.ensures.bytes))
 
-pub returns-in_err-end_move-clause-errors : goal.returns-in_err-end_move-clause-errors
-returns-in_err-end_move-clause-errors g c =
-    let p = err_from_is_err_and c.from_residual.result c.from_residual.ensures.1 in
-    reports_steps c.args.thread.now c.args.thread.now c.end_move.new.thread p.0 c.end_move.result c.from_residual.result refl (c.in_err-end_move.was ∙ ap Err (sym p.2)) p.1 c.end_move.ensures.errors
-
-pub returns-in_err-end_move-clause-device : goal.returns-in_err-end_move-clause-device
-returns-in_err-end_move-clause-device g c =
-    writes_fewer _ (blocks_of_pairs c.args.thread.now.kept.pairs) (two_fewer c.args.thread.now.kept.pairs (written_at_end c.in-Some.index c.one_after_tail-goes.result) (written_below c.args.thread.now.kept c.in-Some.index c.one_after_tail-goes.result c.in-Some.ensures.there.below)) c.end_move.ensures.device
-
 pub returns-clause-device : goal.returns-clause-device
 returns-clause-device g c =
     writes_fewer _ (blocks_of_pairs c.args.thread.now.kept.pairs) (two_fewer c.args.thread.now.kept.pairs (written_at_end c.in-Some.index c.one_after_tail-goes.result) (written_below c.args.thread.now.kept c.in-Some.index c.one_after_tail-goes.result c.in-Some.ensures.there.below)) c.end_move.ensures.device
 
 pub returns-clause-ended : goal.returns-clause-ended
 returns-clause-ended g c =
+    on_ok_weaker c.end_move.result (λ is.
     let t = c.args.thread.now.kept in
     let i = c.in-Some.index in
     let n : c.state-state.result.id ≡ (pairs_gstate t.pairs).id = ap (λ (x : Gstate). x.id) c.state-state.ensures in
     ended_at t c.requires.can i c.in-Some.ensures.there c.end_move.new.thread.kept
-    (subst₂ (λ (k : ℕ) (b : Bool). HasEndedAt t i k b c.end_move.new.thread.kept) n c.one_after_tail-goes.ensures c.in_ok-end_move.ensures.ended)
+    (subst₂ (λ (k : ℕ) (b : Bool). HasEndedAt t i k b c.end_move.new.thread.kept) n c.one_after_tail-goes.ensures is))
+    c.end_move.ensures.ended

@@ -1,6 +1,4 @@
-use Rattle.std.proofs.Common.{ℕ, ◌≡◌, ap, sym, subst, ◌∙◌, false}
-use Rattle.std.specs.Prelude.{IfNone, IfSome}
-use Rattle.lfs_operations.proofs.Common.{AllByRecursion, IsPairAt, Gstate, same_pair}
+use Rattle.lfs_operations.proofs.Common.{ℕ, ◌≡◌, ap, sym, subst, ◌∙◌, false, AllByRecursion, IsPairAt, Gstate, same_pair, IfNone, IfSome}
 use Rattle.lfs_operations.proofs.RecoverMoved.{found_none, found_there}
 use Rattle.lfs_operations.proofs.recovery.moved_slot_pair.Goals as goal
 

@@ -1,9 +1,5 @@
-use Rattle.std.proofs.Common.{ap, sym, subst, ◌∙◌, ◌∷◌, Err}
-use Rattle.lfs_operations.proofs.Common.{err_from_is_err_and, Delete, changes_view, LossLeavesCleanly}
+use Rattle.lfs_operations.proofs.Common.{ap, sym, subst, ◌∙◌, ◌∷◌, Err, on_ok_weaker, err_from_is_err_and, Delete, changes_view, LossLeavesCleanly, CanTurn, LeftByTurn, IsTurned, ReportsErrorsOfChangeOrSplit, id_after_removal, within_changes, tree_renamed, slot_changes}
 use Rattle.lfs_device.specs.declared.error.Error.TheVariants as Error
-use Rattle.lfs_operations.specs.Changing.{CanTurn, LeftByTurn, IsTurned, ReportsErrorsOfChangeOrSplit}
-use Rattle.lfs_operations.specs.Renaming.{ReportsErrorsOfReadThenChangeOrSplit, id_after_removal, within_changes, tree_renamed}
-use Rattle.lfs_operations.specs.RenamingSlots.{slot_changes}
 use Rattle.lfs_operations.proofs.Putting.{not_both}
 use Rattle.lfs_operations.proofs.RenameRead.{can_after_read, moves_after_read, moves_unread, put_after_read, read_survives, read_writes, stops_after_read, writes_after_read}
 use Rattle.lfs_operations.proofs.RenameWithin.{can_put_renamed, has_slot, rename_survives, renamed_within}
@@ -39,40 +35,21 @@ change_or_split-requires-clause-can g c =
     (can_after_read c.args.thread.now.kept c.copy_pair_slot.new.thread.kept c.args.pair (within_changes c.args.thread.now.kept c.args.pair c.args.id c.args.place c.args.name.now) c.copy_pair_slot.ensures.only
     (can_put_renamed c.args.thread.now.kept c.args.pair c.args.id c.args.place c.args.name.now c.requires.can))
 
-pub returns-in_err-change_or_split-clause-errors : goal.returns-in_err-change_or_split-clause-errors
-returns-in_err-change_or_split-clause-errors g c =
-    let p = err_from_is_err_and c.from_residual-in_err-change_or_split.result c.from_residual-in_err-change_or_split.ensures.1 in
-    let are = ap changes_view c.deref.ensures.value ∙ c.in_ok-changes.ensures ∙ ap (λ z. Delete c.args.id ∷ slot_changes (id_after_removal c.args.id c.args.place) c.args.name.now z) c.in_ok-copy.ensures.copied in
-    subst (λ r. ReportsErrorsOfReadThenChangeOrSplit c.args.thread.now c.change_or_split.new.thread c.args.pair (within_changes c.args.thread.now.kept c.args.pair c.args.id c.args.place c.args.name.now) r) (c.in_err-change_or_split.was ∙ ap Err (sym p.2) ∙ sym p.1)
-    (moves_after_read c.args.thread.now c.copy_pair_slot.new.thread c.change_or_split.new.thread c.args.pair (within_changes c.args.thread.now.kept c.args.pair c.args.id c.args.place c.args.name.now) c.change_or_split.result c.copy_pair_slot.ensures.only
-    (c.copy_pair_slot.ensures.errors.no_fault (λ io. not_both c.copy_pair_slot.result c.in_ok-copy.copy Error.Io c.in_ok-copy.was io))
-    (subst (λ z. ReportsErrorsOfChangeOrSplit c.copy_pair_slot.new.thread c.change_or_split.new.thread c.args.pair z c.change_or_split.result) are c.change_or_split.ensures.errors))
-
-pub returns-in_err-change_or_split-clause-device : goal.returns-in_err-change_or_split-clause-device
-returns-in_err-change_or_split-clause-device g c = writes_after_read c.args.thread.now.kept c.copy_pair_slot.new.thread.kept c.change_or_split.new.thread.kept c.args.pair c.copy_pair_slot.ensures.only c.change_or_split.ensures.device
-
-pub returns-in_err-change_or_split-clause-survives : goal.returns-in_err-change_or_split-clause-survives
-returns-in_err-change_or_split-clause-survives g c rename =
-    let are = ap changes_view c.deref.ensures.value ∙ c.in_ok-changes.ensures ∙ ap (λ z. Delete c.args.id ∷ slot_changes (id_after_removal c.args.id c.args.place) c.args.name.now z) c.in_ok-copy.ensures.copied in
-    rename_survives c.args.thread.now.kept c.args.pair c.args.id c.args.place c.args.name.now rename c.change_or_split.new.thread.kept.history
-    (stops_after_read c.args.thread.now.kept c.copy_pair_slot.new.thread.kept c.change_or_split.new.thread.kept c.args.pair (within_changes c.args.thread.now.kept c.args.pair c.args.id c.args.place c.args.name.now) c.copy_pair_slot.ensures.only
-    rename.can.ready rename.can.first rename.can.stands.pair rename.can.stands.rest rename.can.stands.place c.change_or_split.ensures.device
-    (subst (λ z. LossLeavesCleanly c.copy_pair_slot.new.thread.kept.history c.change_or_split.new.thread.kept.history (LeftByTurn c.copy_pair_slot.new.thread.kept c.args.pair z)) are c.change_or_split.ensures.stops))
-
 pub returns-clause-renamed : goal.returns-clause-renamed
-returns-clause-renamed g c rename =
+returns-clause-renamed g c =
+    on_ok_weaker c.change_or_split.result (λ is rename.
     let are = ap changes_view c.deref.ensures.value ∙ c.in_ok-changes.ensures ∙ ap (λ z. Delete c.args.id ∷ slot_changes (id_after_removal c.args.id c.args.place) c.args.name.now z) c.in_ok-copy.ensures.copied in
     renamed_within c.args.thread.now.kept c.args.pair c.args.id c.args.place c.args.name.now rename c.change_or_split.new.thread.kept
     (put_after_read c.args.thread.now.kept c.copy_pair_slot.new.thread.kept c.change_or_split.new.thread.kept c.args.pair (within_changes c.args.thread.now.kept c.args.pair c.args.id c.args.place c.args.name.now) c.copy_pair_slot.ensures.only
-    (subst (λ z. IsTurned c.copy_pair_slot.new.thread.kept c.args.pair z c.change_or_split.new.thread.kept) are c.in_ok-change_or_split.ensures.is_put))
+    (subst (λ z. IsTurned c.copy_pair_slot.new.thread.kept c.args.pair z c.change_or_split.new.thread.kept) are is)))
+    c.change_or_split.ensures.is_put
 
 pub returns-clause-errors : goal.returns-clause-errors
 returns-clause-errors g c =
     let are = ap changes_view c.deref.ensures.value ∙ c.in_ok-changes.ensures ∙ ap (λ z. Delete c.args.id ∷ slot_changes (id_after_removal c.args.id c.args.place) c.args.name.now z) c.in_ok-copy.ensures.copied in
-    subst (λ r. ReportsErrorsOfReadThenChangeOrSplit c.args.thread.now c.change_or_split.new.thread c.args.pair (within_changes c.args.thread.now.kept c.args.pair c.args.id c.args.place c.args.name.now) r) c.in_ok-change_or_split.was
-    (moves_after_read c.args.thread.now c.copy_pair_slot.new.thread c.change_or_split.new.thread c.args.pair (within_changes c.args.thread.now.kept c.args.pair c.args.id c.args.place c.args.name.now) c.change_or_split.result c.copy_pair_slot.ensures.only
+    moves_after_read c.args.thread.now c.copy_pair_slot.new.thread c.change_or_split.new.thread c.args.pair (within_changes c.args.thread.now.kept c.args.pair c.args.id c.args.place c.args.name.now) c.change_or_split.result c.copy_pair_slot.ensures.only
     (c.copy_pair_slot.ensures.errors.no_fault (λ io. not_both c.copy_pair_slot.result c.in_ok-copy.copy Error.Io c.in_ok-copy.was io))
-    (subst (λ z. ReportsErrorsOfChangeOrSplit c.copy_pair_slot.new.thread c.change_or_split.new.thread c.args.pair z c.change_or_split.result) are c.change_or_split.ensures.errors))
+    (subst (λ z. ReportsErrorsOfChangeOrSplit c.copy_pair_slot.new.thread c.change_or_split.new.thread c.args.pair z c.change_or_split.result) are c.change_or_split.ensures.errors)
 
 pub returns-clause-device : goal.returns-clause-device
 returns-clause-device g c = writes_after_read c.args.thread.now.kept c.copy_pair_slot.new.thread.kept c.change_or_split.new.thread.kept c.args.pair c.copy_pair_slot.ensures.only c.change_or_split.ensures.device

@@ -1,14 +1,8 @@
-use Rattle.std.proofs.Common.{ap, ap₂, refl, sym, subst, ◌∙◌, ◌∷◌, ◌≡◌, Ok, Err}
-use Rattle.lfs_operations.proofs.Common.{err_from_is_err_and, Delete, PutMove, gstate_xor, sync_bit_delta, changes_view, LossLeavesCleanly, KeptThread, CanChangePair, IsPairCommitted, LossLeavesPairChanged, RefusesCommit, ChangesThreadBlocks, thread_pair_at, address_blocks}
+use Rattle.lfs_operations.proofs.Common.{ap, ap₂, sym, subst, ◌∙◌, ◌∷◌, Err, err_from_is_err_and, Delete, PutMove, gstate_xor, sync_bit_delta, changes_view, LossLeavesCleanly, KeptThread, IsPairCommitted, LossLeavesPairChanged, ChangesThreadBlocks, thread_pair_at, address_blocks, id_after_removal, tree_renamed, replace_directory_changes, slot_changes, CanCommit, on_ok_weaker}
 use Rattle.lfs_device.specs.declared.error.Error.TheVariants as Error
-use Rattle.lfs_pair.specs.declared.commits.Outcome.{Outcome}
-use Rattle.lfs_pair.specs.declared.commits.Outcome.TheVariants as outcome
-use Rattle.lfs_operations.specs.Renaming.{id_after_removal, tree_renamed}
-use Rattle.lfs_operations.specs.RenamingOver.{IsDirectoryReplaced, replace_directory_changes}
-use Rattle.lfs_operations.specs.RenamingSlots.{slot_changes}
 use Rattle.lfs_operations.proofs.Putting.{not_both, read_is}
 use Rattle.lfs_operations.proofs.RenameRead.{read_survives}
-use Rattle.lfs_operations.proofs.RenameReadOver.{blocks_after_read, can_change_after_read, change_stops_after_read, changed_after_read, only_read_writes, over_done, over_failed, over_unread, refused_after_read}
+use Rattle.lfs_operations.proofs.RenameReadOver.{blocks_after_read, can_change_after_read, change_stops_after_read, changed_after_read, only_read_writes, over_later, over_unread, refused_after_read}
 use Rattle.lfs_operations.proofs.RenameOver.{can_over, has_slot, over_not_refused, over_survives, renamed_over}
 use Rattle.lfs_operations.proofs.replacements.rename_over_directory.Goals as goal
 
@@ -34,66 +28,54 @@ pub returns-in_err-changes-clause-survives : goal.returns-in_err-changes-clause-
 returns-in_err-changes-clause-survives g c rename =
     read_survives c.args.thread.now.kept c.copy_pair_slot.new.thread.kept.history c.copy_pair_slot.ensures.only.reads rename.can.ready (tree_renamed c.args.thread.now.kept rename.can.path rename.can.name c.args.name.now)
 
-pub commit_pair_changes-requires-clause-can : goal.commit_pair_changes-requires-clause-can
-commit_pair_changes-requires-clause-can g c =
-    let state = c.gstate_xor_delta-state.ensures ∙ ap₂ gstate_xor c.delta.ensures c.sync_delta.ensures ∙ ap (λ (k : KeptThread). gstate_xor (thread_pair_at k c.args.pair).content.move sync_bit_delta) (read_is c.args.thread.now.kept c.copy_pair_slot.new.thread.kept c.copy_pair_slot.ensures.only) in
+pub commit_fitting-requires-clause-can : goal.commit_fitting-requires-clause-can
+commit_fitting-requires-clause-can g c =
+    let t = c.args.thread.now.kept in
+    let mid = c.copy_pair_slot.new.thread.kept in
+    let only = c.copy_pair_slot.ensures.only in
+    let state = c.gstate_xor_delta-state.ensures ∙ ap₂ gstate_xor c.delta.ensures c.sync_delta.ensures ∙ ap (λ (k : KeptThread). gstate_xor (thread_pair_at k c.args.pair).content.move sync_bit_delta) (read_is t mid only) in
     let are = ap changes_view c.deref.ensures.value ∙ c.in_ok-changes.ensures
     ∙ ap₂ (λ m z. PutMove m ∷ Delete c.args.id ∷ Delete (id_after_removal c.args.id c.args.place) ∷ slot_changes (id_after_removal c.args.id c.args.place) c.args.name.now z) state c.in_ok-copy.ensures.copied in
-    subst (CanChangePair c.copy_pair_slot.new.thread.kept c.args.pair) (sym are) (can_change_after_read c.args.thread.now.kept c.copy_pair_slot.new.thread.kept c.args.pair (replace_directory_changes c.args.thread.now.kept c.args.pair c.args.id c.args.place c.args.name.now) c.copy_pair_slot.ensures.only (can_over c.args.thread.now.kept c.args.pair c.args.id c.args.place c.args.name.now c.requires.can))
-
-pub returns-in_err-commit_pair_changes-clause-errors : goal.returns-in_err-commit_pair_changes-clause-errors
-returns-in_err-commit_pair_changes-clause-errors g c =
-    let p = err_from_is_err_and c.from_residual-in_err-commit_pair_changes.result c.from_residual-in_err-commit_pair_changes.ensures.1 in
-    over_failed c.args.thread.now c.copy_pair_slot.new.thread c.commit_pair_changes.new.self p.0 c.commit_pair_changes.result c.from_residual-in_err-commit_pair_changes.result (c.in_err-commit_pair_changes.was ∙ ap Err (sym p.2)) p.1 c.copy_pair_slot.ensures.only
-    (c.copy_pair_slot.ensures.errors.no_fault (λ io. not_both c.copy_pair_slot.result c.in_ok-copy.copy Error.Io c.in_ok-copy.was io)) c.commit_pair_changes.ensures.failed c.commit_pair_changes.ensures.errors
-
-pub returns-in_err-commit_pair_changes-clause-device : goal.returns-in_err-commit_pair_changes-clause-device
-returns-in_err-commit_pair_changes-clause-device g c =
-    blocks_after_read c.args.thread.now.kept c.copy_pair_slot.new.thread.kept c.commit_pair_changes.new.self.kept (address_blocks (thread_pair_at c.args.thread.now.kept c.args.pair).at) c.copy_pair_slot.ensures.only
-    (subst (λ (k : KeptThread). ChangesThreadBlocks (address_blocks (thread_pair_at k c.args.pair).at) c.copy_pair_slot.new.thread.kept c.commit_pair_changes.new.self.kept) (read_is c.args.thread.now.kept c.copy_pair_slot.new.thread.kept c.copy_pair_slot.ensures.only) c.commit_pair_changes.ensures.device.only)
-
-pub returns-in_err-commit_pair_changes-clause-survives : goal.returns-in_err-commit_pair_changes-clause-survives
-returns-in_err-commit_pair_changes-clause-survives g c rename =
-    let state = c.gstate_xor_delta-state.ensures ∙ ap₂ gstate_xor c.delta.ensures c.sync_delta.ensures ∙ ap (λ (k : KeptThread). gstate_xor (thread_pair_at k c.args.pair).content.move sync_bit_delta) (read_is c.args.thread.now.kept c.copy_pair_slot.new.thread.kept c.copy_pair_slot.ensures.only) in
-    let are = ap changes_view c.deref.ensures.value ∙ c.in_ok-changes.ensures
-    ∙ ap₂ (λ m z. PutMove m ∷ Delete c.args.id ∷ Delete (id_after_removal c.args.id c.args.place) ∷ slot_changes (id_after_removal c.args.id c.args.place) c.args.name.now z) state c.in_ok-copy.ensures.copied in
-    over_survives c.args.thread.now.kept c.args.pair c.args.id c.args.place c.args.name.now rename c.commit_pair_changes.new.self.kept.history
-    (change_stops_after_read c.args.thread.now.kept c.copy_pair_slot.new.thread.kept c.commit_pair_changes.new.self.kept c.args.pair (replace_directory_changes c.args.thread.now.kept c.args.pair c.args.id c.args.place c.args.name.now) (address_blocks (thread_pair_at c.copy_pair_slot.new.thread.kept c.args.pair).at) c.copy_pair_slot.ensures.only
-    rename.can.ready rename.can.first rename.can.stands.pair rename.can.stands.rest rename.can.stands.place c.commit_pair_changes.ensures.device.only
-    (subst (λ z. LossLeavesCleanly c.copy_pair_slot.new.thread.kept.history c.commit_pair_changes.new.self.kept.history (LossLeavesPairChanged c.copy_pair_slot.new.thread.kept c.args.pair z)) are c.commit_pair_changes.ensures.stops))
+    let changes = replace_directory_changes t c.args.pair c.args.id c.args.place c.args.name.now in
+    subst (CanCommit mid c.args.pair) (sym are) (record {
+      can = can_change_after_read t mid c.args.pair changes only (can_over t c.args.pair c.args.id c.args.place c.args.name.now c.requires.can);
+      fits = λ new refused. over_not_refused t c.args.pair c.args.id c.args.place c.args.name.now c.requires.can new (refused_after_read t mid new c.args.pair changes only refused);
+    })
 
 pub returns-clause-renamed : goal.returns-clause-renamed
-returns-clause-renamed g c rename = by c.in_ok-commit_pair_changes.field-0 c.in_ok-commit_pair_changes.was
-  where
-    by : (o : Outcome) → c.commit_pair_changes.result ≡ Ok o → IsDirectoryReplaced c.args.thread.now.kept c.commit_pair_changes.new.self.kept c.args.pair c.args.id c.args.place rename.can.path rename.can.name c.args.name.now
-    by outcome.Done is =
-        let state = c.gstate_xor_delta-state.ensures ∙ ap₂ gstate_xor c.delta.ensures c.sync_delta.ensures ∙ ap (λ (k : KeptThread). gstate_xor (thread_pair_at k c.args.pair).content.move sync_bit_delta) (read_is c.args.thread.now.kept c.copy_pair_slot.new.thread.kept c.copy_pair_slot.ensures.only) in
-        let are = ap changes_view c.deref.ensures.value ∙ c.in_ok-changes.ensures
-        ∙ ap₂ (λ m z. PutMove m ∷ Delete c.args.id ∷ Delete (id_after_removal c.args.id c.args.place) ∷ slot_changes (id_after_removal c.args.id c.args.place) c.args.name.now z) state c.in_ok-copy.ensures.copied in
-        renamed_over c.args.thread.now.kept c.args.pair c.args.id c.args.place c.args.name.now rename c.commit_pair_changes.new.self.kept (changed_after_read c.args.thread.now.kept c.copy_pair_slot.new.thread.kept c.commit_pair_changes.new.self.kept c.args.pair (replace_directory_changes c.args.thread.now.kept c.args.pair c.args.id c.args.place c.args.name.now) c.copy_pair_slot.ensures.only
-        (subst (λ z. IsPairCommitted c.copy_pair_slot.new.thread.kept c.args.pair z c.commit_pair_changes.new.self.kept) are (c.commit_pair_changes.ensures.done is)))
-    by outcome.Full is =
-        let state = c.gstate_xor_delta-state.ensures ∙ ap₂ gstate_xor c.delta.ensures c.sync_delta.ensures ∙ ap (λ (k : KeptThread). gstate_xor (thread_pair_at k c.args.pair).content.move sync_bit_delta) (read_is c.args.thread.now.kept c.copy_pair_slot.new.thread.kept c.copy_pair_slot.ensures.only) in
-        let are = ap changes_view c.deref.ensures.value ∙ c.in_ok-changes.ensures
-        ∙ ap₂ (λ m z. PutMove m ∷ Delete c.args.id ∷ Delete (id_after_removal c.args.id c.args.place) ∷ slot_changes (id_after_removal c.args.id c.args.place) c.args.name.now z) state c.in_ok-copy.ensures.copied in
-        absurd (over_not_refused c.args.thread.now.kept c.args.pair c.args.id c.args.place c.args.name.now rename c.commit_pair_changes.new.self.kept (refused_after_read c.args.thread.now.kept c.copy_pair_slot.new.thread.kept c.commit_pair_changes.new.self.kept c.args.pair (replace_directory_changes c.args.thread.now.kept c.args.pair c.args.id c.args.place c.args.name.now) c.copy_pair_slot.ensures.only
-        (subst (λ z. RefusesCommit c.copy_pair_slot.new.thread.kept c.args.pair z c.commit_pair_changes.new.self.kept) are (c.commit_pair_changes.ensures.full is))))
+returns-clause-renamed g c =
+    let t = c.args.thread.now.kept in
+    let mid = c.copy_pair_slot.new.thread.kept in
+    let only = c.copy_pair_slot.ensures.only in
+    let state = c.gstate_xor_delta-state.ensures ∙ ap₂ gstate_xor c.delta.ensures c.sync_delta.ensures ∙ ap (λ (k : KeptThread). gstate_xor (thread_pair_at k c.args.pair).content.move sync_bit_delta) (read_is t mid only) in
+    let are = ap changes_view c.deref.ensures.value ∙ c.in_ok-changes.ensures
+    ∙ ap₂ (λ m z. PutMove m ∷ Delete c.args.id ∷ Delete (id_after_removal c.args.id c.args.place) ∷ slot_changes (id_after_removal c.args.id c.args.place) c.args.name.now z) state c.in_ok-copy.ensures.copied in
+    let changes = replace_directory_changes t c.args.pair c.args.id c.args.place c.args.name.now in
+    on_ok_weaker c.commit_fitting.result (λ is rename. renamed_over t c.args.pair c.args.id c.args.place c.args.name.now rename c.commit_fitting.new.thread.kept (changed_after_read t mid c.commit_fitting.new.thread.kept c.args.pair changes only
+    (subst (λ z. IsPairCommitted mid c.args.pair z c.commit_fitting.new.thread.kept) are is))) c.commit_fitting.ensures.is_changed
 
 pub returns-clause-errors : goal.returns-clause-errors
-returns-clause-errors g c = over_done c.args.thread.now c.copy_pair_slot.new.thread c.commit_pair_changes.new.self c.in_ok-commit_pair_changes.field-0 tt c.commit_pair_changes.result (Ok tt) c.in_ok-commit_pair_changes.was refl c.copy_pair_slot.ensures.only
-    (c.copy_pair_slot.ensures.errors.no_fault (λ io. not_both c.copy_pair_slot.result c.in_ok-copy.copy Error.Io c.in_ok-copy.was io)) c.commit_pair_changes.ensures.failed c.commit_pair_changes.ensures.errors
+returns-clause-errors g c = over_later c.args.thread.now c.copy_pair_slot.new.thread c.commit_fitting.new.thread c.commit_fitting.result c.copy_pair_slot.ensures.only
+    (c.copy_pair_slot.ensures.errors.no_fault (λ io. not_both c.copy_pair_slot.result c.in_ok-copy.copy Error.Io c.in_ok-copy.was io)) c.commit_fitting.ensures.errors
 
 pub returns-clause-device : goal.returns-clause-device
 returns-clause-device g c =
-    blocks_after_read c.args.thread.now.kept c.copy_pair_slot.new.thread.kept c.commit_pair_changes.new.self.kept (address_blocks (thread_pair_at c.args.thread.now.kept c.args.pair).at) c.copy_pair_slot.ensures.only
-    (subst (λ (k : KeptThread). ChangesThreadBlocks (address_blocks (thread_pair_at k c.args.pair).at) c.copy_pair_slot.new.thread.kept c.commit_pair_changes.new.self.kept) (read_is c.args.thread.now.kept c.copy_pair_slot.new.thread.kept c.copy_pair_slot.ensures.only) c.commit_pair_changes.ensures.device.only)
+    let t = c.args.thread.now.kept in
+    let mid = c.copy_pair_slot.new.thread.kept in
+    let only = c.copy_pair_slot.ensures.only in
+    blocks_after_read t mid c.commit_fitting.new.thread.kept (address_blocks (thread_pair_at t c.args.pair).at) only
+    (subst (λ (k : KeptThread). ChangesThreadBlocks (address_blocks (thread_pair_at k c.args.pair).at) mid c.commit_fitting.new.thread.kept) (read_is t mid only) c.commit_fitting.ensures.device)
 
 pub returns-clause-survives : goal.returns-clause-survives
 returns-clause-survives g c rename =
-    let state = c.gstate_xor_delta-state.ensures ∙ ap₂ gstate_xor c.delta.ensures c.sync_delta.ensures ∙ ap (λ (k : KeptThread). gstate_xor (thread_pair_at k c.args.pair).content.move sync_bit_delta) (read_is c.args.thread.now.kept c.copy_pair_slot.new.thread.kept c.copy_pair_slot.ensures.only) in
+    let t = c.args.thread.now.kept in
+    let mid = c.copy_pair_slot.new.thread.kept in
+    let only = c.copy_pair_slot.ensures.only in
+    let state = c.gstate_xor_delta-state.ensures ∙ ap₂ gstate_xor c.delta.ensures c.sync_delta.ensures ∙ ap (λ (k : KeptThread). gstate_xor (thread_pair_at k c.args.pair).content.move sync_bit_delta) (read_is t mid only) in
     let are = ap changes_view c.deref.ensures.value ∙ c.in_ok-changes.ensures
     ∙ ap₂ (λ m z. PutMove m ∷ Delete c.args.id ∷ Delete (id_after_removal c.args.id c.args.place) ∷ slot_changes (id_after_removal c.args.id c.args.place) c.args.name.now z) state c.in_ok-copy.ensures.copied in
-    over_survives c.args.thread.now.kept c.args.pair c.args.id c.args.place c.args.name.now rename c.commit_pair_changes.new.self.kept.history
-    (change_stops_after_read c.args.thread.now.kept c.copy_pair_slot.new.thread.kept c.commit_pair_changes.new.self.kept c.args.pair (replace_directory_changes c.args.thread.now.kept c.args.pair c.args.id c.args.place c.args.name.now) (address_blocks (thread_pair_at c.copy_pair_slot.new.thread.kept c.args.pair).at) c.copy_pair_slot.ensures.only
-    rename.can.ready rename.can.first rename.can.stands.pair rename.can.stands.rest rename.can.stands.place c.commit_pair_changes.ensures.device.only
-    (subst (λ z. LossLeavesCleanly c.copy_pair_slot.new.thread.kept.history c.commit_pair_changes.new.self.kept.history (LossLeavesPairChanged c.copy_pair_slot.new.thread.kept c.args.pair z)) are c.commit_pair_changes.ensures.stops))
+    let changes = replace_directory_changes t c.args.pair c.args.id c.args.place c.args.name.now in
+    over_survives t c.args.pair c.args.id c.args.place c.args.name.now rename c.commit_fitting.new.thread.kept.history
+    (change_stops_after_read t mid c.commit_fitting.new.thread.kept c.args.pair changes (address_blocks (thread_pair_at mid c.args.pair).at) only
+    rename.can.ready rename.can.first rename.can.stands.pair rename.can.stands.rest rename.can.stands.place c.commit_fitting.ensures.device
+    (subst (λ z. LossLeavesCleanly mid.history c.commit_fitting.new.thread.kept.history (LossLeavesPairChanged mid c.args.pair z)) are c.commit_fitting.ensures.stops))

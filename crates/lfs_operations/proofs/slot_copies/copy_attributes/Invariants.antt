@@ -1,6 +1,5 @@
-use Rattle.std.proofs.Common.{◌≡◌, map, take}
+use Rattle.lfs_operations.proofs.Common.{◌≡◌, map, take, attribute_copy}
 use Rattle.lfs_tag.specs.ContentView.{attribute_view}
-use Rattle.lfs_operations.specs.RenamingView.{attribute_copy}
 use Rattle.lfs_operations.proofs.slot_copies.copy_attributes.Given as goal
 
 abbrev pub invariant-loop-attribute : goal.invariant-loop-attribute

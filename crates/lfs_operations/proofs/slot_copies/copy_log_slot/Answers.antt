@@ -1,6 +1,4 @@
-use Rattle.std.proofs.Common.{◌∙◌, ◌<◌, ℕ, length, sym, ap, subst}
-use Rattle.lfs_operations.proofs.Common.{same_Some, RawContent, slot_of_id}
-use Rattle.lfs_operations.specs.RenamingSlots.{nameless_of}
+use Rattle.lfs_operations.proofs.Common.{◌∙◌, ◌<◌, ℕ, length, sym, ap, subst, same_Some, RawContent, slot_of_id, nameless_of}
 use Rattle.lfs_operations.proofs.RenameCopied.{is_named, is_structured, read_below, there_read}
 use Rattle.lfs_operations.proofs.slot_copies.copy_log_slot.Goals as goal
 

@@ -1,7 +1,4 @@
-use Rattle.std.proofs.Common.{◌≡◌, ◌++◌, map, take}
-use Rattle.lfs_operations.proofs.Common.{changes_view}
-use Rattle.lfs_operations.specs.RenamingView.{attribute_copy}
-use Rattle.lfs_operations.specs.RenamingSlots.{attribute_changes}
+use Rattle.lfs_operations.proofs.Common.{◌≡◌, ◌++◌, map, take, changes_view, attribute_copy, attribute_changes}
 use Rattle.lfs_operations.proofs.slot_copies.push_attribute_changes.Given as goal
 
 abbrev pub invariant-loop-attribute : goal.invariant-loop-attribute

@@ -20,6 +20,10 @@ pub fn bytes_are_unprogrammed_after_erase()
     ensures failed { is_unprogrammed_byte (call_event (Erase 0) example_after_program example_after_erase true ∷ after_read) 0 2 ≡ false }
     ensures from_there { AreUnprogrammed after_read 0 2 4 }
     ensures not_before { AreUnprogrammed after_read 0 1 4 → ⊥ }
+{}
+
+/// Calls in some blocks leave the bytes of others unprogrammed.
+pub fn other_bytes_stay_unprogrammed()
     ensures stay { StayUnprogrammed (0 ∷ []) after_erase after_read }
     ensures dont_stay { StayUnprogrammed (1 ∷ []) after_erase after_read → ⊥ }
 {}

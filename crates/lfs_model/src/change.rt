@@ -20,13 +20,17 @@ pub fn changes_act_as_their_log_entries()
         ≡ Some (slots_content (raw_empty_file (codes "a") ∷ [])) }
     ensures none { (c : RawContent) → changed_content_of c [] ≡ Some c }
     ensures absent { changed_content_of (slots_content (raw_superblock ∷ [])) (Delete 1 ∷ []) ≡ None }
+
+    // The content that a compacted block was written from is read back.
+    ensures written { (c : RawContent) → IsStorable c → content_after empty_raw_content (content_entries c) ≡ Some c }
+{}
+
+/// Changes of the tail and of the move state.
+pub fn changes_replace_tail_and_move()
     ensures tail { changed_content_of (slots_content []) (PutTail false (Some (2, 3)) ∷ PutMove (record zero_gstate { sync = true }) ∷ [])
         ≡ Some (record { slots = []; tail = Some (record { hard = false; to = (2, 3) }); move = record zero_gstate { sync = true } }) }
     ensures no_tail { changed_content_of (record { slots = []; tail = Some (record { hard = false; to = (2, 3) }); move = record zero_gstate { sync = true } }) (PutTail true None ∷ PutMove zero_gstate ∷ [])
         ≡ Some empty_raw_content }
-
-    // The content that a compacted block was written from is read back.
-    ensures written { (c : RawContent) → IsStorable c → content_after empty_raw_content (content_entries c) ≡ Some c }
 {}
 
 /// A content that fits a pair can be written anew.

@@ -20,6 +20,10 @@ pub fn tag_is_its_fields()
     ensures len { (kind id len : ℕ) → kind < 2 ^ 11 → id < 2 ^ 10 → len < 2 ^ 10 → tag_length (make_tag kind id len) ≡ len }
     ensures valid { (kind id len : ℕ) → kind < 2 ^ 11 → id < 2 ^ 10 → len < 2 ^ 10 → IsValidTag (make_tag kind id len) }
     ensures whole { (tag : ℕ) → IsValidTag tag → make_tag (tag_type tag) (tag_id tag) (tag_length tag) ≡ tag }
+{}
+
+/// Tags as the numbers that are stored.
+pub fn tags_are_stored_numbers()
     ensures create { make_tag create_tag_type 3 0 ≡ 0x40100c00 }
     ensures soft_tail { make_tag soft_tail_type no_id 8 ≡ 0x600ffc08 }
     ensures move_state { make_tag move_type no_id 12 ≡ 0x7ffffc0c }
@@ -53,8 +57,10 @@ pub fn log_entries_make_slots()
         ∷ log_entry_of 0x342 0 (codes "y") ∷ log_entry_of 0x341 0 (codes "x") ∷ log_entry_of 0x343 0 (codes "z")
         ∷ log_entry_of 0x342 0 (codes "w") ∷ record { tag = make_tag 0x343 0 0x3ff; bytes = [] } ∷ record { tag = make_tag 0x344 0 0x3ff; bytes = [] } ∷ [])
         ≡ Some (record empty_raw_content { slots = record empty_slot { name = Some (file_name_type, codes "a"); attributes = (0x41, codes "x") ∷ (0x42, codes "w") ∷ [] } ∷ [] }) }
+{}
 
-    // The last tail counts, and the last move state. Their ids are ignored.
+/// The last tail counts, and the last move state. Their ids are ignored.
+pub fn last_tail_and_move_count()
     ensures tail { content_after empty_raw_content (tail_entry false (Some (2, 3)) ∷ tail_entry true (Some (4, 5)) ∷ [])
         ≡ Some (record empty_raw_content { tail = Some (record { hard = true; to = (4, 5) }) }) }
     ensures no_tail { content_after empty_raw_content (tail_entry true (Some (2, 3)) ∷ tail_entry true None ∷ []) ≡ Some empty_raw_content }
@@ -72,35 +78,53 @@ pub fn log_with_bad_entry_is_malformed()
     ensures unknown_splice { content_after empty_raw_content (log_entry_of 0x402 0 [] ∷ []) ≡ None }
     ensures unknown_tail { content_after empty_raw_content (log_entry_of 0x602 no_id (tail_entry false None).bytes ∷ []) ≡ None }
     ensures unknown_move { content_after empty_raw_content (log_entry_of 0x7fe no_id (move_state_entry 0 (0, 0)).bytes ∷ []) ≡ None }
+{}
 
+/// An entry for a slot that isn't there isn't allowed.
+pub fn entry_of_absent_slot_is_malformed()
     ensures create_past_the_end { content_after empty_raw_content (log_entry_of create_tag_type 1 [] ∷ []) ≡ None }
     ensures delete_absent { content_after empty_raw_content (log_entry_of delete_tag_type 0 [] ∷ []) ≡ None }
     ensures struct_absent { content_after empty_raw_content (log_entry_of inline_type 0 [] ∷ []) ≡ None }
     ensures attribute_absent { content_after empty_raw_content (log_entry_of 0x341 0 [] ∷ []) ≡ None }
+{}
+
+/// A slot without a name takes neither a struct nor an attribute, and a name has an id.
+pub fn entry_without_name_is_malformed()
     ensures struct_without_name { content_after empty_raw_content (log_entry_of create_tag_type 0 [] ∷ log_entry_of inline_type 0 [] ∷ []) ≡ None }
     ensures attribute_without_name { content_after empty_raw_content (log_entry_of create_tag_type 0 [] ∷ log_entry_of 0x341 0 [] ∷ []) ≡ None }
     ensures name_without_id { content_after empty_raw_content (log_entry_of file_name_type no_id (codes "a") ∷ []) ≡ None }
+{}
 
+/// A name or a struct of a wrong length isn't allowed.
+pub fn slot_entry_length_is_checked()
     ensures superblock_len { content_after empty_raw_content (log_entry_of superblock_name_type 0 (codes "little") ∷ []) ≡ None }
     ensures directory_len { content_after empty_raw_content (log_entry_of file_name_type 0 (codes "a") ∷ log_entry_of directory_type 0 (codes "1234567") ∷ []) ≡ None }
     ensures list_len { content_after empty_raw_content (log_entry_of file_name_type 0 (codes "a") ∷ log_entry_of ctz_type 0 (codes "123456789") ∷ []) ≡ None }
+    ensures removed_name { content_after empty_raw_content (record { tag = make_tag file_name_type 0 0x3ff; bytes = [] } ∷ []) ≡ None }
+{}
+
+/// A create, a delete, a tail or a move state of a wrong length isn't allowed.
+pub fn other_entry_length_is_checked()
     ensures create_len { content_after empty_raw_content (log_entry_of create_tag_type 0 (codes "1") ∷ []) ≡ None }
     ensures delete_len { content_after empty_raw_content (log_entry_of create_tag_type 0 [] ∷ log_entry_of delete_tag_type 0 (codes "1") ∷ [])
         ≡ None }
     ensures tail_len { content_after empty_raw_content (log_entry_of hard_tail_type no_id (codes "1234") ∷ []) ≡ None }
     ensures move_len { content_after empty_raw_content (log_entry_of move_type no_id (codes "12345678") ∷ []) ≡ None }
-    ensures removed_name { content_after empty_raw_content (record { tag = make_tag file_name_type 0 0x3ff; bytes = [] } ∷ []) ≡ None }
 {}
 
 /// Where a name is among slots. The superblock's name and the slot that is passed over don't count.
 pub fn id_of_name_among_slots_is_found()
     ensures found { IsLeastId (codes "b") None (raw_superblock ∷ raw_empty_file (codes "b") ∷ []) 1 }
-    ensures longer { name_cmp LongerFirst (codes "log.old") (codes "log") ≡ Less }
-    ensures shorter { name_cmp ShorterFirst (codes "log") (codes "log.old") ≡ Less }
     ensures before { IsNewId ShorterFirst (codes "a") None (raw_superblock ∷ raw_empty_file (codes "b") ∷ []) 1 }
     ensures behind { IsNewId ShorterFirst (codes "littlefs") None (raw_superblock ∷ raw_empty_file (codes "b") ∷ []) 2 }
     ensures passed_over { IsNewId ShorterFirst (codes "b") (Some 1) (raw_superblock ∷ raw_empty_file (codes "b") ∷ []) 2 }
     ensures second { IsLeastId (codes "b") (Some 1) (raw_superblock ∷ raw_empty_file (codes "b") ∷ raw_empty_file (codes "b") ∷ []) 2 }
+{}
+
+/// Where one name begins another, the order says which comes first.
+pub fn beginning_of_name_is_ordered()
+    ensures longer { name_cmp LongerFirst (codes "log.old") (codes "log") ≡ Less }
+    ensures shorter { name_cmp ShorterFirst (codes "log") (codes "log.old") ≡ Less }
 {}
 
 /// What slots hold of a type for an id.
@@ -109,6 +133,10 @@ pub fn slot_bytes_are_found_by_type_and_id()
     ensures structure { bytes_at (raw_superblock ∷ raw_empty_file (codes "b") ∷ []) inline_type 1 ≡ Some [] }
     ensures attribute { bytes_at (record (raw_empty_file (codes "b")) { attributes = (0x41, codes "x") ∷ [] } ∷ []) 0x341 0
         ≡ Some (codes "x") }
+{}
+
+/// Where slots hold nothing of a type.
+pub fn absent_slot_bytes_are_none()
     ensures no_attribute { bytes_at (record (raw_empty_file (codes "b")) { attributes = (0x41, codes "x") ∷ [] } ∷ []) 0x342 0 ≡ None }
     ensures other_name { bytes_at (raw_superblock ∷ []) file_name_type 0 ≡ None }
     ensures other_struct { bytes_at (raw_empty_file (codes "b") ∷ []) ctz_type 0 ≡ None }

@@ -25,8 +25,10 @@ pub fn fresh_image_is_accepted()
     ensures shows { (disk : Disk) → tree_on_disk disk (fresh_pair disk ∷ []) ≡ empty_tree }
     ensures gstate { (disk : Disk) → pairs_gstate (fresh_pair disk ∷ []) ≡ zero_gstate }
     ensures used { (disk : Disk) → used_blocks disk (fresh_pair disk ∷ []) ≡ 0 ∷ 1 ∷ [] }
+{}
 
-    // These bytes are such an image.
+/// These bytes are fresh images.
+pub fn fresh_images_are_these_bytes()
     ensures small { IsFreshDisk small_image }
     ensures large { IsFreshDisk large_image }
 {}
@@ -169,11 +171,6 @@ pub fn root_begins_at_end_of_superblock_chain()
         ∷ (codes "a" ∷ [], FileNode [] (codes "hi")) ∷ [])
         zero_gstate (0 ∷ 1 ∷ 2 ∷ 3 ∷ [])) }
 
-    // The superblock of the second pair gives 17 blocks.
-    ensures other_bytes { IsNotAccepted
-        (blocks_image (root_block_with (tail_entry true (Some (2, 3)) ∷ []) 0xef8649c3 192)
-        (pair_block_with (superblock_entries default_profile 4096 17 ++ inline_entries 1 (codes "a") (codes "hi")) 0xa947a470 193 ∷ [])) }
-
     // The superblock of the second pair gives version 2.1, and that of the first 2.0.
     ensures two_versions { HasDiskView
         (disk_with_versions AlsoTwoOne (blocks_image (root_block_with (tail_entry true (Some (2, 3)) ∷ []) 0xef8649c3 192)
@@ -181,6 +178,14 @@ pub fn root_begins_at_end_of_superblock_chain()
         (nodes_view (([], DirectoryNode [] (codes "a" ∷ []))
         ∷ (codes "a" ∷ [], FileNode [] (codes "hi")) ∷ [])
         zero_gstate (0 ∷ 1 ∷ 2 ∷ 3 ∷ [])) }
+{}
+
+/// The superblocks of a chain give the same, and stand alone in their pairs.
+pub fn bad_superblock_chain_is_refused()
+    // The superblock of the second pair gives 17 blocks.
+    ensures other_bytes { IsNotAccepted
+        (blocks_image (root_block_with (tail_entry true (Some (2, 3)) ∷ []) 0xef8649c3 192)
+        (pair_block_with (superblock_entries default_profile 4096 17 ++ inline_entries 1 (codes "a") (codes "hi")) 0xa947a470 193 ∷ [])) }
     ensures other_version { IsNotAccepted
         (blocks_image (root_block_with (tail_entry true (Some (2, 3)) ∷ []) 0xef8649c3 192)
         (pair_block_with (superblock_entries_with (struct_bytes_with 0x00020001 4096 255) ++ inline_entries 1 (codes "a") (codes "hi")) 0xe9294708 193 ∷ [])) }

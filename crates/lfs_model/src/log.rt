@@ -42,9 +42,11 @@ pub fn altered_commit_ends_log()
         ≡ record { commits = take 3 (chain_of shifted_slot_block).commits; end = 768; last = 0x500ffcef } }
     ensures first { (chain_of (slice_set shifted_slot_block 20 0x01)).commits ≡ [] }
     ensures whole { length (chain_of shifted_slot_block).commits ≡ 5 }
+{}
 
-    // Padding may be any bytes.
-    ensures padding { (k : ℕ) → k < 76 → (chain_of (slice_set small_block (52 + k) 0x00)).end ≡ 128 }
+/// The padding of a commit may be any bytes.
+pub fn padding_may_be_any_bytes()
+    ensures { (k : ℕ) → k < 76 → (chain_of (slice_set small_block (52 + k) 0x00)).end ≡ 128 }
 {}
 
 /// What ends a commit: a checksum of type 0x500 or 0x501 and of 4 to 1,022 bytes, over all before it and its own tag.
@@ -54,7 +56,10 @@ pub fn checksum_ends_commit()
         ≡ true }
     ensures other_type { has_commit (metadata_bytes 64 1 (log_entry_of create_tag_type 0 []
         ∷ log_entry_of 0x501 no_id (little_bytes 4 0x2f307140) ∷ [])) ≡ true }
+{}
 
+/// What ends no commit. Padding that is within the block does.
+pub fn bad_checksum_ends_no_commit()
     // Three bytes of a right number; a type of the same class; a number that leaves out its own tag.
     ensures too_short { has_commit (metadata_bytes 64 1 (log_entry_of create_tag_type 0 []
         ∷ log_entry_of 0x500 no_id (little_bytes 3 0xad724793) ∷ [])) ≡ false }
@@ -71,17 +76,6 @@ pub fn checksum_ends_commit()
 
 /// Of two blocks with a commit the later one holds, by the sign of the difference of their revisions.
 pub fn later_block_is_current()
-    ensures later { is_later 1 2 ≡ true }
-    ensures earlier { is_later 2 1 ≡ false }
-    ensures wrapped { is_later 0xffffffff 0 ≡ true }
-    ensures before_wrapping { is_later 0 0xffffffff ≡ false }
-    ensures farthest { is_later 0 0x7fffffff ≡ true }
-
-    // Neither is later than the other: the block named first holds.
-    ensures equal { is_later 5 5 ≡ false }
-    ensures half { is_later 0 0x80000000 ≡ false }
-    ensures half_back { is_later 0x80000000 0 ≡ false }
-
     ensures second { (a b : List ℕ) → has_commit a ≡ true → has_commit b ≡ true → is_later (block_revision a) (block_revision b) ≡ true
         → current_of_two a b ≡ Some b }
     ensures first { (a b : List ℕ) → has_commit a ≡ true → has_commit b ≡ true → is_later (block_revision a) (block_revision b)
@@ -89,4 +83,20 @@ pub fn later_block_is_current()
     ensures only_second { (a b : List ℕ) → has_commit a ≡ false → has_commit b ≡ true → current_of_two a b ≡ Some b }
     ensures only_first { (a b : List ℕ) → has_commit a ≡ true → has_commit b ≡ false → current_of_two a b ≡ Some a }
     ensures neither { (a b : List ℕ) → has_commit a ≡ false → has_commit b ≡ false → current_of_two a b ≡ None }
+{}
+
+/// Which revision is later, by the sign of their difference.
+pub fn later_revision_is_by_sign()
+    ensures later { is_later 1 2 ≡ true }
+    ensures earlier { is_later 2 1 ≡ false }
+    ensures wrapped { is_later 0xffffffff 0 ≡ true }
+    ensures before_wrapping { is_later 0 0xffffffff ≡ false }
+    ensures farthest { is_later 0 0x7fffffff ≡ true }
+{}
+
+/// Of equal revisions neither is later, nor of two that are half of all numbers apart.
+pub fn neither_revision_is_later()
+    ensures equal { is_later 5 5 ≡ false }
+    ensures half { is_later 0 0x80000000 ≡ false }
+    ensures half_back { is_later 0x80000000 0 ≡ false }
 {}

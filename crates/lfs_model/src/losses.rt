@@ -41,12 +41,16 @@ pub fn power_loss_leaves_disk_with_safe_tree()
     ensures lost { SurvivesPowerLoss fresh_state (ops.Stat (codes "/")) (record fresh_state { disk = empty_disk }) → ⊥ }
     ensures restored { RecoversTree empty_tree ops.Done small_image }
     ensures other_tree { RecoversTree (λ path. None) ops.Done small_image → ⊥ }
-    ensures safe { KeepsTree empty_tree small_image }
-    ensures not_safe { (tree : Tree) → KeepsTree tree empty_disk → ⊥ }
 
     // The same holds for what a stop in any call leaves.
     ensures left { (disk : Disk) (before after : Tree) → HasEither disk before after
         → (tree : Tree) × (((tree ≡ before) ⊎ (tree ≡ after)) × KeepsTree tree disk) }
+{}
+
+/// A fresh disk keeps its tree. A disk without blocks has none to keep.
+pub fn fresh_disk_keeps_its_tree()
+    ensures safe { KeepsTree empty_tree small_image }
+    ensures not_safe { (tree : Tree) → KeepsTree tree empty_disk → ⊥ }
 {}
 
 /// Wherever power is lost in a run, it is survived, and so is each loss after it.

@@ -31,15 +31,17 @@ pub fn operations_are_classified_by_disk_effect()
     ensures ask { filter (is_read_only (with_reader [])) each_operation
         ≡ ops.Open (codes "/b") read_flags ∷ ops.Read 0 1 ∷ ops.Seek 0 1 ∷ ops.Close 0 ∷ ops.ListAll (codes "/") ∷ ops.Stat (codes "/") ∷ ops.GetAttr (codes "/b") 0x41
         ∷ ops.AskGstate ∷ ops.IsUsed 0 ∷ ops.UsedCount ∷ ops.Remount ∷ [] }
+    ensures unseen { filter writes_or_truncates each_operation ≡ ops.Write 0 [] ∷ ops.Truncate 0 1 ∷ [] }
+    ensures kept { filter answers_itself each_operation ≡ ops.AskGstate ∷ ops.IsUsed 0 ∷ ops.UsedCount ∷ [] }
+    ensures itself { filter renames_itself each_operation ≡ ops.Rename (codes "/a") (codes "/a") ∷ [] }
+{}
 
-    // A dirty file is committed by a sync and by a close. A file that isn't dirty isn't committed.
+/// A dirty file is committed by a sync and by a close. A file that isn't dirty isn't committed.
+pub fn operations_on_open_file_are_classified()
     ensures dirty { filter (edits_slots (with_writer [] true [])) (ops.Sync 0 ∷ ops.Close 0 ∷ ops.Write 0 [] ∷ ops.Sync 1 ∷ []) ≡ ops.Sync 0 ∷ ops.Close 0 ∷ [] }
     ensures clean { filter (needs_no_call (with_writer [] false [])) each_operation
         ≡ ops.Write 0 [] ∷ ops.Sync 0 ∷ ops.Close 0 ∷ ops.AskGstate ∷ ops.IsUsed 0 ∷ ops.UsedCount ∷ [] }
     ensures sized { filter (needs_no_call (with_writer [] true (codes "hi"))) (ops.Truncate 0 2 ∷ ops.Truncate 0 3 ∷ ops.Truncate 1 2 ∷ ops.Write 0 (codes "!") ∷ []) ≡ ops.Truncate 0 2 ∷ [] }
-    ensures unseen { filter writes_or_truncates each_operation ≡ ops.Write 0 [] ∷ ops.Truncate 0 1 ∷ [] }
-    ensures kept { filter answers_itself each_operation ≡ ops.AskGstate ∷ ops.IsUsed 0 ∷ ops.UsedCount ∷ [] }
-    ensures itself { filter renames_itself each_operation ≡ ops.Rename (codes "/a") (codes "/a") ∷ [] }
 {}
 
 /// What each operation makes of the slots.
@@ -55,7 +57,11 @@ pub fn operations_edit_slots()
         (root_with_file (codes "a") (codes "x")) (root_with_file (codes "b") (codes "y")) → ⊥ }
     ensures removed { EditsSlots large_image root_and_two (mounted_session empty_tree) (ops.Remove (codes "/d/a")) [] root_and_two (root_and_directory [] []) }
     ensures no_slot { (new : List Pair) → EditsSlots large_image root_and_two (mounted_session empty_tree) (ops.Remove (codes "/x")) [] root_and_two new → ⊥ }
-    ensures committed { EditsSlots large_image (root_with_file (codes "a") []) (with_writer (codes "a" ∷ []) true (codes "hi")) (ops.Sync 0) []
+{}
+
+/// A sync of a dirty file commits its struct.
+pub fn sync_edits_struct()
+    ensures { EditsSlots large_image (root_with_file (codes "a") []) (with_writer (codes "a" ∷ []) true (codes "hi")) (ops.Sync 0) []
         (root_with_file (codes "a") []) (root_with_file (codes "a") (codes "hi")) }
 {}
 
@@ -134,8 +140,10 @@ pub fn only_files_of_operation_are_stored_or_moved()
     ensures onto { takes_away (ops.Rename (codes "/a") (codes "/b")) (codes "b" ∷ []) ≡ true }
     ensures beside { takes_away (ops.Rename (codes "/d/a") (codes "/d/b")) (codes "d" ∷ codes "z" ∷ []) ≡ false }
     ensures none { filter (λ op. takes_away op (codes "b" ∷ [])) each_operation ≡ ops.Remove (codes "/b") ∷ ops.Rename (codes "/a") (codes "/b") ∷ [] }
+{}
 
-    // A sync and a close are about the file that is open, and no other operation stores one.
+/// A sync and a close are about the file that is open, and no other operation stores one.
+pub fn only_open_file_is_stored()
     ensures stored { filter (λ op. may_store_at (with_writer (codes "b" ∷ []) true []) op (codes "b" ∷ [])) each_operation ≡ ops.Sync 0 ∷ ops.Close 0 ∷ [] }
     ensures elsewhere { may_store_at (with_writer (codes "b" ∷ []) true []) (ops.Sync 0) (codes "a" ∷ []) ≡ false }
     ensures not_open { may_store_at (with_writer (codes "b" ∷ []) true []) (ops.Sync 1) (codes "b" ∷ []) ≡ false }

@@ -1,6 +1,6 @@
-ghost use Rattle.std.specs.Prelude.{◌≡◌, ◌≤◌, ◌<◌, ◌+◌, ◌%◌, [], ◌∷◌, true, length, slice_range, is_err, IfErr, IfOk, IsErrOf, OnOk};
+ghost use Rattle.std.specs.Prelude.{◌≡◌, ◌<◌, ◌+◌, [], ◌∷◌, true, length, slice_range, is_err, IfErr, IfOk, IsErrOf, OnOk};
 ghost use Rattle.lfs_model.specs.format.Blocks.{block_bytes};
-ghost use Rattle.lfs_model.specs.session.History.{call_event, AreUnprogrammed, LeftByLatest};
+ghost use Rattle.lfs_model.specs.session.History.{call_event, LeftByLatest};
 ghost use Rattle.lfs_model.specs.session.History.DeviceCall.{Read, Program, Erase};
 ghost use Rattle.lfs_model.specs.crash.Conformance.{CallsConform};
 ghost use Rattle.lfs_tool.specs.LoadedBlocks.{AreLoadedOfSize, bytes_of_loaded};
@@ -103,6 +103,7 @@ impl SparseDevice {
 }
 
 impl BlockDevice for SparseDevice {
+    ghost use Rattle.lfs_device.specs.BlockCalls.{CanProgram, IsWithinBlock};
     ghost use Rattle.lfs_tool.specs.SparseView.{sparse_blocks, sparse_geometry, sparse_history};
     ghost use Rattle.lfs_tool.specs.LoadedShape.{lemma_loaded_bytes, lemma_loaded_sizes};
 
@@ -125,8 +126,7 @@ impl BlockDevice for SparseDevice {
     }
 
     fn read(&mut self, block: u32, off: u32, buf: &mut [u8]) -> Result<(), Error>
-        requires in_device { block < (sparse_geometry self.old).block_count }
-        requires in_block { off + length buf.old ≤ (sparse_geometry self.old).block_size }
+        requires within { IsWithinBlock (sparse_geometry self.old) block off (length buf.old) }
         ensures bytes { OnOk result (buf.new ≡ slice_range (block_bytes (sparse_blocks self.old) block) off (off + length buf.old)) }
         ensures same { sparse_blocks self.new ≡ sparse_blocks self.old }
         ensures geometry { sparse_geometry self.new ≡ sparse_geometry self.old }
@@ -144,11 +144,7 @@ impl BlockDevice for SparseDevice {
     }
 
     fn prog(&mut self, block: u32, off: u32, bytes: &[u8]) -> Result<(), Error>
-        requires in_device { block < (sparse_geometry self.old).block_count }
-        requires in_block { off + length bytes.now ≤ (sparse_geometry self.old).block_size }
-        requires begins { off % (sparse_geometry self.old).page ≡ 0 }
-        requires ends { (off + length bytes.now) % (sparse_geometry self.old).page ≡ 0 }
-        requires unprogrammed { AreUnprogrammed (sparse_history self.old) block off (off + length bytes.now) }
+        requires can { CanProgram (sparse_geometry self.old) (sparse_history self.old) block off (length bytes.now) }
         ensures err { IsErrOf result Error.Io }
         ensures same { sparse_blocks self.new ≡ sparse_blocks self.old }
         ensures geometry { sparse_geometry self.new ≡ sparse_geometry self.old }

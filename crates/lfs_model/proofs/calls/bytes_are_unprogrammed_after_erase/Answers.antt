@@ -1,9 +1,6 @@
-use Rattle.std.proofs.Common.{ℕ, zero, suc, ◌≡◌, ◌≢◌, ◌≤◌, ◌<◌, true, false, ◌==◌, cond, [], ◌∷◌, refl, sym, ap, ◌∙◌, arith}
-use Rattle.std.specs.Prelude.{All}
-use Rattle.std.proofs.lemmas.List.Elements.{All-from_recursion}
-use Rattle.std.proofs.lemmas.Bool.Decides.{nat_tests}
+use Rattle.std.proofs.Common.{ℕ, zero, suc, ◌≡◌, ◌≤◌, ◌<◌, true, refl, arith}
 use Rattle.lfs_model.specs.session.History.{is_unprogrammed_byte}
-use Rattle.lfs_model.specs.examples.Histories.{after_erase, after_read}
+use Rattle.lfs_model.specs.examples.Histories.{after_read}
 use Rattle.lfs_model.proofs.calls.bytes_are_unprogrammed_after_erase.Goals as goal
 
 from_there : (k : ℕ) → 2 ≤ k → k < 4 → is_unprogrammed_byte after_read 0 k ≡ true
@@ -18,13 +15,3 @@ returns-clause-from_there c = from_there
 
 pub returns-clause-not_before : goal.returns-clause-not_before
 returns-clause-not_before c = λ h. absurd (let k = h 1 (omega arith) (omega arith) in cc)
-
-stays : (b k : ℕ) → All (λ c. c ≢ b) (0 ∷ []) → is_unprogrammed_byte after_erase b k ≡ true → is_unprogrammed_byte after_read b k ≡ true
-stays zero k apart e = absurd (apart 0 0 (omega arith) refl)
-stays (suc b) k apart e = absurd (let f : (suc b == 0) ≡ false = grind (arith, nat_tests) in let g = sym (ap (λ x. cond x true false) f) ∙ e in cc)
-
-pub returns-clause-stay : goal.returns-clause-stay
-returns-clause-stay c = record { stays = stays }
-
-pub returns-clause-dont_stay : goal.returns-clause-dont_stay
-returns-clause-dont_stay c = λ h. absurd (let k = h.stays 0 0 (All-from_recursion (λ c. c ≢ 0) (1 ∷ []) ((λ e. absurd (omega arith)), tt)) refl in cc)

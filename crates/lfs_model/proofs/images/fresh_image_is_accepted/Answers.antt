@@ -1,6 +1,3 @@
-use Rattle.std.proofs.Common.{refl, arith}
-use Rattle.lfs_model.specs.format.Crc.{crc_of, next_bits}
-use Rattle.lfs_model.specs.format.Log.{chain_of, chain_within, commit_within, entry_at, closes}
 use Rattle.lfs_model.proofs.Fresh as fresh
 use Rattle.lfs_model.proofs.images.fresh_image_is_accepted.Goals as goal
 
@@ -12,19 +9,3 @@ returns-clause-writable c = fresh.writable
 
 pub returns-clause-shows : goal.returns-clause-shows
 returns-clause-shows c = fresh.shows
-
-pub returns-clause-small : goal.returns-clause-small
-unfolding chain_of chain_within commit_within entry_at closes crc_of next_bits
-returns-clause-small c = record {
-  geometry = record { power = refl; pages = omega arith; no_smaller = omega arith; no_larger = omega arith; whole_pages = refl; no_fewer = omega arith; no_more = omega arith; bytes = omega arith };
-  content = refl;
-  first = refl;
-}
-
-pub returns-clause-large : goal.returns-clause-large
-unfolding chain_of chain_within commit_within entry_at closes crc_of next_bits
-returns-clause-large c = record {
-  geometry = record { power = refl; pages = omega arith; no_smaller = omega arith; no_larger = omega arith; whole_pages = refl; no_fewer = omega arith; no_more = omega arith; bytes = omega arith };
-  content = refl;
-  first = refl;
-}

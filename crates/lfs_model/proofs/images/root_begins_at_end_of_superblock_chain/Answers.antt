@@ -6,9 +6,8 @@ use Rattle.lfs_model.specs.format.Log.{chain_of, chain_within, commit_within, en
 use Rattle.lfs_model.specs.format.Slots.{Slot, Inline, zero_gstate}
 use Rattle.lfs_model.specs.format.Thread.{Pair}
 use Rattle.lfs_model.specs.examples.Images.{struct_bytes_with}
-use Rattle.lfs_model.specs.tree.Fresh.{superblock_bytes, superblock_slot}
+use Rattle.lfs_model.specs.tree.Fresh.{superblock_bytes}
 use Rattle.lfs_model.proofs.Examples.{image_shows, pair, hard, file, large_superblock}
-use Rattle.lfs_model.proofs.Refusals.{refused_with, fails_slots, fails_superblock}
 use Rattle.lfs_model.proofs.images.root_begins_at_end_of_superblock_chain.Goals as goal
 
 pub returns-clause-expanded : goal.returns-clause-expanded
@@ -20,16 +19,6 @@ pub returns-clause-follower : goal.returns-clause-follower
 unfolding chain_of chain_within commit_within entry_at closes crc_of next_bits
 returns-clause-follower c = image_shows _ (pair (0, 1) (large_superblock ∷ []) (hard (2, 3)) zero_gstate ∷ pair (2, 3) (file (codes "a") (codes "hi") ∷ []) None zero_gstate ∷ []) (superblock_bytes default_profile 4096 16) 2
     (record { links = (refl, (refl, refl)); contents = (refl, (refl, tt)); first = refl; named = refl; lists = (tt, (tt, tt)); pass = refl }) _ _ _ refl refl refl
-
-pub returns-clause-other_bytes : goal.returns-clause-other_bytes
-unfolding chain_of chain_within commit_within entry_at closes crc_of next_bits
-returns-clause-other_bytes c = refused_with _ (pair (0, 1) (large_superblock ∷ []) (hard (2, 3)) zero_gstate ∷ pair (2, 3) (superblock_slot default_profile 4096 17 ∷ file (codes "a") (codes "hi") ∷ []) None zero_gstate ∷ []) (refl, (refl, refl)) (refl, (refl, tt))
-    (fails_superblock _ _ _ _ (superblock_bytes default_profile 4096 16) refl (λ held h. h.1) refl)
-
-pub returns-clause-not_alone : goal.returns-clause-not_alone
-unfolding chain_of chain_within commit_within entry_at closes crc_of next_bits
-returns-clause-not_alone c = refused_with _ (pair (0, 1) (large_superblock ∷ file (codes "z") [] ∷ []) (hard (2, 3)) zero_gstate ∷ pair (2, 3) (large_superblock ∷ []) None zero_gstate ∷ []) (refl, (refl, refl)) (refl, (refl, tt))
-    (fails_slots _ _ refl)
 
 pub returns-clause-three_pairs : goal.returns-clause-three_pairs
 unfolding chain_of chain_within commit_within entry_at closes crc_of next_bits
@@ -47,8 +36,3 @@ pub returns-clause-two_versions : goal.returns-clause-two_versions
 unfolding chain_of chain_within commit_within entry_at closes crc_of next_bits
 returns-clause-two_versions c = image_shows _ two_versions (superblock_bytes default_profile 4096 16) 2
     (record { links = (refl, (refl, refl)); contents = (refl, (refl, tt)); first = refl; named = refl; lists = (tt, (tt, (tt, tt))); pass = refl }) _ _ _ refl refl refl
-
-pub returns-clause-other_version : goal.returns-clause-other_version
-unfolding chain_of chain_within commit_within entry_at closes crc_of next_bits
-returns-clause-other_version c = refused_with _ two_versions (refl, (refl, refl)) (refl, (refl, tt))
-    (fails_superblock _ _ _ _ (superblock_bytes default_profile 4096 16) refl (λ held h. h.1) refl)

@@ -1,8 +1,8 @@
-use Rattle.std.proofs.Common.{ℕ, ◌≡◌, ◌<◌, Bool, true, false, List, [], ◌∷◌, refl, ap, ◌+◌, ◌==◌, eqb-true, slice_set, length}
+use Rattle.std.proofs.Common.{ℕ, ◌≡◌, ◌<◌, Bool, true, false, List, [], ◌∷◌, refl, ap, length}
 use Rattle.std.specs.Prelude.{nat_lt}
 use Rattle.lfs_model.specs.format.Crc.{crc_of, next_bits}
 use Rattle.lfs_model.specs.format.Log.{chain_of, chain_within, commit_within, entry_at, closes}
-use Rattle.lfs_model.specs.examples.Images.{small_block, small_disk_beginning, bad_checksum_block}
+use Rattle.lfs_model.specs.examples.Images.{small_disk_beginning, bad_checksum_block}
 use Rattle.lfs_model.proofs.Skips.{all_below, below_from}
 use Rattle.lfs_model.proofs.Refusals.{no_commit}
 use Rattle.lfs_model.proofs.log.altered_commit_ends_log.Goals as goal
@@ -45,11 +45,3 @@ returns-clause-no_log c = no_log
 pub returns-clause-no_image : goal.returns-clause-no_image
 unfolding chain_of chain_within commit_within entry_at closes crc_of next_bits
 returns-clause-no_image c = λ k l. no_commit (small_disk_beginning (bad_checksum_block k)) (ap (λ commits. nat_lt 0 (length commits)) (no_log k l)) refl
-
-each_pad : all_below (λ k. (chain_of (slice_set small_block (52 + k) 0x00)).end == 128) 76 ≡ true
-unfolding chain_of chain_within commit_within entry_at closes crc_of next_bits
-each_pad = refl
-
-pub returns-clause-padding : goal.returns-clause-padding
-unfolding chain_of chain_within commit_within entry_at closes crc_of next_bits
-returns-clause-padding c = λ k l. eqb-true (chain_of (slice_set small_block (52 + k) 0x00)).end 128 (below_from (λ k. (chain_of (slice_set small_block (52 + k) 0x00)).end == 128) 76 each_pad k l)

@@ -8,7 +8,6 @@ use Rattle.lfs_model.specs.examples.Images.{small_image}
 use Rattle.lfs_model.proofs.Fresh.{shows, writable}
 use Rattle.lfs_model.proofs.Example.{fresh}
 use Rattle.lfs_model.specs.tree.Shown.{tree_on_disk}
-use Rattle.lfs_model.proofs.SafeImage.{is_safe}
 use Rattle.lfs_model.proofs.Survived.{safe_with}
 use Rattle.lfs_model.proofs.FreshSession.{pairs, are_accepted, tree_is_empty, around, is_at_work, none_accepted, surviving}
 use Rattle.lfs_model.proofs.losses.power_loss_leaves_disk_with_safe_tree.Goals as goal
@@ -33,12 +32,6 @@ returns-clause-restored c = record {
 
 pub returns-clause-other_tree : goal.returns-clause-other_tree
 returns-clause-other_tree c = λ h. absurd (let e = ap (λ (t : Tree). t []) (sym (tree_is_empty h.pairs h.accepted) ∙ h.kept) in cc)
-
-pub returns-clause-safe : goal.returns-clause-safe
-returns-clause-safe c = is_safe
-
-pub returns-clause-not_safe : goal.returns-clause-not_safe
-returns-clause-not_safe c = λ tree h. none_accepted h.pairs h.accepted
 
 pub returns-clause-left : goal.returns-clause-left
 returns-clause-left c = λ disk before after k. (tree_on_disk disk k.pairs, (k.tree, safe_with disk k.pairs k.accepted k.writable))

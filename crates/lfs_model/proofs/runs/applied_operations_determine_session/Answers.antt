@@ -3,9 +3,9 @@ use Rattle.lfs_model.specs.tree.Fresh.{empty_tree}
 use Rattle.lfs_model.specs.session.State.{mounted_session}
 use Rattle.lfs_model.specs.examples.Images.{small_image}
 use Rattle.lfs_model.specs.examples.Runs.{fresh_state}
-use Rattle.lfs_model.proofs.Fresh.{shows, writable}
+use Rattle.lfs_model.proofs.Fresh.{shows}
 use Rattle.lfs_model.proofs.Example.{fresh}
-use Rattle.lfs_model.proofs.FreshSession.{pairs, are_accepted, none_accepted}
+use Rattle.lfs_model.proofs.FreshSession.{pairs, are_accepted}
 use Rattle.lfs_model.proofs.AskedStep.{turn}
 use Rattle.lfs_model.proofs.Kept.{session_shows}
 use Rattle.lfs_model.proofs.runs.applied_operations_determine_session.Goals as goal
@@ -24,9 +24,3 @@ returns-clause-kept c = session_shows fresh_state fresh_state _ _ (returns-claus
 
 pub returns-clause-lost : goal.returns-clause-lost
 returns-clause-lost c = λ h. returns-clause-failed c h.shows
-
-pub returns-clause-settled : goal.returns-clause-settled
-returns-clause-settled c = record { pairs = pairs; accepted = are_accepted; writable = writable small_image fresh; recovered = record { gstate = refl; reached = are_accepted.reached refl } }
-
-pub returns-clause-not_settled : goal.returns-clause-not_settled
-returns-clause-not_settled c = λ h. none_accepted h.pairs h.accepted

@@ -1,20 +1,13 @@
-use Rattle.std.proofs.Common.{ℕ, ◌≡◌, ◌≤◌, ◌+◌, Bool, true, false, List, [], ◌∷◌, length, Option, Some, refl, sym, ap, subst, arith, ◌∙◌, append-nil}
-use Rattle.std.proofs.lemmas.Bool.{lt-ltb}
+use Rattle.std.proofs.Common.{[], ◌∷◌, refl, sym, ap, ◌∙◌}
 use Rattle.std.specs.Prelude.{codes}
 use Rattle.std.proofs.lemmas.List.{append_cancel_right}
 use Rattle.lfs_model.specs.format.Disk.{block_count}
 use Rattle.lfs_model.specs.format.Content.{content_at}
-use Rattle.lfs_model.specs.session.History.{program_count}
 use Rattle.lfs_model.specs.tree.Tree.{Tree}
-use Rattle.lfs_model.specs.tree.Shown.{tree_on_disk, used_blocks}
+use Rattle.lfs_model.specs.tree.Shown.{tree_on_disk}
 use Rattle.lfs_model.specs.session.Operations as ops
-use Rattle.lfs_model.specs.session.Operations.{Reply}
 use Rattle.lfs_model.specs.session.Run.{IsStep}
-use Rattle.lfs_model.specs.tree.Fresh.{empty_tree}
-use Rattle.lfs_model.specs.session.Session.{DiskSummary, has_long_name, is_over_charge, lacks_free}
-use Rattle.lfs_model.specs.session.State.{Healthy, SessionHealth, result_and_health, mounted_session}
-use Rattle.lfs_model.specs.format.Thread.{AreLinked, Pair, anchor_address}
-use Rattle.lfs_model.specs.examples.Images.{large_image, small_image}
+use Rattle.lfs_model.specs.examples.Images.{large_image}
 use Rattle.lfs_model.specs.examples.Runs.{large_fresh_state, state_after_open, one_block_reads}
 use Rattle.lfs_model.proofs.Uniqueness.{one_thread}
 use Rattle.lfs_model.proofs.Fresh.{shows}
@@ -48,35 +41,3 @@ unwritten h =
 
 pub returns-clause-not_unwritten : goal.returns-clause-not_unwritten
 returns-clause-not_unwritten c = unwritten
-
-pub returns-clause-no_program : goal.returns-clause-no_program
-returns-clause-no_program c = λ h. absurd (let k = ap program_count (h.called ∙ append-nil h.calls) ∙ (h.refused refl).1.0 in cc)
-
--- two blocks are too few, since one is used
-some_used : (ps : List Pair) → AreLinked (Some anchor_address) ps → 1 ≤ length (used_blocks small_image ps)
-some_used [] links = absurd (cc)
-some_used (p ∷ ps) links = omega arith
-
-lacking : (around : DiskSummary) → around.block_count ≡ 2 → 1 ≤ length around.used → lacks_free around [] 2 ≡ true
-lacking around count some = lt-ltb around.block_count (length around.used + 0 + 2) (omega arith)
-
-abbrev is_opened : Option Reply → Bool
-is_opened (Some (ops.Opened fd)) = true
-is_opened _ = false
-
-refused : (around : DiskSummary) (shown : Option Tree) (after : SessionHealth) → lacks_free around [] 2 ≡ true → (w : Bool) → around.writable ≡ w → (t : Bool) → has_long_name around (codes "b" ∷ []) ≡ t → (o : Bool) → is_over_charge around (codes "b") [] ≡ o
-    → result_and_health around shown (Healthy (mounted_session empty_tree)) op ≡ (Some (ops.Opened 0), after) → ⊥
-refused around shown after lack w is t long o over e = absurd (let z : false ≡ true = sym (go w is t long o over) ∙ ap (λ (x : Option Reply × SessionHealth). is_opened x.0) e in cc)
-  where
-    go : (w : Bool) → around.writable ≡ w → (t : Bool) → has_long_name around (codes "b" ∷ []) ≡ t → (o : Bool) → is_over_charge around (codes "b") [] ≡ o → is_opened (result_and_health around shown (Healthy (mounted_session empty_tree)) op).0 ≡ false
-    go false f t h o g = rw f refl
-    go true f true h o g = rw f (rw h refl)
-    go true f false h true g = rw f (rw h (rw g refl))
-    go true f false h false g = rw f (rw h (rw g (rw lack refl)))
-
-pub returns-clause-no_space : goal.returns-clause-no_space
-returns-clause-no_space c = λ to h.
-    let a = h.answered in
-    let s = a.surrounds (mounted_session empty_tree) refl in
-    let some = subst (λ (bs : List ℕ). 1 ≤ length bs) (sym s.1.1.used) (some_used s.0 s.1.0.thread.links) in
-    refused a.around a.shown to.state (lacking a.around s.1.1.block_count some) a.around.writable refl (has_long_name a.around (codes "b" ∷ [])) refl (is_over_charge a.around (codes "b") []) refl a.answers

@@ -1,37 +1,8 @@
-use Rattle.std.proofs.Common.{ℕ, ◌≡◌, [], ◌∷◌, refl, arith}
-use Rattle.std.specs.Prelude.{codes, Contains}
-use Rattle.std.proofs.lemmas.List.Elements.{All-from_recursion}
+use Rattle.std.proofs.Common.{refl}
 use Rattle.lfs_model.specs.session.Operations as ops
-use Rattle.lfs_model.specs.crash.Frame.{SearchesAgain, pair_count_at, searched_directories}
-use Rattle.lfs_model.specs.examples.Runs.{fresh_state, root_and_two}
+use Rattle.lfs_model.specs.examples.Runs.{fresh_state}
 use Rattle.lfs_model.proofs.AskedStep.{asked}
 use Rattle.lfs_model.proofs.runs.reads_of_look_up_are_bounded.Goals as goal
-
-kept : SearchesAgain root_and_two (ops.Stat (codes "/d")) (ops.Stat (codes "/e"))
-kept = record {
-  path = codes "/d";
-  stat = refl;
-  below = refl;
-  again = refl;
-  within = All-from_recursion (λ p. Contains (searched_directories (ops.Stat (codes "/d"))) p) ([] ∷ []) ((0, omega arith, refl), tt);
-  few = omega arith;
-  small = All-from_recursion (λ p. pair_count_at root_and_two p ≡ 1) ([] ∷ []) (refl, tt);
-}
-
-not_kept : SearchesAgain root_and_two (ops.Stat (codes "/d/a")) (ops.ListAll (codes "/d")) → ⊥
-not_kept h = apart (pair_count_at root_and_two (codes "d" ∷ [])) refl (h.small 1 [] (omega arith))
-  where
-    apart : (n : ℕ) → n ≡ 2 → n ≡ 1 → ⊥
-    apart n e f = absurd (omega arith)
-
-pub returns-clause-not_kept : goal.returns-clause-not_kept
-returns-clause-not_kept c = not_kept
-
-pub returns-clause-kept : goal.returns-clause-kept
-returns-clause-kept c = kept
-
-pub returns-clause-no_more : goal.returns-clause-no_more
-returns-clause-no_more c = λ h. absurd (let e = h kept in omega arith)
 
 pub returns-clause-performed : goal.returns-clause-performed
 returns-clause-performed c = (fresh_state, (asked, refl))

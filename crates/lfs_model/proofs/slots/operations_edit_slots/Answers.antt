@@ -36,19 +36,6 @@ returns-clause-moved c = (
 pub returns-clause-removed : goal.returns-clause-removed
 returns-clause-removed c = (refl, file_slot (codes "a"), (refl, record { before = _ ∷ []; pair = _; after = _; left = []; right = []; was = refl; held = refl; is = refl }))
 
-pub returns-clause-committed : goal.returns-clause-committed
-returns-clause-committed c = (
-  refl,
-  inr (
-    refl,
-    (
-      file_slot (codes "a"),
-      record (file_slot (codes "a")) { struct = Inline (codes "hi") },
-      (refl, (refl, (refl, omega arith)), record { before = []; pair = _; after = _; left = superblock_slot default_profile 4096 16 ∷ []; right = []; was = refl; held = refl; is = refl }),
-    ),
-  ),
-)
-
 pub returns-clause-no_slot : goal.returns-clause-no_slot
 returns-clause-no_slot c = λ new h. absurd (let k = h.2.0 in cc)
 

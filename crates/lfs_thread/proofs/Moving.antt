@@ -218,8 +218,8 @@ module _ (disk : Disk) (history : List CallEvent) (hs : List PairHeader) (sets :
           let full = subst HasSuperblockOf (sym next_content) has in
           subst (λ o. BeginsWith o superblock_entry) (sym (first_holds (disk_block beside fresh.0) (disk_block beside fresh.1) copied.fresh_is.anew.has_commit copied.fresh_is.cleared))
           (ap (λ (cs : List (List LogEntry)). slice_get (flat_map (λ c. c) cs) 0) copied.fresh_is.anew.commits
-          ∙ first_of (content_entries copied.held ++ copied.fresh_is.anew.checksum ∷ []) [] superblock_entry (first_of (content_entries copied.held) (copied.fresh_is.anew.checksum ∷ []) superblock_entry
-          (superblock_anew copied.held is_next.content (subst (λ (r : RawContent). AreWellFormed r.slots) (sym same_held) is_next.is_pair.describes.logged.slots) copy_is.header.complete full.0 full.1)))
+          ∙ first_of (content_entries copied.new ++ copied.fresh_is.anew.checksum ∷ []) [] superblock_entry (first_of (content_entries copied.new) (copied.fresh_is.anew.checksum ∷ []) superblock_entry
+          (superblock_anew copied.new is_next.content (subst (λ (r : RawContent). AreWellFormed r.slots) (sym same_held) is_next.is_pair.describes.logged.slots) copy_is.header.complete full.0 full.1)))
 
       begins_anew : (left : Blocks) → KeepsOutsidePair (header_address h) mid left → BeginsWithAnySuperblock (pair_moved_to old (index + 1) fresh) (record disk { blocks = left })
       begins_anew left keeps has = first_stays beside (fresh_elsewhere apart_from) keeps superblock_entry (log_first has)

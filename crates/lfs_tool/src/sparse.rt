@@ -1,9 +1,9 @@
 ghost use Rattle.std.specs.Prelude.{◌≡◌, ◌≤◌, ◌<◌, ◌+◌, ◌%◌, [], ◌∷◌, true, length, slice_range, is_err, IfErr, IfOk, IsErrOf, OnOk};
-ghost use Rattle.lfs_model.specs.format.Blocks.{block_bytes};
+ghost use Rattle.lfs_model.specs.format.Blocks.{SameExcept, block_bytes};
 ghost use Rattle.lfs_model.specs.session.History.{call_event, AreUnprogrammed, LeftByLatest};
 ghost use Rattle.lfs_model.specs.session.History.DeviceCall.{Read, Program, Erase};
 ghost use Rattle.lfs_model.specs.crash.Conformance.{CallsConform};
-ghost use Rattle.lfs_tool.specs.LoadedBlocks.{AreLoadedOfSize, bytes_of_loaded};
+ghost use Rattle.lfs_tool.specs.LoadedBlocks.{AreLoadedOfSize, bytes_of_loaded, padded_to_size};
 
 use crate::loaded_block::LoadedBlock;
 use lfs_device::{BlockDevice, Error, Geometry, Trace};
@@ -46,7 +46,7 @@ fn empty_blocks(alloc: Global, count: u32, size: u32) -> Result<Vec<LoadedBlock>
 }
 
 impl SparseDevice {
-    ghost use Rattle.lfs_tool.specs.SparseView.{sparse_geometry, sparse_history};
+    ghost use Rattle.lfs_tool.specs.SparseView.{sparse_blocks, sparse_geometry, sparse_history};
 
     /// Makes a device of this geometry of which nothing is loaded.
     ///
@@ -69,6 +69,8 @@ impl SparseDevice {
     /// Its history begins anew. There is no such block, or it is shorter: then nothing is changed.
     pub fn load(self, block: u32, bytes: Vec<u8>) -> SparseDevice
         ensures geometry { sparse_geometry result ≡ sparse_geometry self }
+        ensures loaded { block < (sparse_geometry self).block_count → length bytes.items ≤ (sparse_geometry self).block_size → block_bytes (sparse_blocks result) block ≡ padded_to_size (sparse_geometry self).block_size bytes.items }
+        ensures others { SameExcept block (sparse_blocks self) (sparse_blocks result) }
     {
         let size = self.geometry.block_size as usize;
         let SparseDevice {

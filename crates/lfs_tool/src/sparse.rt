@@ -9,27 +9,19 @@ use crate::loaded_block::LoadedBlock;
 use lfs_device::{BlockDevice, Error, Geometry, Trace};
 use std::alloc::Global;
 
-/// An image of which a part is loaded, as a device. A read of bytes that aren't loaded fails with `Io`,
-/// and the device notes them. So does each program and erase, and changes nothing.
+/// An image of which a part is loaded, as a device. A read of bytes that aren't loaded fails with `Io`.
+/// So does each program and erase, and changes nothing.
 ///
 /// Of an image it is known what is loaded. Contracts see erased bytes elsewhere: no read returns these.
 #[derive(Drop)]
 pub struct SparseDevice {
     geometry: Geometry,
     blocks: Vec<LoadedBlock>,
-    missing: Option<MissingBytes>,
     trace: Trace,
     ghost count: { length blocks.items ≡ geometry.block_count },
     ghost sizes: { AreLoadedOfSize geometry.block_size blocks.items },
     ghost newest: { LeftByLatest trace.events (bytes_of_loaded blocks.items) },
     ghost conforms: { CallsConform trace.events },
-}
-
-/// What a read asked for that isn't loaded: the beginning of a block, up to the end of what was to be read.
-#[derive(Clone, Copy, Debug, PartialEq, Eq)]
-pub struct MissingBytes {
-    pub block: u32,
-    pub len: u32,
 }
 
 // Makes blocks of which nothing is loaded.
@@ -60,7 +52,6 @@ impl SparseDevice {
         Ok(SparseDevice {
             geometry,
             blocks,
-            missing: None,
             trace: Trace::with_ghost_history(&geometry, &()),
         })
     }
@@ -76,7 +67,6 @@ impl SparseDevice {
         let SparseDevice {
             geometry,
             mut blocks,
-            missing: _,
             trace: _,
         } = self;
         if (block as usize) < blocks.len() && bytes.len() <= size {
@@ -85,7 +75,6 @@ impl SparseDevice {
         SparseDevice {
             geometry,
             blocks,
-            missing: None,
             trace: Trace::with_ghost_history(&geometry, &()),
         }
     }
@@ -96,11 +85,6 @@ impl SparseDevice {
             Some(block) => block.bytes(),
             None => &[],
         }
-    }
-
-    /// Returns what the last read that failed asked for, of those since the last `load`.
-    pub fn missing(&self) -> Option<MissingBytes> {
-        self.missing
     }
 }
 
@@ -138,8 +122,6 @@ impl BlockDevice for SparseDevice {
         let is_missing = !self.blocks[block as usize].read(off as usize, buf);
         self.trace = Trace::with_ghost_history(self, &(block, off, buf.len(), is_missing));
         if is_missing {
-            let len = off + buf.len() as u32;
-            self.missing = Some(MissingBytes { block, len });
             return Err(Error::Io);
         }
         Ok(())

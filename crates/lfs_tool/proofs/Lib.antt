@@ -5,6 +5,7 @@ mod KnownBytes
 pub mod Writers
 mod Images
 mod Checks
+mod Loading
 mod Mounts
 mod Walked
 mod ActionsDone

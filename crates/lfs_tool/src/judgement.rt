@@ -1,32 +1,36 @@
 // Whether an image is accepted, and with what, or why not.
 
-ghost use Rattle.std.specs.Prelude.{◌≡◌, ◌≢◌, ◌↔◌, ◌⊎◌, IfErr, IfOk, IsTrue, false};
+ghost use Rattle.std.specs.Prelude.{◌≡◌, ◌≢◌, ◌↔◌, ◌⊎◌, IfErr, IfOk, IfSome, IsTrue, false};
 ghost use Rattle.lfs_device.specs.RamDevice.{ram_blocks, ram_geometry};
 ghost use Rattle.lfs_device.specs.DeviceDisk.{disk_of_blocks};
 ghost use Rattle.lfs_model.specs.format.Disk.{ordered_disk};
 ghost use Rattle.lfs_model.specs.layers.Violations.{Breaks};
 ghost use Rattle.lfs_mount.specs.TrueViolation.{IsTrueViolation};
+ghost use Rattle.lfs_thread.specs.Kept.{disk_of_device};
 ghost use Rattle.lfs_thread.specs.MountErrors.{error_of_mount};
 ghost use Rattle.lfs_tool.specs.ImageSummaries.{HasAcceptedOrders, IsAcceptedInOrder};
-ghost use Rattle.lfs_tool.specs.Verdict.{BreaksInSome, IsInNoOrder, IsDiskVerdict};
+ghost use Rattle.lfs_tool.specs.Verdict.{BreaksInSome, IsInNoOrder, IsDiskVerdict, IsSummarized};
 ghost use Rattle.lfs_model.specs.layers.BlockSets.{AreUsed};
 ghost use Rattle.lfs_model.specs.tree.Shown.{used_blocks};
 ghost use Rattle.lfs_model.specs.tree.View.{IsAccepted};
 ghost use Rattle.lfs_model.specs.declared.order.NameOrder.TheVariants.{LongerFirst, ShorterFirst};
 
 use crate::summaries::summary_of_thread;
-use crate::verdict::{AcceptedOrders, BrokenRule, ImageVerdict};
+use crate::verdict::{AcceptedOrders, BrokenRule, ImageSummary, ImageVerdict};
 use crate::violation_lines::broken_rule;
-use lfs_device::{Error, RamDevice};
+use lfs_device::{BlockDevice, Error, RamDevice};
 use lfs_model::{NameOrder, Violation};
 use lfs_mount::{MountError, mount, mount_in_order};
 use lfs_thread::Thread;
 use std::alloc::Global;
 
 // Returns whether the image of a device is accepted with its names in that order.
-fn accepts_order(alloc: Global, device: RamDevice, order: NameOrder) -> Result<bool, Error>
-    ensures is { IfOk result (λ b. IsTrue b ↔ IsAcceptedInOrder order (disk_of_blocks (ram_geometry device) (ram_blocks device))) }
-    ensures err { IfErr result (λ e. e ≡ Error.NoMemory) }
+fn accepts_order<D: BlockDevice + Drop>(
+    alloc: Global,
+    device: D,
+    order: NameOrder,
+) -> Result<bool, Error>
+    ensures { IfOk result (λ b. IsTrue b ↔ IsAcceptedInOrder order (disk_of_device D.BlockDevice device)) }
 {
     match mount_in_order(alloc, device, order) {
         Ok(_thread) => Ok(true),
@@ -37,15 +41,14 @@ fn accepts_order(alloc: Global, device: RamDevice, order: NameOrder) -> Result<b
 
 // Returns in which orders of names the image of a device is accepted. The order `first` is one of
 // these.
-fn accepted_name_orders(
+fn accepted_name_orders<D: BlockDevice + Drop>(
     alloc: Global,
-    device: RamDevice,
+    device: D,
     first: NameOrder,
 ) -> Result<AcceptedOrders, Error>
-    requires first { IsAcceptedInOrder first (disk_of_blocks (ram_geometry device) (ram_blocks device)) }
-    requires longer { first ≡ ShorterFirst → ¬ IsAcceptedInOrder LongerFirst (disk_of_blocks (ram_geometry device) (ram_blocks device)) }
-    ensures orders { IfOk result (HasAcceptedOrders (disk_of_blocks (ram_geometry device) (ram_blocks device))) }
-    ensures err { IfErr result (λ e. e ≡ Error.NoMemory) }
+    requires first { IsAcceptedInOrder first (disk_of_device D.BlockDevice device) }
+    requires longer { first ≡ ShorterFirst → ¬ IsAcceptedInOrder LongerFirst (disk_of_device D.BlockDevice device) }
+    ensures { IfOk result (HasAcceptedOrders (disk_of_device D.BlockDevice device)) }
 {
     match first {
         NameOrder::ShorterFirst => Ok(AcceptedOrders::ShorterFirst),
@@ -138,22 +141,35 @@ fn judge_refused_image(
     }
 }
 
-// Returns what a mounted image has.
-fn judge_thread(alloc: Global, mut thread: Thread<RamDevice>) -> Result<ImageVerdict, Error>
+// Returns what a mounted image has. An error is one of memory or of the device.
+fn judge_thread<D: BlockDevice + Drop>(
+    alloc: Global,
+    mut thread: Thread<D>,
+) -> Result<(ImageSummary, AcceptedOrders), Error>
     requires works { thread.failed ≡ false }
     requires accepted { IsAccepted thread.kept.disk thread.kept.pairs }
     requires used { AreUsed thread.kept.map (used_blocks thread.kept.disk thread.kept.pairs) }
     requires longer { thread.kept.disk.order ≡ ShorterFirst → ¬ IsAcceptedInOrder LongerFirst thread.kept.disk }
-    ensures verdict { IfOk result (IsDiskVerdict (ordered_disk LongerFirst thread.kept.disk)) }
-    ensures err { IfErr result (λ e. e ≡ Error.NoMemory) }
+    ensures { IfOk result (λ has. IsSummarized (ordered_disk LongerFirst thread.kept.disk) has.0 has.1) }
 {
-    let Ok(summary) = summary_of_thread(alloc, &mut thread) else {
-        // The device has no fault, so memory ran out.
-        return Err(Error::NoMemory);
-    };
+    let summary = summary_of_thread(alloc, &mut thread)?;
     let order = thread.order();
     let orders = accepted_name_orders(alloc, thread.into_device(), order)?;
-    Ok(ImageVerdict::Accepted { summary, orders })
+    Ok((summary, orders))
+}
+
+/// Returns what the image of a device has, and in which orders of names it is accepted. Of a device that is a part of an
+/// image only what was read counts. Returns None where it isn't accepted, memory isn't granted, or a read failed.
+pub fn accepted_summary<D: BlockDevice + Drop>(
+    alloc: Global,
+    device: D,
+) -> Option<(ImageSummary, AcceptedOrders)>
+    ensures { IfSome result (λ has. IsSummarized (disk_of_device D.BlockDevice device) has.0 has.1) }
+{
+    match mount(alloc, device) {
+        Ok(thread) => judge_thread(alloc, thread).ok(),
+        Err(_) => None,
+    }
 }
 
 /// Returns whether the image of a device in memory is accepted, and with what, or why not. The
@@ -166,7 +182,11 @@ pub fn judge_device(alloc: Global, device: RamDevice) -> Result<ImageVerdict, Er
     ensures err { IfErr result (λ e. e ≡ Error.NoMemory) }
 {
     match mount(alloc, device) {
-        Ok(thread) => judge_thread(alloc, thread),
+        Ok(thread) => match judge_thread(alloc, thread) {
+            Ok((summary, orders)) => Ok(ImageVerdict::Accepted { summary, orders }),
+            // The device has no fault, so memory ran out.
+            Err(_) => Err(Error::NoMemory),
+        },
         Err((device, error)) => judge_refused_image(alloc, device, error),
     }
 }

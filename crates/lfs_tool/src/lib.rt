@@ -45,7 +45,7 @@ pub use image_checks::check;
 pub use image_devices::{ram_device_of, sparse_device_of};
 pub use image_layout::ImageLayout;
 pub use input::read_image;
-pub use judgement::judge_device;
+pub use judgement::{accepted_summary, judge_device};
 pub use lfs_lookup::push_escaped_path;
 pub use lfs_tool_line::{
     Extras, Limit, Line, LineError, Misuse, Mode, Request, read_line, read_request,
@@ -56,7 +56,7 @@ pub use output::write_and_flush;
 pub use progress::{FilesAndBytes, FollowsProgress};
 pub use reader::ImageInput;
 pub use sizes::geometry_of_sizes;
-pub use sparse::{MissingBytes, SparseDevice};
+pub use sparse::SparseDevice;
 pub use superblocks::{image_superblock_at, image_wrong_number};
 pub use unpacked_images::unpack;
 pub use verdict::{AcceptedOrders, BrokenRule, ImageSummary, ImageVerdict};

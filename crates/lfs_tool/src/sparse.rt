@@ -1,35 +1,27 @@
-ghost use Rattle.std.specs.Prelude.{◌≡◌, ◌<◌, ◌+◌, [], ◌∷◌, true, length, slice_range, is_err, IfErr, IfOk, IsErrOf, OnOk};
-ghost use Rattle.lfs_model.specs.format.Blocks.{block_bytes};
-ghost use Rattle.lfs_model.specs.session.History.{call_event, LeftByLatest};
+ghost use Rattle.std.specs.Prelude.{◌≡◌, ◌<◌, ◌+◌, [], ◌∷◌, true, length, slice_range, is_err, IfErr, IfOk, IsErrOf, OnOk, ◌≤◌, ◌%◌};
+ghost use Rattle.lfs_model.specs.format.Blocks.{block_bytes, SameExcept};
+ghost use Rattle.lfs_model.specs.session.History.{call_event, LeftByLatest, AreUnprogrammed};
 ghost use Rattle.lfs_model.specs.session.History.DeviceCall.{Read, Program, Erase};
 ghost use Rattle.lfs_model.specs.crash.Conformance.{CallsConform};
-ghost use Rattle.lfs_tool.specs.LoadedBlocks.{AreLoadedOfSize, bytes_of_loaded};
+ghost use Rattle.lfs_tool.specs.LoadedBlocks.{AreLoadedOfSize, bytes_of_loaded, padded_to_size};
 
 use crate::loaded_block::LoadedBlock;
 use lfs_device::{BlockDevice, Error, Geometry, Trace};
 use std::alloc::Global;
 
-/// An image of which a part is loaded, as a device. A read of bytes that aren't loaded fails with `Io`,
-/// and the device notes them. So does each program and erase, and changes nothing.
+/// An image of which a part is loaded, as a device. A read of bytes that aren't loaded fails with `Io`.
+/// So does each program and erase, and changes nothing.
 ///
 /// Of an image it is known what is loaded. Contracts see erased bytes elsewhere: no read returns these.
 #[derive(Drop)]
 pub struct SparseDevice {
     geometry: Geometry,
     blocks: Vec<LoadedBlock>,
-    missing: Option<MissingBytes>,
     trace: Trace,
     ghost count: { length blocks.items ≡ geometry.block_count },
     ghost sizes: { AreLoadedOfSize geometry.block_size blocks.items },
     ghost newest: { LeftByLatest trace.events (bytes_of_loaded blocks.items) },
     ghost conforms: { CallsConform trace.events },
-}
-
-/// What a read asked for that isn't loaded: the beginning of a block, up to the end of what was to be read.
-#[derive(Clone, Copy, Debug, PartialEq, Eq)]
-pub struct MissingBytes {
-    pub block: u32,
-    pub len: u32,
 }
 
 // Makes blocks of which nothing is loaded.
@@ -46,7 +38,7 @@ fn empty_blocks(alloc: Global, count: u32, size: u32) -> Result<Vec<LoadedBlock>
 }
 
 impl SparseDevice {
-    ghost use Rattle.lfs_tool.specs.SparseView.{sparse_geometry, sparse_history};
+    ghost use Rattle.lfs_tool.specs.SparseView.{sparse_blocks, sparse_geometry, sparse_history};
 
     /// Makes a device of this geometry of which nothing is loaded.
     ///
@@ -60,7 +52,6 @@ impl SparseDevice {
         Ok(SparseDevice {
             geometry,
             blocks,
-            missing: None,
             trace: Trace::with_ghost_history(&geometry, &()),
         })
     }
@@ -69,12 +60,13 @@ impl SparseDevice {
     /// Its history begins anew. There is no such block, or it is shorter: then nothing is changed.
     pub fn load(self, block: u32, bytes: Vec<u8>) -> SparseDevice
         ensures geometry { sparse_geometry result ≡ sparse_geometry self }
+        ensures loaded { block < (sparse_geometry self).block_count → length bytes.items ≤ (sparse_geometry self).block_size → block_bytes (sparse_blocks result) block ≡ padded_to_size (sparse_geometry self).block_size bytes.items }
+        ensures others { SameExcept block (sparse_blocks self) (sparse_blocks result) }
     {
         let size = self.geometry.block_size as usize;
         let SparseDevice {
             geometry,
             mut blocks,
-            missing: _,
             trace: _,
         } = self;
         if (block as usize) < blocks.len() && bytes.len() <= size {
@@ -83,7 +75,6 @@ impl SparseDevice {
         SparseDevice {
             geometry,
             blocks,
-            missing: None,
             trace: Trace::with_ghost_history(&geometry, &()),
         }
     }
@@ -94,11 +85,6 @@ impl SparseDevice {
             Some(block) => block.bytes(),
             None => &[],
         }
-    }
-
-    /// Returns what the last read that failed asked for, of those since the last `load`.
-    pub fn missing(&self) -> Option<MissingBytes> {
-        self.missing
     }
 }
 
@@ -136,8 +122,6 @@ impl BlockDevice for SparseDevice {
         let is_missing = !self.blocks[block as usize].read(off as usize, buf);
         self.trace = Trace::with_ghost_history(self, &(block, off, buf.len(), is_missing));
         if is_missing {
-            let len = off + buf.len() as u32;
-            self.missing = Some(MissingBytes { block, len });
             return Err(Error::Io);
         }
         Ok(())

@@ -1,4 +1,4 @@
-// What an accepted image in memory has.
+// What an accepted image has.
 
 ghost use Rattle.std.specs.Prelude.{◌≡◌, ◌↔◌, ◌≤◌, IfOk, IsTrue, OnOk, count_by, false, length};
 ghost use Rattle.lfs_model.specs.layers.BlockSets.{AreUsed};
@@ -13,7 +13,7 @@ ghost use Rattle.lfs_lookup.specs.Items.{owned_view};
 ghost use Rattle.lfs_tool.specs.ImageSummaries.{HasImageSummary, IsSuperblockTold, lesser_inline_max, is_file_item, is_file_struct, is_half_done};
 
 use crate::verdict::ImageSummary;
-use lfs_device::{Error, Geometry, Profile, RamDevice};
+use lfs_device::{BlockDevice, Error, Geometry, Profile};
 use lfs_lookup::{OwnedStruct, TreeItem, find_profile_breach, find_root, superblock, walk_tree};
 use lfs_tag::{MoveState, Superblock};
 use lfs_thread::Thread;
@@ -69,9 +69,9 @@ fn is_default_profile(profile: &Profile) -> bool
 }
 
 // Returns the superblock of the image, where the profile isn't the default one.
-fn superblock_to_tell(
+fn superblock_to_tell<D: BlockDevice>(
     alloc: Global,
-    thread: &mut Thread<RamDevice>,
+    thread: &mut Thread<D>,
     root: usize,
 ) -> Result<Option<Superblock>, Error>
     requires works { thread.old.failed ≡ false }
@@ -91,9 +91,9 @@ fn superblock_to_tell(
 }
 
 // Returns what the image has.
-pub(crate) fn summary_of_thread(
+pub(crate) fn summary_of_thread<D: BlockDevice>(
     alloc: Global,
-    thread: &mut Thread<RamDevice>,
+    thread: &mut Thread<D>,
 ) -> Result<ImageSummary, Error>
     requires works { thread.old.failed ≡ false }
     requires accepted { IsAccepted thread.old.kept.disk thread.old.kept.pairs }

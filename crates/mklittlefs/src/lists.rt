@@ -1,4 +1,4 @@
-// The lines of a list. Of an image in a file only what a list needs is read.
+// The lines of a list, and of a check of an accepted image. Of an image in a file only what these need is read.
 
 use crate::files::{Host, is_standard_stream};
 use crate::json::memory_answer;
@@ -7,16 +7,12 @@ use lfs_device::{BlockDevice, Error};
 use lfs_file::blocks_for;
 use lfs_tag::{Content, Log, Struct, is_later_than};
 use lfs_tool::{
-    ImageLayout, Line, SparseDevice, ToolError, WatchedStream, lines_of_device, list,
-    sparse_device_of,
+    CheckResult, ImageLayout, Line, SparseDevice, ToolError, WatchedStream, accepted_summary,
+    check_result_lines, lines_of_device, list, sparse_device_of,
 };
 use std::alloc::{AllocError, Global};
 use std::fs::File;
-use std::io;
-use std::io::{Read, Seek, SeekFrom};
-
-// How often a read may miss what isn't loaded before the whole image is read.
-const MISSES_MAX: u32 = 64;
+use std::os::unix::fs::FileExt;
 
 // The most bytes of a block that are pointers of a list.
 const POINTERS_MAX: u32 = 128;
@@ -33,16 +29,12 @@ struct ImageFile<'a> {
 }
 
 impl ImageFile<'_> {
-    fn read_at(&mut self, at: u64, buf: &mut [u8]) -> io::Result<()> {
-        self.file.seek(SeekFrom::Start(at))?;
-        self.file.read_exact(buf)
-    }
-
     // Reads the beginning of a block.
-    fn read_block(&mut self, block: u32, len: u32) -> Result<Vec<u8>, ToolError> {
+    fn read_block(&self, block: u32, len: u32) -> Result<Vec<u8>, ToolError> {
         let before = u64::from(block).saturating_mul(u64::from(self.block_size));
         let mut bytes = Vec::from_elem(self.host.alloc(), 0u8, len as usize)?;
-        let read = self.read_at(self.start.saturating_add(before), &mut bytes);
+        let at = self.start.saturating_add(before);
+        let read = self.file.read_exact_at(&mut bytes, at);
         self.host.note_error(self.path, &read);
         match read {
             Ok(()) => Ok(bytes),
@@ -92,7 +84,7 @@ fn first_word(bytes: &[u8]) -> u32 {
 
 // Loads the pointers of a file's list, up to a block that is loaded.
 fn load_list(
-    image: &mut ImageFile<'_>,
+    image: &ImageFile<'_>,
     device: SparseDevice,
     list: (u32, u32),
 ) -> Result<SparseDevice, ToolError> {
@@ -116,7 +108,7 @@ fn load_list(
 
 // Loads the blocks of a pair as far as they are read, and returns what it names.
 fn load_pair(
-    image: &mut ImageFile<'_>,
+    image: &ImageFile<'_>,
     device: SparseDevice,
     pair: [u32; 2],
 ) -> Result<(SparseDevice, Option<NamedBlocks>), ToolError> {
@@ -141,7 +133,7 @@ fn load_pair(
 }
 
 // Loads the pairs along their tails, and the pointers of their files' lists.
-fn load_thread(image: &mut ImageFile<'_>, device: SparseDevice) -> Result<SparseDevice, ToolError> {
+fn load_thread(image: &ImageFile<'_>, device: SparseDevice) -> Result<SparseDevice, ToolError> {
     let mut device = device;
     let mut next = Some([0, 1]);
     let count = device.geometry().block_count;
@@ -194,46 +186,57 @@ fn open_image_file<'a>(
     Some((image, len))
 }
 
-// Returns the lines of an image in a file. A read that misses what isn't loaded is made good, and all begins again. After
-// too many there are no lines.
-fn file_list_lines(
-    image: &mut ImageFile<'_>,
+// Loads what a list needs of an image of so many bytes.
+fn load_image(
+    image: &ImageFile<'_>,
     layout: ImageLayout,
     len: u64,
-) -> Result<Option<Vec<u8>>, ToolError> {
-    let alloc = image.host.alloc();
+) -> Result<SparseDevice, ToolError> {
     let Ok(len) = u32::try_from(len) else {
         return Err(ToolError::Fs(Error::Invalid));
     };
-    let blank = sparse_device_of(alloc, len, layout)?;
-    let mut device = load_thread(image, blank)?;
-    for _ in 0..MISSES_MAX {
-        let (back, error) = match lines_of_device(alloc, device) {
-            Ok(lines) => return Ok(Some(lines)),
-            Err(failed) => failed,
-        };
-        let Some(missing) = back.missing() else {
-            return Err(ToolError::Fs(error));
-        };
-        if error != Error::Io {
-            return Err(ToolError::Fs(error));
-        }
-        let bytes = image.read_block(missing.block, missing.len)?;
-        device = back.load(missing.block, bytes);
+    let blank = sparse_device_of(image.host.alloc(), len, layout)?;
+    load_thread(image, blank)
+}
+
+// Returns the lines of an image in a file. There are none where a list needs more than was loaded.
+fn file_list_lines(
+    image: &ImageFile<'_>,
+    layout: ImageLayout,
+    len: u64,
+) -> Result<Option<Vec<u8>>, ToolError> {
+    let device = load_image(image, layout, len)?;
+    match lines_of_device(image.host.alloc(), device) {
+        Ok(lines) => Ok(Some(lines)),
+        Err((_device, Error::Io)) => Ok(None),
+        Err((_device, error)) => Err(ToolError::Fs(error)),
     }
-    Ok(None)
 }
 
 /// Returns the lines that list the image of a line. They are proved to list what is loaded of it: that all that was read
 /// of it was loaded, and is what the file has, is read in the code here and tested.
 pub(crate) fn list_lines(host: Host<'_>, line: &Line<'_>) -> Result<Vec<u8>, ToolError> {
     let ImagePart { mut stream, layout } = open_part(host, line)?;
-    if let Some((mut image, len)) = open_image_file(host, line, layout, stream.inner().limit()) {
-        if let Some(lines) = file_list_lines(&mut image, layout, len)? {
+    if let Some((image, len)) = open_image_file(host, line, layout, stream.inner().limit()) {
+        if let Some(lines) = file_list_lines(&image, layout, len)? {
             return Ok(lines);
         }
     }
     let mut lines = WatchedStream::new(Vec::new(host.alloc()));
     memory_answer(list(host.alloc(), &mut stream, layout, &mut lines))?;
     Ok(lines.into_inner())
+}
+
+/// Returns the lines of a check of the image of a line, where that is in a file and accepted. They are proved of what is
+/// loaded of it, as those of a list. Else, and where a read failed, the check wants the whole image.
+pub(crate) fn accepted_lines(
+    host: Host<'_>,
+    line: &Line<'_>,
+    layout: ImageLayout,
+    most: u64,
+) -> Option<Vec<u8>> {
+    let (image, len) = open_image_file(host, line, layout, most)?;
+    let device = load_image(&image, layout, len).ok()?;
+    let (summary, orders) = accepted_summary(host.alloc(), device)?;
+    check_result_lines(host.alloc(), &CheckResult::Accepted { summary, orders }).ok()
 }

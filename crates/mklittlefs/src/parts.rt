@@ -72,9 +72,10 @@ impl fmt::Display for BytesBehind {
     }
 }
 
-/// Counts the bytes behind an image that was read.
+/// Counts the bytes behind an image.
 pub(crate) fn count_bytes_behind(image: OldImage<'_>) -> Result<BytesBehind, ToolError> {
-    let mut rest = image.into_inner().into_inner();
-    let count = skip_bytes(&mut rest, u64::MAX)?;
+    let mut part = image.into_inner();
+    let _part = skip_bytes(&mut part, u64::MAX)?;
+    let count = skip_bytes(&mut part.into_inner(), u64::MAX)?;
     Ok(BytesBehind { count })
 }

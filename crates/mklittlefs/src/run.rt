@@ -4,7 +4,7 @@ use crate::blocks::{fit_size, image_of_entries, read_folder};
 use crate::explain::write_explanation;
 use crate::files::{Host, NotedWriter};
 use crate::json::{check_as_json, json_of_list};
-use crate::lists::list_lines;
+use crate::lists::{accepted_lines, list_lines};
 use crate::parts::{ImagePart, count_bytes_behind, open_part};
 use crate::progress::progress_at_terminal;
 use crate::session::{cat_file, change_image};
@@ -128,7 +128,13 @@ pub(crate) fn check_image<W: ToolOutput>(
     out: &mut W,
 ) -> Result<bool, ToolError> {
     let ImagePart { mut stream, layout } = open_part(host, line)?;
-    let is_accepted = check(host.alloc(), &mut stream, layout, out)?;
+    let is_accepted = match accepted_lines(host, line, layout, stream.inner().limit()) {
+        Some(lines) => {
+            write_and_flush(out, lines.as_slice())?;
+            true
+        }
+        None => check(host.alloc(), &mut stream, layout, out)?,
+    };
     if line.is_auto {
         let behind = count_bytes_behind(stream)?;
         if out.show(&behind).is_err() {

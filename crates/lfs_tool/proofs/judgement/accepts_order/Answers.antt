@@ -2,6 +2,6 @@ use Rattle.std.proofs.Common.{ap}
 use Rattle.lfs_thread.specs.MountErrors.{error_of_mount}
 use Rattle.lfs_tool.proofs.judgement.accepts_order.Goals as goal
 
-pub returns-in-Err-default-Corrupt-clause-is : goal.returns-in-Err-default-Corrupt-clause-is
-returns-in-Err-default-Corrupt-clause-is c =
+pub returns-in-Err-default-Corrupt : goal.returns-in-Err-default-Corrupt
+returns-in-Err-default-Corrupt g c =
     let e = c.in-Err-default-Corrupt in (λ is. absurd (cc), λ h. absurd (e.ensures.corrupt (ap error_of_mount e.field-0-1-is) h.0 h.1))

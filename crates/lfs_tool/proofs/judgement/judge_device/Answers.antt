@@ -1,11 +1,10 @@
 use Rattle.std.proofs.Common.{subst, sym}
-use Rattle.std.proofs.lemmas.Result.{IfOk-weaker}
 use Rattle.lfs_model.specs.format.Disk.{ordered_disk, Disk}
 use Rattle.lfs_model.specs.layers.BlockSets.{AreUsed}
 use Rattle.lfs_model.specs.tree.Shown.{used_blocks}
 use Rattle.lfs_model.specs.tree.View.{IsAccepted}
 use Rattle.lfs_model.specs.declared.order.NameOrder.TheVariants.{LongerFirst}
-use Rattle.lfs_tool.specs.Verdict.{IsDiskVerdict}
+use Rattle.lfs_tool.specs.Verdict.{IsSummarized}
 use Rattle.lfs_tool.proofs.judgement.judge_device.Goals as goal
 
 pub judge_thread-requires-clause-used : goal.judge_thread-requires-clause-used
@@ -17,9 +16,8 @@ pub judge_thread-requires-clause-longer : goal.judge_thread-requires-clause-long
 judge_thread-requires-clause-longer c = λ is (ps, a).
     c.in-Ok.ensures.longer is ps (subst (λ (d : Disk). IsAccepted (ordered_disk LongerFirst d) ps) c.in-Ok.ensures.mounted.disk_is a)
 
-pub returns-in-Ok-clause-verdict : goal.returns-in-Ok-clause-verdict
-returns-in-Ok-clause-verdict c =
-    IfOk-weaker c.judge_thread.result _ _ (λ v h. subst (λ (d : Disk). IsDiskVerdict (ordered_disk LongerFirst d) v) c.in-Ok.ensures.mounted.disk_is h) c.judge_thread.ensures.verdict
+pub returns-in-Ok-judge_thread-clause-verdict : goal.returns-in-Ok-judge_thread-clause-verdict
+returns-in-Ok-judge_thread-clause-verdict c = subst (λ (d : Disk). IsSummarized (ordered_disk LongerFirst d) c.in-Ok-judge_thread.summary c.in-Ok-judge_thread.orders) c.in-Ok.ensures.mounted.disk_is c.in-Ok-judge_thread.ensures
 
 pub judge_refused_image-requires-clause-refused : goal.judge_refused_image-requires-clause-refused
 judge_refused_image-requires-clause-refused c = λ is order ps a.

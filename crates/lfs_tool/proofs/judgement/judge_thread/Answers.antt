@@ -7,9 +7,9 @@ use Rattle.lfs_tool.specs.ImageSummaries.{HasAcceptedOrders, IsAcceptedInOrder}
 use Rattle.lfs_tool.proofs.judgement.judge_thread.Goals as goal
 
 pub accepted_name_orders-requires-clause-first : goal.accepted_name_orders-requires-clause-first
-accepted_name_orders-requires-clause-first c =
+accepted_name_orders-requires-clause-first g c =
     let old = c.args.thread.kept in
-    let only = c.in-Ok.ensures.only in
+    let only = c.in_ok-summary.ensures.only in
     let shown = ap (ordered_disk LongerFirst) (c.into_device.ensures.disk ∙ only.disk) in
     let order = c.order-order.ensures ∙ ap (λ (d : Disk). d.order) only.disk in (
       old.pairs,
@@ -18,20 +18,20 @@ accepted_name_orders-requires-clause-first c =
     )
 
 pub accepted_name_orders-requires-clause-longer : goal.accepted_name_orders-requires-clause-longer
-accepted_name_orders-requires-clause-longer c = λ is a.
-    let only = c.in-Ok.ensures.only in
+accepted_name_orders-requires-clause-longer g c = λ is a.
+    let only = c.in_ok-summary.ensures.only in
     let shown = ap (ordered_disk LongerFirst) (c.into_device.ensures.disk ∙ only.disk) in
     let own = sym (ap (λ (d : Disk). d.order) only.disk) ∙ sym c.order-order.ensures ∙ is in
     c.requires.longer own (subst (IsAcceptedInOrder LongerFirst) shown a)
 
-pub returns-clause-verdict : goal.returns-clause-verdict
-returns-clause-verdict c =
+pub returns : goal.returns
+returns g c =
     let old = c.args.thread.kept in
-    let shown = ap (ordered_disk LongerFirst) (c.into_device.ensures.disk ∙ c.in-Ok.ensures.only.disk) in
+    let shown = ap (ordered_disk LongerFirst) (c.into_device.ensures.disk ∙ c.in_ok-summary.ensures.only.disk) in
     record {
       order = old.disk.order;
       pairs = old.pairs;
       accepted = c.requires.accepted;
-      has = c.in-Ok.ensures.summary;
-      fits = subst (λ (d : Disk). HasAcceptedOrders d c.in_ok-orders.orders) shown c.in_ok-orders.ensures.orders;
+      has = c.in_ok-summary.ensures.summary;
+      fits = subst (λ (d : Disk). HasAcceptedOrders d c.in_ok-orders.orders) shown c.in_ok-orders.ensures;
     }

@@ -12,12 +12,12 @@ use Rattle.std.proofs.Common.{List, count_by}
 use Rattle.lfs_tool.proofs.summaries.summary_of_thread.Goals as goal
 
 pub returns-clause-only : goal.returns-clause-only
-returns-clause-only c =
+returns-clause-only g c =
     let two = only_trans c.walk_tree.ensures.reading.only c.find_root.ensures.reading.only in
     only_trans (only_trans two c.superblock_to_tell.ensures.only.0) c.find_profile_breach.ensures.reading.only
 
 pub returns-clause-summary : goal.returns-clause-summary
-returns-clause-summary c =
+returns-clause-summary g c =
     let disk = c.args.thread.now.kept.disk in
     let pairs = c.args.thread.now.kept.pairs in
     let items = c.in_ok-items.items.items in

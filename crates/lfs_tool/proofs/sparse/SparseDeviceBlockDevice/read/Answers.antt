@@ -4,6 +4,3 @@ use Rattle.lfs_tool.proofs.sparse.SparseDeviceBlockDevice.read.Goals as goal
 
 pub invariant_of-self-clause-conforms : goal.invariant_of-self-clause-conforms
 invariant_of-self-clause-conforms c = conforms_next c.with_ghost_history-self.ensures (conforms_read _ _ _ _ _ _ refl) c.args.self.now.conforms
-
-pub invariant_of-self-else-is_missing-clause-conforms : goal.invariant_of-self-else-is_missing-clause-conforms
-invariant_of-self-else-is_missing-clause-conforms c = conforms_next c.with_ghost_history-self.ensures (conforms_read _ _ _ _ _ _ refl) c.args.self.now.conforms

@@ -10,7 +10,7 @@ use Rattle.lfs_model.specs.session.History.DeviceCall.{Read}
 use Rattle.lfs_model.proofs.Histories.{LossLeavesAtWorst-read, HoldsAtLosses-read_count, OnlyReadsSince-trans, began, goes_on, is_unprogrammed_byte-read_count}
 use Rattle.lfs_file.specs.Growing.{GrowingList, unwritten_block}
 use Rattle.lfs_file.specs.BlocksApart.{IsTakenWritten, HasBlocksTaken, KeepsTakenBytes}
-use Rattle.lfs_file.specs.Effects.{WritesUnusedBlocks}
+use Rattle.lfs_file.specs.Outcomes.{WritesUnusedBlocks}
 use Rattle.lfs_file.specs.ContentsCalls.{CallKeepsTakenBlocksExceptUnwritten, CallKeepsUsedBytes}
 use Rattle.lfs_file.specs.Hand.{KeepsUsedBlocks, KeepsUsedBytes}
 use Rattle.lfs_file.proofs.Growth.{Spares-refl, Spares-trans, TakenStayUnprogrammed-trans, stops_trans}

@@ -10,7 +10,7 @@ pub mod CallPremises
 pub mod Contents
 pub mod ContentsCalls
 pub mod Counts
-pub mod Effects
+pub mod Outcomes
 pub mod Extended
 pub mod Extending
 pub mod Extensions

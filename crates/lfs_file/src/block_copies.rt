@@ -5,7 +5,7 @@ ghost use Rattle.lfs_device.specs.DeviceCalls.{OnlyReadsOrIo, ReadsOnly, Reports
 ghost use Rattle.lfs_model.specs.session.History.{read_count};
 ghost use Rattle.lfs_model.specs.format.SkipLists.{AreListBlocks, blocks_to_head};
 ghost use Rattle.lfs_file.specs.BaseCopies.{CanAppendBase, HasBlockBytes};
-ghost use Rattle.lfs_file.specs.Effects.{WritesFreeAndPending};
+ghost use Rattle.lfs_file.specs.Outcomes.{WritesFreeAndPending};
 ghost use Rattle.lfs_file.specs.Extensions.{IsExtended};
 ghost use Rattle.lfs_file.specs.Growing.{unwritten_block, growing_size};
 ghost use Rattle.lfs_file.specs.Hand.{bytes_over_base};

@@ -7,7 +7,7 @@ ghost use Rattle.lfs_model.specs.session.Writers.{written_contents};
 ghost use Rattle.lfs_device.specs.declared.geometry.Geometry.{Geometry};
 ghost use Rattle.lfs_file.specs.BaseRoom.{HasLongerRoom};
 ghost use Rattle.lfs_device.specs.DeviceCalls.{OnlyReadsOrNoMemory};
-ghost use Rattle.lfs_file.specs.Effects.{WritesUnusedBlocks};
+ghost use Rattle.lfs_file.specs.Outcomes.{WritesUnusedBlocks};
 ghost use Rattle.lfs_file.specs.Bases.{IsListOrEmpty};
 ghost use Rattle.lfs_file.specs.Contents.{IsInMemory, IsBuffered, buffered_bytes};
 ghost use Rattle.lfs_file.specs.Hand.{stored_list_bytes};

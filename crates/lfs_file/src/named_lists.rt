@@ -6,7 +6,7 @@ ghost use Rattle.lfs_model.specs.session.History.{read_count};
 ghost use Rattle.lfs_model.specs.format.SkipLists.{AreListBlocks, blocks_to_head};
 ghost use Rattle.lfs_file.specs.BlockOwners.{stored_blocks};
 ghost use Rattle.lfs_device.specs.DeviceCalls.{OnlyReadsOrIo};
-ghost use Rattle.lfs_file.specs.Effects.{ReadsAtMost};
+ghost use Rattle.lfs_file.specs.Outcomes.{ReadsAtMost};
 ghost use Rattle.lfs_file.specs.SettledMaps.{CanSettleList, SettlesList, KeepsOtherStates, PutsInState, used_or_free};
 ghost use Rattle.lfs_file.specs.SharedBlocks.{IsSharedCount, unshared_count};
 

@@ -4,7 +4,7 @@ ghost use Rattle.std.specs.Prelude.{◌≡◌, ◌≤◌, ◌<◌, ◌+◌, ◌^
 ghost use Rattle.lfs_model.specs.layers.BlockSets.{used_count};
 ghost use Rattle.lfs_model.specs.session.Writers.{padded_with_zeros};
 ghost use Rattle.lfs_device.specs.DeviceCalls.{OnlyReadsOrNoMemory, ReportsIoOrNoMemory};
-ghost use Rattle.lfs_file.specs.Effects.{WritesUnusedBlocks};
+ghost use Rattle.lfs_file.specs.Outcomes.{WritesUnusedBlocks};
 ghost use Rattle.lfs_file.specs.ContentsCalls.{CallKeepsUsedBytes};
 ghost use Rattle.lfs_file.specs.Contents.{CanTruncateContents, HaveForm, IsInMemory, contents_bytes, contents_form, buffered_bytes, truncation_room};
 ghost use Rattle.lfs_file.specs.Form as form;

@@ -4,7 +4,7 @@ ghost use Rattle.std.specs.Prelude.{◌≡◌, ◌≤◌, ◌<◌, ◌+◌, ◌-
 ghost use Rattle.lfs_model.specs.session.History.{read_count};
 ghost use Rattle.lfs_model.specs.format.SkipLists.{AreListBlocks, blocks_to_head};
 ghost use Rattle.lfs_device.specs.DeviceCalls.{OnlyReadsOrIo};
-ghost use Rattle.lfs_file.specs.Effects.{ReadsAtMost};
+ghost use Rattle.lfs_file.specs.Outcomes.{ReadsAtMost};
 ghost use Rattle.lfs_file.specs.SharedBlocks.{IsSharedCount, unshared_count};
 
 use crate::head_before_block;

@@ -8,7 +8,7 @@ use Rattle.lfs_device.specs.declared.error.Error.TheVariants.{BadFile, Failed}
 use Rattle.lfs_model.specs.session.Session as session
 use Rattle.lfs_tree.specs.TreeState.{TreeState}
 use Rattle.lfs_fs.specs.FileAnswers.{FileAnswersOf, file_position}
-use Rattle.lfs_fs.specs.FileView.{RuntimeFiles, open_file_at, file_view, kept_position, open_reader, unsaved_or_tree, open_writer, writers_among}
+use Rattle.lfs_fs.specs.FileView.{RuntimeFiles, open_file_at, file_view, kept_position, reader_if_any, unsaved_or_tree, writer_if_any, writers_among}
 use Rattle.lfs_fs.specs.SessionView.{IsWriterReady, SessionView, view_of_session}
 use Rattle.lfs_fs.specs.declared.files.OpenFile.{OpenFile}
 use Rattle.lfs_fs.specs.declared.files.OpenFile.TheVariants as file
@@ -19,23 +19,23 @@ use Rattle.lfs_fs.proofs.OpenFiles.{file_is}
 -- ---- the kinds of a file
 
 -- a file that is neither a writer nor a reader isn't open
-pub no_file : (o : Option OpenFile) → None ≡ open_writer o → None ≡ open_reader o → o ≡ None
+pub no_file : (o : Option OpenFile) → None ≡ writer_if_any o → None ≡ reader_if_any o → o ≡ None
 no_file None w r = refl
 no_file (Some (file.Reading x)) w r = absurd (cc)
 no_file (Some (file.Writing x)) w r = absurd (cc)
 
-pub a_writer : (o : Option OpenFile) (w : Writer) → Some w ≡ open_writer o → o ≡ Some (file.Writing w)
+pub a_writer : (o : Option OpenFile) (w : Writer) → Some w ≡ writer_if_any o → o ≡ Some (file.Writing w)
 a_writer None w e = absurd (cc)
 a_writer (Some (file.Reading x)) w e = absurd (cc)
 a_writer (Some (file.Writing x)) w e = ap (λ (v : Writer). Some (file.Writing v)) (sym (same_Some w x e))
 
-pub a_reader_file : (o : Option OpenFile) (r : Reader) → Some r ≡ open_reader o → o ≡ Some (file.Reading r)
+pub a_reader_file : (o : Option OpenFile) (r : Reader) → Some r ≡ reader_if_any o → o ≡ Some (file.Reading r)
 a_reader_file None r e = absurd (cc)
 a_reader_file (Some (file.Reading x)) r e = ap (λ (v : Reader). Some (file.Reading v)) (sym (same_Some r x e))
 a_reader_file (Some (file.Writing x)) r e = absurd (cc)
 
 -- the writer of a number has the size of its contents
-pub writer_sized : (t : TreeState) (fs : RuntimeFiles) (fd : ℕ) (w : Writer) → Some w ≡ open_writer (open_file_at fs fd) → AllByRecursion (IsWriterReady t) (writers_among fs) → length (unsaved_or_tree t w.path w.unsaved) ≡ w.size
+pub writer_sized : (t : TreeState) (fs : RuntimeFiles) (fd : ℕ) (w : Writer) → Some w ≡ writer_if_any (open_file_at fs fd) → AllByRecursion (IsWriterReady t) (writers_among fs) → length (unsaved_or_tree t w.path w.unsaved) ≡ w.size
 writer_sized t [] fd w e h = absurd (cc)
 writer_sized t (None ∷ fs) zero w e h = absurd (cc)
 writer_sized t (Some (file.Reading q) ∷ fs) zero w e h = absurd (cc)

@@ -24,7 +24,7 @@ use Rattle.lfs_model.specs.format.Disk.{block_count}
 use Rattle.lfs_model.specs.session.Session.{lacks_free}
 use Rattle.lfs_tree.specs.TreeState.{TreeState, OnlyReadsTree, tree_summary}
 use Rattle.lfs_file.specs.declared.known.KnownBlocks.{KnownBlocks}
-use Rattle.lfs_fs.specs.FileView.{RuntimeFiles, prepended, selected_files, unsaved_or_tree, open_file_at, file_view, files_view, lowest_free, has_unsaved, is_open_where, is_unsaved_one, reserved_by_writers, reserved_by, reserved_for, file_with_known, file_with_position, runtime_files_with, open_reader, reader_view, readers_among, is_unsaved_nonsequential, open_writer, writer_view, writers_among, writers_paths}
+use Rattle.lfs_fs.specs.FileView.{RuntimeFiles, prepended, selected_files, unsaved_or_tree, open_file_at, file_view, files_view, lowest_free, has_unsaved, is_open_where, is_unsaved_one, reserved_by_writers, reserved_by, reserved_for, file_with_known, file_with_position, runtime_files_with, reader_if_any, reader_view, readers_among, is_unsaved_nonsequential, writer_if_any, writer_view, writers_among, writers_paths}
 use Rattle.lfs_fs.specs.SessionView.{HasKnownBlocks, IsCurrentReader, IsReady, AreUnsavedOrNone, IsWriterReady}
 use Rattle.lfs_fs.specs.declared.files.OpenFile.{OpenFile}
 use Rattle.lfs_fs.specs.declared.files.OpenFile.TheVariants as file
@@ -47,12 +47,12 @@ pub is_there : (t : TreeState) (o : Option OpenFile) → is_some (option_map (fi
 is_there t None = refl
 is_there t (Some x) = refl
 
-pub reader_is : (t : TreeState) (o : Option OpenFile) → file_reader (option_map (file_view t) o) ≡ option_map reader_view (open_reader o)
+pub reader_is : (t : TreeState) (o : Option OpenFile) → file_reader (option_map (file_view t) o) ≡ option_map reader_view (reader_if_any o)
 reader_is t None = refl
 reader_is t (Some (file.Reading r)) = refl
 reader_is t (Some (file.Writing w)) = refl
 
-pub writer_is : (t : TreeState) (o : Option OpenFile) → session.file_writer (option_map (file_view t) o) ≡ option_map (writer_view t) (open_writer o)
+pub writer_is : (t : TreeState) (o : Option OpenFile) → session.file_writer (option_map (file_view t) o) ≡ option_map (writer_view t) (writer_if_any o)
 writer_is t None = refl
 writer_is t (Some (file.Reading r)) = refl
 writer_is t (Some (file.Writing w)) = refl
@@ -312,19 +312,19 @@ pub less_changed : {A : Type 0} (kind : Option OpenFile → Option A) (change : 
 less_changed kind change None same = omega arith
 less_changed kind change (Some f) same = let k = same f in omega (arith, k)
 
-pub reader_moved : (position : ℕ) (f : OpenFile) → one_of (open_reader (Some (file_with_position position f))) ≡ one_of (open_reader (Some f))
+pub reader_moved : (position : ℕ) (f : OpenFile) → one_of (reader_if_any (Some (file_with_position position f))) ≡ one_of (reader_if_any (Some f))
 reader_moved position (file.Reading r) = refl
 reader_moved position (file.Writing w) = refl
 
-pub writer_moved : (position : ℕ) (f : OpenFile) → one_of (open_writer (Some (file_with_position position f))) ≡ one_of (open_writer (Some f))
+pub writer_moved : (position : ℕ) (f : OpenFile) → one_of (writer_if_any (Some (file_with_position position f))) ≡ one_of (writer_if_any (Some f))
 writer_moved position (file.Reading r) = refl
 writer_moved position (file.Writing w) = refl
 
-pub reader_noted : (known : KnownBlocks) (f : OpenFile) → one_of (open_reader (Some (file_with_known known f))) ≡ one_of (open_reader (Some f))
+pub reader_noted : (known : KnownBlocks) (f : OpenFile) → one_of (reader_if_any (Some (file_with_known known f))) ≡ one_of (reader_if_any (Some f))
 reader_noted known (file.Reading r) = refl
 reader_noted known (file.Writing w) = refl
 
-pub writer_noted : (known : KnownBlocks) (f : OpenFile) → one_of (open_writer (Some (file_with_known known f))) ≡ one_of (open_writer (Some f))
+pub writer_noted : (known : KnownBlocks) (f : OpenFile) → one_of (writer_if_any (Some (file_with_known known f))) ≡ one_of (writer_if_any (Some f))
 writer_noted known (file.Reading r) = refl
 writer_noted known (file.Writing w) = refl
 
@@ -346,7 +346,7 @@ none_left (x ∷ xs) h = absurd (omega (arith, h))
 no_such : (fs : RuntimeFiles) (fd : ℕ) (w : Writer) → writers_among fs ≡ [] → open_file_at fs fd ≡ Some (file.Writing w) → ⊥
 no_such [] fd w none e = absurd (cc)
 no_such (None ∷ fs) zero w none e = absurd (cc)
-no_such (Some (file.Reading r) ∷ fs) zero w none e = absurd (let k = ap open_writer e in cc)
+no_such (Some (file.Reading r) ∷ fs) zero w none e = absurd (let k = ap writer_if_any e in cc)
 no_such (Some (file.Writing v) ∷ fs) zero w none e = absurd (cc)
 no_such (None ∷ fs) (suc fd) w none e = no_such fs fd w none e
 no_such (Some (file.Reading r) ∷ fs) (suc fd) w none e = no_such fs fd w none e
@@ -355,11 +355,11 @@ no_such (Some (file.Writing v) ∷ fs) (suc fd) w none e = absurd (cc)
 pub only : (fs : RuntimeFiles) (fd : ℕ) (w : Writer) → open_file_at fs fd ≡ Some (file.Writing w) → length (writers_among fs) ≤ 1 → IsOnly fs fd w
 only [] fd w e few = absurd (cc)
 only (None ∷ fs) zero w e few = absurd (cc)
-only (Some (file.Reading r) ∷ fs) zero w e few = absurd (let k = ap open_writer e in cc)
+only (Some (file.Reading r) ∷ fs) zero w e few = absurd (let k = ap writer_if_any e in cc)
 only (Some (file.Writing v) ∷ fs) zero w e few =
     let none : writers_among fs ≡ [] = none_left (writers_among fs) (omega (arith, few)) in
     record {
-      writers = ap₂ (λ x xs. x ∷ xs) (same_Some v w (ap open_writer e)) none;
+      writers = ap₂ (λ x xs. x ∷ xs) (same_Some v w (ap writer_if_any e)) none;
       without = none;
       with_other = λ u. ap (λ xs. u ∷ xs) none;
     }
@@ -453,13 +453,13 @@ busy_at t fs bytes p b is e =
 pub lacks_is : (t : TreeState) (fs : RuntimeFiles) (need : ℕ) → IsReady t fs → nat_lt (block_count t.disk) (length (tree_summary t).used + reserved_by_writers t.disk.profile t.disk.block_size fs + need) ≡ lacks_free (tree_summary t) (files_view t fs) need
 lacks_is t fs need ready = ap (λ h. nat_lt (block_count t.disk) (length (tree_summary t).used + h + need)) (held_is t.disk.profile t.disk.block_size t fs ready)
 
-pub some_reader : (t : TreeState) (fs : RuntimeFiles) (fd : ℕ) (r : Reader) → Some r ≡ open_reader (open_file_at fs fd) → Some (reader_view r) ≡ file_reader (file_numbered (files_view t fs) fd)
+pub some_reader : (t : TreeState) (fs : RuntimeFiles) (fd : ℕ) (r : Reader) → Some r ≡ reader_if_any (open_file_at fs fd) → Some (reader_view r) ≡ file_reader (file_numbered (files_view t fs) fd)
 some_reader t fs fd r e = ap (option_map reader_view) e ∙ sym (ap file_reader (file_is t fs fd) ∙ reader_is t (open_file_at fs fd))
 
-pub none_reader : (t : TreeState) (fs : RuntimeFiles) (fd : ℕ) → None ≡ open_reader (open_file_at fs fd) → None ≡ file_reader (file_numbered (files_view t fs) fd)
+pub none_reader : (t : TreeState) (fs : RuntimeFiles) (fd : ℕ) → None ≡ reader_if_any (open_file_at fs fd) → None ≡ file_reader (file_numbered (files_view t fs) fd)
 none_reader t fs fd e = ap (option_map reader_view) e ∙ sym (ap file_reader (file_is t fs fd) ∙ reader_is t (open_file_at fs fd))
 
-pub reader_there : (o : Option OpenFile) (r : Reader) → Some r ≡ open_reader o → is_some o ≡ true
+pub reader_there : (o : Option OpenFile) (r : Reader) → Some r ≡ reader_if_any o → is_some o ≡ true
 reader_there None r e = absurd (cc)
 reader_there (Some x) r e = refl
 

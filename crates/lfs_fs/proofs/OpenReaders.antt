@@ -18,7 +18,7 @@ use Rattle.lfs_lookup.specs.declared.file_contents.FileContents.{FileContents}
 use Rattle.lfs_lookup.specs.declared.file_contents.FileContents.TheVariants as contents
 use Rattle.lfs_tree.specs.KeptFiles.{KeepsOtherFiles}
 use Rattle.lfs_tree.specs.TreeState.{IsApplied, TreeState, kept_thread, tree_view}
-use Rattle.lfs_fs.specs.FileView.{RuntimeFiles, prepended, open_file_at, file_with_position, runtime_files_with, open_reader, readers_among, writers_among, writers_paths}
+use Rattle.lfs_fs.specs.FileView.{RuntimeFiles, prepended, open_file_at, file_with_position, runtime_files_with, reader_if_any, readers_among, writers_among, writers_paths}
 use Rattle.lfs_fs.specs.SessionView.{AreCurrentReaders, IsCurrentReader}
 use Rattle.lfs_fs.specs.declared.files.OpenFile.{OpenFile}
 use Rattle.lfs_fs.specs.declared.files.OpenFile.TheVariants as file
@@ -47,13 +47,13 @@ found_contents t path (Some c) x none found is there = subst (IsStorageAt t.pair
 -- ---- the readers of some open files
 
 module _ (P : Reader → Type 0) where
-  joined : (fs : RuntimeFiles) (entry : Option OpenFile) → AllByRecursion P (prepended (open_reader entry) []) → AllByRecursion P (readers_among fs) → AllByRecursion P (readers_among (entry ∷ fs))
+  joined : (fs : RuntimeFiles) (entry : Option OpenFile) → AllByRecursion P (prepended (reader_if_any entry) []) → AllByRecursion P (readers_among fs) → AllByRecursion P (readers_among (entry ∷ fs))
   joined fs None e h = h
   joined fs (Some (file.Reading r)) e h = (e.0, h)
   joined fs (Some (file.Writing w)) e h = h
 
   -- with another entry in a place
-  pub all_set : (fs : RuntimeFiles) (fd : ℕ) (entry : Option OpenFile) → AllByRecursion P (prepended (open_reader entry) []) → AllByRecursion P (readers_among fs) → AllByRecursion P (readers_among (set fs fd entry))
+  pub all_set : (fs : RuntimeFiles) (fd : ℕ) (entry : Option OpenFile) → AllByRecursion P (prepended (reader_if_any entry) []) → AllByRecursion P (readers_among fs) → AllByRecursion P (readers_among (set fs fd entry))
   all_set [] fd entry e h = h
   all_set (None ∷ fs) zero entry e h = joined fs entry e h
   all_set (Some (file.Reading r) ∷ fs) zero entry e h = joined fs entry e h.1
@@ -63,7 +63,7 @@ module _ (P : Reader → Type 0) where
   all_set (Some (file.Writing w) ∷ fs) (suc fd) entry e h = all_set fs fd entry e h
 
   -- with one more behind them
-  all_more : (fs : RuntimeFiles) (entry : Option OpenFile) → AllByRecursion P (prepended (open_reader entry) []) → AllByRecursion P (readers_among fs) → AllByRecursion P (readers_among (fs ++ entry ∷ []))
+  all_more : (fs : RuntimeFiles) (entry : Option OpenFile) → AllByRecursion P (prepended (reader_if_any entry) []) → AllByRecursion P (readers_among fs) → AllByRecursion P (readers_among (fs ++ entry ∷ []))
   all_more [] None e h = h
   all_more [] (Some (file.Reading r)) e h = e
   all_more [] (Some (file.Writing w)) e h = h
@@ -71,7 +71,7 @@ module _ (P : Reader → Type 0) where
   all_more (Some (file.Reading r) ∷ fs) entry e h = (h.0, all_more fs entry e h.1)
   all_more (Some (file.Writing w) ∷ fs) entry e h = all_more fs entry e h
 
-  pub all_put : (fs : RuntimeFiles) (fd : ℕ) (entry : Option OpenFile) → AllByRecursion P (prepended (open_reader entry) []) → AllByRecursion P (readers_among fs) → AllByRecursion P (readers_among (runtime_files_with fs fd entry))
+  pub all_put : (fs : RuntimeFiles) (fd : ℕ) (entry : Option OpenFile) → AllByRecursion P (prepended (reader_if_any entry) []) → AllByRecursion P (readers_among fs) → AllByRecursion P (readers_among (runtime_files_with fs fd entry))
   all_put fs fd entry e h = go (nat_lt fd (length fs))
     where
       go : (b : Bool) → AllByRecursion P (readers_among (cond b (set fs fd entry) (fs ++ entry ∷ [])))
@@ -79,7 +79,7 @@ module _ (P : Reader → Type 0) where
       go false = all_more fs entry e h
 
   -- the one of a number
-  pub one_of_all : (fs : RuntimeFiles) (fd : ℕ) (r : Reader) → Some r ≡ open_reader (open_file_at fs fd) → AllByRecursion P (readers_among fs) → P r
+  pub one_of_all : (fs : RuntimeFiles) (fd : ℕ) (r : Reader) → Some r ≡ reader_if_any (open_file_at fs fd) → AllByRecursion P (readers_among fs) → P r
   one_of_all [] fd r e h = absurd (cc)
   one_of_all (None ∷ fs) zero r e h = absurd (cc)
   one_of_all (Some (file.Reading q) ∷ fs) zero r e h = subst P (sym (same_Some r q e)) h.0
@@ -203,7 +203,7 @@ read_rewritten ps qs fs fd w v was now path same h =
     (all_set (IsCurrentReader ps (writers_paths fs)) fs fd (Some (file.Writing v)) tt h))
 
 -- its contents were stored, and there is another entry in its place
-pub read_saved : (disk : Disk) (old new : List Pair) (fs : RuntimeFiles) (fd : ℕ) (entry : Option OpenFile) (path : Path) (later : List Path) → open_reader entry ≡ None → writers_paths fs ≡ path ∷ [] → writers_paths (set fs fd entry) ≡ later
+pub read_saved : (disk : Disk) (old new : List Pair) (fs : RuntimeFiles) (fd : ℕ) (entry : Option OpenFile) (path : Path) (later : List Path) → reader_if_any entry ≡ None → writers_paths fs ≡ path ∷ [] → writers_paths (set fs fd entry) ≡ later
     → KeepsOtherFiles (tree_on_disk disk old) old path new → ((p : Path) → same_path p path ≡ false → list_any (same_path p) later ≡ false) → AreCurrentReaders old fs → AreCurrentReaders new (set fs fd entry)
 read_saved disk old new fs fd entry path later none was now keeps apart h =
     subst (λ written. AllByRecursion (IsCurrentReader new written) (readers_among (set fs fd entry))) (sym now)

@@ -27,7 +27,7 @@ use Rattle.lfs_tree.specs.Permissions.{CanCreateFile}
 use Rattle.lfs_lookup.specs.RefusalErrors.{error_refusal}
 use Rattle.lfs_tree.specs.TreeState.{OnlyReadsTree, IsFailedTree, IsApplied, HasErrorCause, IsSoundState, TreeState, tree_summary, tree_view}
 use Rattle.lfs_fs.specs.WriterChanges.{CanOpenWriter, IsOpenedWriter}
-use Rattle.lfs_fs.specs.FileView.{RuntimeFiles, open_file_at, files_view, lowest_free, has_unsaved, runtime_files_with, readers_among, open_writer, writer_view, writers_among}
+use Rattle.lfs_fs.specs.FileView.{RuntimeFiles, open_file_at, files_view, lowest_free, has_unsaved, runtime_files_with, readers_among, writer_if_any, writer_view, writers_among}
 use Rattle.lfs_fs.specs.SessionView.{StepsOrFails, AreCurrentReaders, HasKnownBlocks, SessionView, IsReady, IsWriterReady, view_of_session, view_of_files, system_state, refusal_by_checks, viewed_session}
 use Rattle.lfs_fs.specs.Replies.{reply_from}
 use Rattle.lfs_fs.specs.OpenFilesStay.{KeepsWriters}
@@ -233,11 +233,11 @@ room_made fs gs n none number is =
     subst (λ m. HasRoomFor fs gs m) (sym number) (subst (λ xs. HasRoomFor fs xs (lowest_free fs)) (sym is) (record {
       inside = room_inside fs;
       free = sym (ap (λ xs. open_file_at xs (lowest_free fs)) (room_filled fs None)) ∙ set_there (runtime_files_with fs (lowest_free fs) None) (lowest_free fs) None (room_inside fs);
-      none = nothing_left (writers_among (runtime_files_with fs (lowest_free fs) None)) (let k = count_put open_writer fs (lowest_free fs) None in let l = ap (λ ws. length ws) none in omega (arith, k, l));
+      none = nothing_left (writers_among (runtime_files_with fs (lowest_free fs) None)) (let k = count_put writer_if_any fs (lowest_free fs) None in let l = ap (λ ws. length ws) none in omega (arith, k, l));
       filled = λ w. room_filled fs (Some (file.Writing w));
       alone = λ w. (only (runtime_files_with fs (lowest_free fs) (Some (file.Writing w))) (lowest_free fs) w
           (sym (ap (λ xs. open_file_at xs (lowest_free fs)) (room_filled fs (Some (file.Writing w)))) ∙ set_there (runtime_files_with fs (lowest_free fs) None) (lowest_free fs) (Some (file.Writing w)) (room_inside fs))
-          (let k = count_put open_writer fs (lowest_free fs) (Some (file.Writing w)) in let l = ap (λ ws. length ws) none in omega (arith, k, l))).writers;
+          (let k = count_put writer_if_any fs (lowest_free fs) (Some (file.Writing w)) in let l = ap (λ ws. length ws) none in omega (arith, k, l))).writers;
     }))
 
 -- ---- the session once the writer is open

@@ -15,7 +15,7 @@ use Rattle.lfs_model.specs.session.TreeEdits.{file_bytes}
 use Rattle.lfs_tree.specs.TreeState.{HasErrorCause, FailedByReading, TreeState, OnlyReadsTree, tree_view}
 use Rattle.lfs_fs.specs.CallEffects.{IsCall}
 use Rattle.lfs_fs.specs.DeviceLaws.{HasInvariant}
-use Rattle.lfs_fs.specs.FileView.{RuntimeFiles, open_file_at, file_with_known, file_with_position, files_view, writers_paths, open_reader, reader_view}
+use Rattle.lfs_fs.specs.FileView.{RuntimeFiles, open_file_at, file_with_known, file_with_position, files_view, writers_paths, reader_if_any, reader_view}
 use Rattle.lfs_fs.specs.Replies.{reply_from}
 use Rattle.lfs_fs.specs.SessionView.{HasKnownBlocks, IsCurrentReader, IsReady, SessionView, refusal_by_checks, view_of_session}
 use Rattle.lfs_fs.specs.declared.files.Reader.{Reader}
@@ -32,7 +32,7 @@ use Rattle.lfs_fs.proofs.Sparing.{asking_call, asks_not, kept_asking}
 use Rattle.lfs_fs.proofs.Stopping.{only_read}
 
 -- what a session keeps of an open reader
-module _ (t : TreeState) (fs : RuntimeFiles) (fd : ℕ) (r : Reader) (ready : t.failed ≡ false → IsReady t fs) (works : false ≡ t.failed) (there : Some r ≡ open_reader (open_file_at fs fd)) where
+module _ (t : TreeState) (fs : RuntimeFiles) (fd : ℕ) (r : Reader) (ready : t.failed ≡ false → IsReady t fs) (works : false ≡ t.failed) (there : Some r ≡ reader_if_any (open_file_at fs fd)) where
   pub kept_reader : IsCurrentReader t.pairs (writers_paths fs) r
   kept_reader = one_of_all (IsCurrentReader t.pairs (writers_paths fs)) fs fd r there (ready (sym works)).read
 
@@ -47,7 +47,7 @@ module _ (t : TreeState) (fs : RuntimeFiles) (now : SessionView) (fd count : ℕ
       kept_asking t fs now (ops.Read fd count) _ same ready (λ s. refl) refl (refused_ends (view_of_session t fs) now (ops.Read fd count) (error_refusal e) same is)
       (refused_kept (view_of_session t fs) now (ops.Read fd count) e same (sound_by t fs ready) refl is)
 
-  pub broken_read : {B : Type 0} (reply : B → Reply) (r : Reader) (e : Error) (tree : TreeState) (result : Result B Error) → false ≡ t.failed → Some r ≡ open_reader (open_file_at fs fd) → FailedByReading t tree → HasErrorCause t tree e → result ≡ Err e
+  pub broken_read : {B : Type 0} (reply : B → Reply) (r : Reader) (e : Error) (tree : TreeState) (result : Result B Error) → false ≡ t.failed → Some r ≡ reader_if_any (open_file_at fs fd) → FailedByReading t tree → HasErrorCause t tree e → result ≡ Err e
       → IsCall now (ops.Read fd count) (reply_from reply result) (view_of_session tree fs)
   broken_read reply r e tree result works there broken error is =
       asking_call t fs now (ops.Read fd count) _ _ same ready (λ s. refl) (λ k. absurd (cc)) (asks_not _ _ _ _ refl)
@@ -57,7 +57,7 @@ module _ (t : TreeState) (fs : RuntimeFiles) (now : SessionView) (fd count : ℕ
 
 -- ---- it is done
 
-module _ (t tree : TreeState) (fs noted moved : RuntimeFiles) (fd position : ℕ) (r : Reader) (known : KnownBlocks) (ready : t.failed ≡ false → IsReady t fs) (works : false ≡ t.failed) (there : Some r ≡ open_reader (open_file_at fs fd)) (asked : OnlyReadsTree t tree)
+module _ (t tree : TreeState) (fs noted moved : RuntimeFiles) (fd position : ℕ) (r : Reader) (known : KnownBlocks) (ready : t.failed ≡ false → IsReady t fs) (works : false ≡ t.failed) (there : Some r ≡ reader_if_any (open_file_at fs fd)) (asked : OnlyReadsTree t tree)
     (notes : noted ≡ set fs fd (option_map (file_with_known known) (open_file_at fs fd))) (moves : moved ≡ set noted fd (option_map (file_with_position position) (open_file_at noted fd))) where
   still_there : is_some (open_file_at noted fd) ≡ true
   still_there = subst (λ gs. is_some (open_file_at gs fd) ≡ true) (sym notes) (there_noted known fs fd (reader_there (open_file_at fs fd) r there))

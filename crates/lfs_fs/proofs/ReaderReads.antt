@@ -16,7 +16,7 @@ use Rattle.lfs_model.specs.session.History.{CallEvent, read_count}
 use Rattle.lfs_model.specs.layers.Keeping.{struct_at}
 use Rattle.lfs_model.specs.format.SkipLists.{IsBytePlace, block_count_for}
 use Rattle.lfs_model.specs.format.Slots.{Ctz, Inline, Struct}
-use Rattle.lfs_fs.specs.FileView.{RuntimeFiles, open_file_at, files_view, open_reader, reader_view}
+use Rattle.lfs_fs.specs.FileView.{RuntimeFiles, open_file_at, files_view, reader_if_any, reader_view}
 use Rattle.lfs_fs.specs.ReaderReads.{ReadsFew}
 use Rattle.lfs_fs.specs.declared.files.Reader.{Reader}
 use Rattle.lfs_fs.proofs.OpenFiles.{some_reader}
@@ -104,7 +104,7 @@ known_read block_size size position count room known later old new is h first la
     (h first last off end at (subst (λ k. IsBytePlace block_size (position + k - 1) last end) (sym fits) there))
 
 -- no oftener than its known blocks say
-pub few_reads : (t new : TreeState) (fs : RuntimeFiles) (files : OpenFilesByNumber) (fd count : ℕ) (r : Reader) (known later : KnownBlocks) → Some r ≡ open_reader (open_file_at fs fd) → IsStorageAt t.pairs r.path r.contents
+pub few_reads : (t new : TreeState) (fs : RuntimeFiles) (files : OpenFilesByNumber) (fd count : ℕ) (r : Reader) (known later : KnownBlocks) → Some r ≡ reader_if_any (open_file_at fs fd) → IsStorageAt t.pairs r.path r.contents
     → ((own : List ℕ) → contents_struct r.contents ≡ Inline own → new.history ≡ t.history)
     → ((head size : ℕ) → contents_struct r.contents ≡ Ctz head size → ReadsKnownList t.disk.block_size size r.position count known later t.history new.history)
     → ReadsFew (view_of_session t fs) fd count (view_of_files new files)

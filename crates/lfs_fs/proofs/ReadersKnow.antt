@@ -18,7 +18,7 @@ use Rattle.lfs_lookup.specs.FileContents.{contents_struct}
 use Rattle.lfs_lookup.specs.declared.file_contents.FileContents.{FileContents}
 use Rattle.lfs_tree.specs.KeptFiles.{KeepsOtherFiles, list_blocks_at, slot_list_blocks}
 use Rattle.lfs_tree.specs.TreeState.{IsApplied, TreeState, OnlyReadsTree, kept_thread, tree_view}
-use Rattle.lfs_fs.specs.FileView.{RuntimeFiles, open_file_at, file_with_known, file_with_position, file_view, files_view, runtime_files_with, open_reader, writers_paths, readers_among, writers_among}
+use Rattle.lfs_fs.specs.FileView.{RuntimeFiles, open_file_at, file_with_known, file_with_position, file_view, files_view, runtime_files_with, reader_if_any, writers_paths, readers_among, writers_among}
 use Rattle.lfs_fs.specs.SessionView.{HasKnownBlocks, IsCurrentReader, IsReady, IsWriterReady}
 use Rattle.lfs_fs.specs.declared.files.OpenFile.TheVariants as file
 use Rattle.lfs_fs.specs.declared.files.Reader.{Reader}
@@ -113,7 +113,7 @@ module _ (known : KnownBlocks) where
   view_noted t (Some (file.Writing w) ∷ fs) zero = refl
   view_noted t (f ∷ fs) (suc fd) = ap (λ z. option_map (file_view t) f ∷ z) (view_noted t fs fd)
 
-  all_noted : (P : Reader → Type 0) (fs : RuntimeFiles) (fd : ℕ) → ((r : Reader) → Some r ≡ open_reader (open_file_at fs fd) → P r → P (record r { known = known })) → AllByRecursion P (readers_among fs)
+  all_noted : (P : Reader → Type 0) (fs : RuntimeFiles) (fd : ℕ) → ((r : Reader) → Some r ≡ reader_if_any (open_file_at fs fd) → P r → P (record r { known = known })) → AllByRecursion P (readers_among fs)
       → AllByRecursion P (readers_among (set fs fd (option_map (file_with_known known) (open_file_at fs fd))))
   all_noted P [] fd k h = h
   all_noted P (None ∷ fs) zero k h = h
@@ -130,7 +130,7 @@ module _ (known : KnownBlocks) where
   there_noted (Some (file.Writing w) ∷ fs) zero e = refl
   there_noted (f ∷ fs) (suc fd) e = there_noted fs fd e
 
-  pub ready_noted : (t : TreeState) (fs gs : RuntimeFiles) (fd : ℕ) (r : Reader) → Some r ≡ open_reader (open_file_at fs fd) → AreKnownBlocks (struct_blocks t.disk (contents_struct r.contents)) known
+  pub ready_noted : (t : TreeState) (fs gs : RuntimeFiles) (fd : ℕ) (r : Reader) → Some r ≡ reader_if_any (open_file_at fs fd) → AreKnownBlocks (struct_blocks t.disk (contents_struct r.contents)) known
       → gs ≡ set fs fd (option_map (file_with_known known) (open_file_at fs fd)) → (t.failed ≡ false → IsReady t fs) → t.failed ≡ false → IsReady t gs
   ready_noted t fs gs fd r there now is ready works =
       let h = ready works in

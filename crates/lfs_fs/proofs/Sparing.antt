@@ -24,7 +24,7 @@ use Rattle.lfs_model.proofs.Committed.{recovered_from}
 use Rattle.lfs_model.proofs.Counts.{each_always}
 use Rattle.lfs_model.proofs.Uniqueness.{one_thread}
 use Rattle.lfs_model.proofs.Surviving.{session_step_survives_loss}
-use Rattle.lfs_tree.specs.OpenContents.{StoresBytesAt, WritesUnusedBlocks}
+use Rattle.lfs_tree.specs.OpenContents.{StoresBytesAt, KeepsImage}
 use Rattle.lfs_lookup.specs.RefusalErrors.{is_refusal, error_refusal}
 use Rattle.lfs_tree.specs.TreeState.{OnlyReadsTree, IsApplied, IsSoundState, LeavesOthersAlone, TreeState}
 use Rattle.std.specs.Option.{option_map}
@@ -124,7 +124,7 @@ stored_others t new fs now op fd w bytes same ready is about stored =
     (λ sound none. stored.alone (files_view t fs) op (about (viewed_session (view_of_session t fs)) ∙ ap paths_of_file (file_is t fs fd ∙ ap (option_map (file_view t)) (sym is))))
 
 -- contents are written beside the image
-pub beside_others : (t new : TreeState) (fs : RuntimeFiles) (now : SessionView) (op : Operation) → view_of_session t fs ≡ now → (t.failed ≡ false → IsReady t fs) → WritesUnusedBlocks t new → SparesOthers (system_state now) op (system_state (view_of_files new []))
+pub beside_others : (t new : TreeState) (fs : RuntimeFiles) (now : SessionView) (op : Operation) → view_of_session t fs ≡ now → (t.failed ≡ false → IsReady t fs) → KeepsImage t new → SparesOthers (system_state now) op (system_state (view_of_files new []))
 beside_others t new fs now op same ready beside =
     others_from t new fs now op same ready beside.sound (λ sound none. written_alone t.disk new.disk t.pairs beside.stay new.pairs (viewed_session (view_of_session t fs)) op)
 

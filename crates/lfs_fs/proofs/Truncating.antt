@@ -19,10 +19,10 @@ use Rattle.lfs_model.specs.tree.Tree.{Tree}
 use Rattle.lfs_model.specs.tree.View.{DiskView}
 use Rattle.lfs_model.proofs.Committed.{recovered_from}
 use Rattle.lfs_model.proofs.StepsMade.{filled_step}
-use Rattle.lfs_tree.specs.OpenContents.{WritesUnusedBlocks}
+use Rattle.lfs_tree.specs.OpenContents.{KeepsImage}
 use Rattle.lfs_tree.specs.TreeState.{TreeState, tree_summary, tree_view}
 use Rattle.lfs_fs.specs.WriterChanges.{CanTruncateBy, IsChangedWriter}
-use Rattle.lfs_fs.specs.FileView.{RuntimeFiles, unsaved_or_tree, open_file_at, file_view, files_view, writers_paths, reader_view, readers_among, open_writer, writer_view, writers_among}
+use Rattle.lfs_fs.specs.FileView.{RuntimeFiles, unsaved_or_tree, open_file_at, file_view, files_view, writers_paths, reader_view, readers_among, writer_if_any, writer_view, writers_among}
 use Rattle.lfs_fs.specs.SessionView.{StepsOrFails, SessionView, IsReady, IsWriterReady, view_of_session, system_state, refusal_by_checks, viewed_session}
 use Rattle.lfs_fs.specs.declared.files.OpenFile.{OpenFile}
 use Rattle.lfs_fs.specs.declared.files.OpenFile.TheVariants as file
@@ -39,8 +39,8 @@ use Rattle.lfs_fs.proofs.ReadersKnow.{known_beside, known_written}
 -- ---- what no check refuses
 
 module _ (t : TreeState) (fs : RuntimeFiles) (fd size : ℕ) (w : Writer) (e : open_file_at fs fd ≡ Some (file.Writing w)) (accepted : refusal_by_checks (view_of_session t fs) (ops.Truncate fd size) ≡ None) where
-  pub is_writer : Some w ≡ open_writer (open_file_at fs fd)
-  is_writer = sym (ap open_writer e)
+  pub is_writer : Some w ≡ writer_if_any (open_file_at fs fd)
+  is_writer = sym (ap writer_if_any e)
 
   pub works_now : t.failed ≡ false
   works_now = not_failed (view_of_session t fs) (ops.Truncate fd size) accepted
@@ -99,11 +99,11 @@ same_size t fs fd size now w same ready accepted e is =
     (ap (λ f. (ops.Done, record { tree = tree_view t; files = f })) stays))
   where
     long : (size == length (unsaved_or_tree t w.path w.unsaved)) ≡ true
-    long = ap (λ n. size == n) (written_at t fs fd w (ready (not_failed (view_of_session t fs) (ops.Truncate fd size) accepted)).written (sym (ap open_writer e))).size ∙ is
+    long = ap (λ n. size == n) (written_at t fs fd w (ready (not_failed (view_of_session t fs) (ops.Truncate fd size) accepted)).written (sym (ap writer_if_any e))).size ∙ is
 
     stays : files_with_file (files_view t fs) fd (option_map (λ v. Writing (truncated_writer v size)) (file_writer (file_numbered (files_view t fs) fd))) ≡ files_view t fs
     stays =
-        ap (λ o. files_with_file (files_view t fs) fd (option_map (λ v. Writing (truncated_writer v size)) o)) (the_writer t fs fd (Some w) (sym (ap open_writer e)))
+        ap (λ o. files_with_file (files_view t fs) fd (option_map (λ v. Writing (truncated_writer v size)) o)) (the_writer t fs fd (Some w) (sym (ap writer_if_any e)))
         ∙ ap (λ v. files_with_file (files_view t fs) fd (Some (Writing v))) (unchanged (writer_view t w) size long)
         ∙ sym (set_is t fs fd (Some (file.Writing w)) (ap is_some e)) ∙ ap (files_view t) (set_same fs fd (file.Writing w) e)
 
@@ -143,15 +143,15 @@ inside_put t fs fd x e = ap (λ b. cond b (set (files_view t fs) fd (Some x)) (f
 
 -- another size is to be made
 pub other_needed : (t : TreeState) (fs : RuntimeFiles) (fd size : ℕ) (w : Writer) → open_file_at fs fd ≡ Some (file.Writing w) → IsWriterReady t w → (size == w.size) ≡ false → needs_no_resource (viewed_session (view_of_session t fs)) (ops.Truncate fd size) ≡ false
-other_needed t fs fd size w e written other = ap (λ o. has_size o size) (the_writer t fs fd (Some w) (sym (ap open_writer e))) ∙ ap (λ n. size == n) written.size ∙ other
+other_needed t fs fd size w e written other = ap (λ o. has_size o size) (the_writer t fs fd (Some w) (sym (ap writer_if_any e))) ∙ ap (λ n. size == n) written.size ∙ other
 
 pub other_size : (t new : TreeState) (fs : RuntimeFiles) (fd size : ℕ) (now : SessionView) (w v : Writer) → view_of_session t fs ≡ now → (t.failed ≡ false → IsReady t fs) → refusal_by_checks (view_of_session t fs) (ops.Truncate fd size) ≡ None → open_file_at fs fd ≡ Some (file.Writing w) → (size == w.size) ≡ false →
-    IsChangedWriter new (truncated_writer (writer_view t w) size) v → WritesUnusedBlocks t new → IsStep (system_state now) (ops.Truncate fd size) ops.Done (system_state (view_of_session new (set fs fd (Some (file.Writing v)))))
+    IsChangedWriter new (truncated_writer (writer_view t w) size) v → KeepsImage t new → IsStep (system_state now) (ops.Truncate fd size) ops.Done (system_state (view_of_session new (set fs fd (Some (file.Writing v)))))
 other_size t new fs fd size now w v same ready accepted e other made b =
     subst (λ z. IsStep (system_state z) op ops.Done (system_state (view_of_session new later))) same
     (subst (λ m. IsStep m op ops.Done (system_state (view_of_session new later))) (sym (healthy_system (view_of_session t fs) works))
     (subst (λ m. IsStep (record { disk = t.disk; calls = t.history; state = Healthy (viewed_session (view_of_session t fs)) }) op ops.Done m) (sym to)
-    (filled_step t.disk t.pairs (viewed_session (view_of_session t fs)) (tree_summary t) op new.disk new.pairs b.calls t.history (is_over t (files_view t fs) (ready works).sound) (not_refused (view_of_session t fs) op accepted) refl (other_needed t fs fd size w e (written_at t fs fd w (ready works).written (sym (ap open_writer e))) other) b.geometry
+    (filled_step t.disk t.pairs (viewed_session (view_of_session t fs)) (tree_summary t) op new.disk new.pairs b.calls t.history (is_over t (files_view t fs) (ready works).sound) (not_refused (view_of_session t fs) op accepted) refl (other_needed t fs fd size w e (written_at t fs fd w (ready works).written (sym (ap writer_if_any e))) other) b.geometry
     b.sound.accepted b.pairs (ap₂ (λ (z : Tree) (a : DiskSummary). let k : DiskView = record { tree = z; gstate = a.gstate; used = a.used } in k) b.shows b.around) (recovered_from new.disk new.pairs b.sound.accepted made.written.settled)
     (λ h. b.sound.fits made.written.writable))))
   where
@@ -168,13 +168,13 @@ other_size t new fs fd size now w v same ready accepted e other made b =
     files =
         other_tree t new fs fd w v (only fs fd w e (ready works).one) ∙ ap (λ x. set (files_view t fs) fd (Some (Writing x))) made.seen
         ∙ sym (inside_put t fs fd (Writing (truncated_writer (writer_view t w) size)) (ap is_some e))
-        ∙ sym (ap (λ o. files_with_file (files_view t fs) fd (option_map (λ u. Writing (truncated_writer u size)) o)) (the_writer t fs fd (Some w) (sym (ap open_writer e))))
+        ∙ sym (ap (λ o. files_with_file (files_view t fs) fd (option_map (λ u. Writing (truncated_writer u size)) o)) (the_writer t fs fd (Some w) (sym (ap writer_if_any e))))
 
     to : system_state (view_of_session new later) ≡ record { disk = new.disk; calls = b.calls ++ t.history; state = Healthy (operation_effect (tree_summary t) (viewed_session (view_of_session t fs)) op).1 }
     to = healthy_system (view_of_session new later) b.works ∙ ap₂ (λ calls (s : Session). record { disk = new.disk; calls = calls; state = Healthy s }) b.called (ap₂ (λ z f. record { tree = z; files = f }) b.shows files)
 
 -- what the session keeps
-pub ready_with : (t new : TreeState) (fs : RuntimeFiles) (fd : ℕ) (w v : Writer) (is : session.FileWriter) → IsOnly fs fd w → IsChangedWriter new is v → WritesUnusedBlocks t new → is.path ≡ w.path → IsReady t fs → IsReady new (set fs fd (Some (file.Writing v)))
+pub ready_with : (t new : TreeState) (fs : RuntimeFiles) (fd : ℕ) (w v : Writer) (is : session.FileWriter) → IsOnly fs fd w → IsChangedWriter new is v → KeepsImage t new → is.path ≡ w.path → IsReady t fs → IsReady new (set fs fd (Some (file.Writing v)))
 ready_with t new fs fd w v is alone made b named was = record {
   sound = b.sound;
   called = still_called t.history new.history b.calls b.called was.called;
@@ -197,10 +197,10 @@ length_left fs fd e = let k = inside_is fs fd e in let l = length-set fs fd None
 pub put_again : (fs gs hs : RuntimeFiles) (fd : ℕ) (v : Writer) → gs ≡ set fs fd None → hs ≡ set gs fd (Some (file.Writing v)) → hs ≡ set fs fd (Some (file.Writing v))
 put_again fs gs hs fd v e f = f ∙ ap (λ xs. set xs fd (Some (file.Writing v))) e ∙ set_twice fs fd None (Some (file.Writing v))
 
-pub some_writer : (fs : RuntimeFiles) (fd : ℕ) → is_some (open_writer (open_file_at fs fd)) ≡ true → (w : Writer) × (open_file_at fs fd ≡ Some (file.Writing w))
+pub some_writer : (fs : RuntimeFiles) (fd : ℕ) → is_some (writer_if_any (open_file_at fs fd)) ≡ true → (w : Writer) × (open_file_at fs fd ≡ Some (file.Writing w))
 some_writer fs fd h = go (open_file_at fs fd) h
   where
-    go : (o : Option OpenFile) → is_some (open_writer o) ≡ true → (w : Writer) × (o ≡ Some (file.Writing w))
+    go : (o : Option OpenFile) → is_some (writer_if_any o) ≡ true → (w : Writer) × (o ≡ Some (file.Writing w))
     go None k = absurd (cc)
     go (Some (file.Reading r)) k = absurd (cc)
     go (Some (file.Writing w)) k = (w, refl)

@@ -11,7 +11,7 @@ use Rattle.lfs_model.specs.session.Session as session
 use Rattle.lfs_model.specs.session.Writers.{truncated_writer, written_writer, written_contents, padded_with_zeros, turns_writer, write_position}
 use Rattle.lfs_model.specs.session.Session.{file_numbered, first_refusal, overfills_disk, refuse_if, file_writer}
 use Rattle.lfs_tree.specs.TreeState.{TreeState, tree_summary}
-use Rattle.lfs_fs.specs.FileView.{RuntimeFiles, unsaved_or_tree, change_end, open_file_at, files_view, reserved_for, is_unsaved_nonsequential, open_writer, writer_view, writers_among}
+use Rattle.lfs_fs.specs.FileView.{RuntimeFiles, unsaved_or_tree, change_end, open_file_at, files_view, reserved_for, is_unsaved_nonsequential, writer_if_any, writer_view, writers_among}
 use Rattle.lfs_fs.specs.SessionView.{IsWriterReady, view_of_session, refusal_by_checks}
 use Rattle.lfs_fs.specs.declared.files.OpenFile.{OpenFile}
 use Rattle.lfs_fs.specs.declared.files.OpenFile.TheVariants as file
@@ -21,21 +21,21 @@ use Rattle.lfs_fs.proofs.Writing.{after_truncate_is, after_write_is, length-cut,
 
 -- ---- the writer of a number
 
-pub the_writer : (t : TreeState) (fs : RuntimeFiles) (fd : ℕ) (o : Option Writer) → o ≡ open_writer (open_file_at fs fd) → file_writer (file_numbered (files_view t fs) fd) ≡ option_map (writer_view t) o
+pub the_writer : (t : TreeState) (fs : RuntimeFiles) (fd : ℕ) (o : Option Writer) → o ≡ writer_if_any (open_file_at fs fd) → file_writer (file_numbered (files_view t fs) fd) ≡ option_map (writer_view t) o
 the_writer t fs fd o e = ap file_writer (file_is t fs fd) ∙ writer_is t (open_file_at fs fd) ∙ ap (option_map (writer_view t)) (sym e)
 
-pub writer_there : (fs : RuntimeFiles) (fd : ℕ) (w : Writer) → Some w ≡ open_writer (open_file_at fs fd) → is_some (open_writer (open_file_at fs fd)) ≡ true
+pub writer_there : (fs : RuntimeFiles) (fd : ℕ) (w : Writer) → Some w ≡ writer_if_any (open_file_at fs fd) → is_some (writer_if_any (open_file_at fs fd)) ≡ true
 writer_there fs fd w e = ap is_some (sym e)
 
-pub entry_is : (fs : RuntimeFiles) (fd : ℕ) (w : Writer) → Some w ≡ open_writer (open_file_at fs fd) → open_file_at fs fd ≡ Some (file.Writing w)
+pub entry_is : (fs : RuntimeFiles) (fd : ℕ) (w : Writer) → Some w ≡ writer_if_any (open_file_at fs fd) → open_file_at fs fd ≡ Some (file.Writing w)
 entry_is fs fd w e = go (open_file_at fs fd) e
   where
-    go : (o : Option OpenFile) → Some w ≡ open_writer o → o ≡ Some (file.Writing w)
+    go : (o : Option OpenFile) → Some w ≡ writer_if_any o → o ≡ Some (file.Writing w)
     go None k = absurd (cc)
     go (Some (file.Reading r)) k = absurd (cc)
     go (Some (file.Writing v)) k = ap (option_map file.Writing) (sym k)
 
-pub written_at : (t : TreeState) (fs : RuntimeFiles) (fd : ℕ) (w : Writer) → AllByRecursion (IsWriterReady t) (writers_among fs) → Some w ≡ open_writer (open_file_at fs fd) → IsWriterReady t w
+pub written_at : (t : TreeState) (fs : RuntimeFiles) (fd : ℕ) (w : Writer) → AllByRecursion (IsWriterReady t) (writers_among fs) → Some w ≡ writer_if_any (open_file_at fs fd) → IsWriterReady t w
 written_at t [] fd w h e = absurd (cc)
 written_at t (None ∷ fs) zero w h e = absurd (cc)
 written_at t (Some (file.Reading r) ∷ fs) zero w h e = absurd (cc)
@@ -51,15 +51,15 @@ write_refused : (t : TreeState) (fs : RuntimeFiles) (fd : ℕ) (bytes : List ℕ
     refusal_by_checks (view_of_session t fs) (ops.Write fd bytes) ≡ first_refusal (refuse_if x ops.TooBig ∷ refuse_if y ops.NoSpace ∷ [])
 write_refused t fs fd bytes w x y works is big full = rw (sym works, is, big, full) refl
 
-pub write_no_writer : (t : TreeState) (fs : RuntimeFiles) (fd : ℕ) (bytes : List ℕ) → false ≡ t.failed → None ≡ open_writer (open_file_at fs fd) → refusal_by_checks (view_of_session t fs) (ops.Write fd bytes) ≡ Some ops.BadFile
+pub write_no_writer : (t : TreeState) (fs : RuntimeFiles) (fd : ℕ) (bytes : List ℕ) → false ≡ t.failed → None ≡ writer_if_any (open_file_at fs fd) → refusal_by_checks (view_of_session t fs) (ops.Write fd bytes) ≡ Some ops.BadFile
 write_no_writer t fs fd bytes works none = rw (sym works, the_writer t fs fd None none) refl
 
-pub write_nothing : (t : TreeState) (fs : RuntimeFiles) (fd : ℕ) (bytes : List ℕ) (w : Writer) → false ≡ t.failed → Some w ≡ open_writer (open_file_at fs fd) → nat_lt 0 (length bytes) ≡ false → refusal_by_checks (view_of_session t fs) (ops.Write fd bytes) ≡ None
+pub write_nothing : (t : TreeState) (fs : RuntimeFiles) (fd : ℕ) (bytes : List ℕ) (w : Writer) → false ≡ t.failed → Some w ≡ writer_if_any (open_file_at fs fd) → nat_lt 0 (length bytes) ≡ false → refusal_by_checks (view_of_session t fs) (ops.Write fd bytes) ≡ None
 write_nothing t fs fd bytes w works is none =
     write_refused t fs fd bytes (writer_view t w) false false works (the_writer t fs fd (Some w) is)
     (ap (λ b. b && nat_lt (file_max_of t.disk.profile) (write_position (writer_view t w) + length bytes)) none) (ap (λ b. b && overfills_disk (tree_summary t) (written_writer (writer_view t w) bytes)) none)
 
-pub write_too_big : (t : TreeState) (fs : RuntimeFiles) (fd : ℕ) (bytes : List ℕ) (w : Writer) (place : ℕ) → false ≡ t.failed → IsWriterReady t w → Some w ≡ open_writer (open_file_at fs fd) → nat_lt 0 (length bytes) ≡ true →
+pub write_too_big : (t : TreeState) (fs : RuntimeFiles) (fd : ℕ) (bytes : List ℕ) (w : Writer) (place : ℕ) → false ≡ t.failed → IsWriterReady t w → Some w ≡ writer_if_any (open_file_at fs fd) → nat_lt 0 (length bytes) ≡ true →
     place ≡ (if w.appends then w.size else w.position) → nat_lt (file_max_of t.disk.profile) (place + length bytes) ≡ true → refusal_by_checks (view_of_session t fs) (ops.Write fd bytes) ≡ Some ops.TooBig
 write_too_big t fs fd bytes w place works written is some at big =
     write_refused t fs fd bytes (writer_view t w) true _ works (the_writer t fs fd (Some w) is)
@@ -70,7 +70,7 @@ overfills_is : (t : TreeState) (w v : session.FileWriter) (turned : Bool) (size 
     overfills_disk (tree_summary t) v ≡ nat_lt (block_count t.disk) (length (tree_summary t).used + reserved_for t.disk.profile t.disk.block_size turned size)
 overfills_is t w v turned size dirty turns_writer long = rw (dirty, turns_writer, long) refl
 
-pub write_fits : (t : TreeState) (fs : RuntimeFiles) (fd : ℕ) (bytes : List ℕ) (w : Writer) (place begin size : ℕ) (turned full : Bool) → false ≡ t.failed → IsWriterReady t w → Some w ≡ open_writer (open_file_at fs fd) → nat_lt 0 (length bytes) ≡ true → 1 ≤ length bytes →
+pub write_fits : (t : TreeState) (fs : RuntimeFiles) (fd : ℕ) (bytes : List ℕ) (w : Writer) (place begin size : ℕ) (turned full : Bool) → false ≡ t.failed → IsWriterReady t w → Some w ≡ writer_if_any (open_file_at fs fd) → nat_lt 0 (length bytes) ≡ true → 1 ≤ length bytes →
     place ≡ (if w.appends then w.size else w.position) → nat_lt (file_max_of t.disk.profile) (place + length bytes) ≡ false → begin ≡ min place w.size → turned ≡ (is_unsaved_nonsequential w.unsaved || turns_writer (change_end w.unsaved) begin) → size ≡ max w.size (place + length bytes) →
     full ≡ nat_lt (block_count t.disk) (length (tree_summary t).used + reserved_for t.disk.profile t.disk.block_size turned size) → refusal_by_checks (view_of_session t fs) (ops.Write fd bytes) ≡ refuse_if full ops.NoSpace
 write_fits t fs fd bytes w place begin size turned full works written is some one at small begin_is turned_is size_is full_is =
@@ -108,18 +108,18 @@ truncate_refused : (t : TreeState) (fs : RuntimeFiles) (fd size : ℕ) (w : sess
     refusal_by_checks (view_of_session t fs) (ops.Truncate fd size) ≡ first_refusal (refuse_if x ops.TooBig ∷ refuse_if y ops.NoSpace ∷ [])
 truncate_refused t fs fd size w x y works is big full = rw (sym works, is, big, full) refl
 
-pub truncate_no_writer : (t : TreeState) (fs : RuntimeFiles) (fd size : ℕ) → false ≡ t.failed → None ≡ open_writer (open_file_at fs fd) → refusal_by_checks (view_of_session t fs) (ops.Truncate fd size) ≡ Some ops.BadFile
+pub truncate_no_writer : (t : TreeState) (fs : RuntimeFiles) (fd size : ℕ) → false ≡ t.failed → None ≡ writer_if_any (open_file_at fs fd) → refusal_by_checks (view_of_session t fs) (ops.Truncate fd size) ≡ Some ops.BadFile
 truncate_no_writer t fs fd size works none = rw (sym works, the_writer t fs fd None none) refl
 
-pub truncate_too_big : (t : TreeState) (fs : RuntimeFiles) (fd size : ℕ) (w : Writer) → false ≡ t.failed → Some w ≡ open_writer (open_file_at fs fd) → nat_lt (file_max_of t.disk.profile) size ≡ true → refusal_by_checks (view_of_session t fs) (ops.Truncate fd size) ≡ Some ops.TooBig
+pub truncate_too_big : (t : TreeState) (fs : RuntimeFiles) (fd size : ℕ) (w : Writer) → false ≡ t.failed → Some w ≡ writer_if_any (open_file_at fs fd) → nat_lt (file_max_of t.disk.profile) size ≡ true → refusal_by_checks (view_of_session t fs) (ops.Truncate fd size) ≡ Some ops.TooBig
 truncate_too_big t fs fd size w works is big = truncate_refused t fs fd size (writer_view t w) true _ works (the_writer t fs fd (Some w) is) big refl
 
-pub truncate_same : (t : TreeState) (fs : RuntimeFiles) (fd size : ℕ) (w : Writer) → false ≡ t.failed → IsWriterReady t w → Some w ≡ open_writer (open_file_at fs fd) → nat_lt (file_max_of t.disk.profile) size ≡ false → size ≡ w.size → refusal_by_checks (view_of_session t fs) (ops.Truncate fd size) ≡ None
+pub truncate_same : (t : TreeState) (fs : RuntimeFiles) (fd size : ℕ) (w : Writer) → false ≡ t.failed → IsWriterReady t w → Some w ≡ writer_if_any (open_file_at fs fd) → nat_lt (file_max_of t.disk.profile) size ≡ false → size ≡ w.size → refusal_by_checks (view_of_session t fs) (ops.Truncate fd size) ≡ None
 truncate_same t fs fd size w works written is small same =
     truncate_refused t fs fd size (writer_view t w) false false works (the_writer t fs fd (Some w) is) small
     (ap (λ b. not b && overfills_disk (tree_summary t) (truncated_writer (writer_view t w) size)) (eq-eqb size (length (unsaved_or_tree t w.path w.unsaved)) (same ∙ sym written.size)))
 
-pub truncate_fits : (t : TreeState) (fs : RuntimeFiles) (fd size : ℕ) (w : Writer) (turned full : Bool) → false ≡ t.failed → IsWriterReady t w → Some w ≡ open_writer (open_file_at fs fd) → nat_lt (file_max_of t.disk.profile) size ≡ false → (size ≡ w.size → ⊥) →
+pub truncate_fits : (t : TreeState) (fs : RuntimeFiles) (fd size : ℕ) (w : Writer) (turned full : Bool) → false ≡ t.failed → IsWriterReady t w → Some w ≡ writer_if_any (open_file_at fs fd) → nat_lt (file_max_of t.disk.profile) size ≡ false → (size ≡ w.size → ⊥) →
     turned ≡ (is_unsaved_nonsequential w.unsaved || is_some (change_end w.unsaved)) → full ≡ nat_lt (block_count t.disk) (length (tree_summary t).used + reserved_for t.disk.profile t.disk.block_size turned size) →
     refusal_by_checks (view_of_session t fs) (ops.Truncate fd size) ≡ refuse_if full ops.NoSpace
 truncate_fits t fs fd size w turned full works written is small other turned_is full_is =

@@ -2,7 +2,7 @@
 use Rattle.std.proofs.Common.{ℕ, zero, suc, ◌≡◌, ◌≤◌, List, [], ◌∷◌, length, Option, Some, sym, ap, subst, ◌∙◌, arith, slice_index_or}
 use Rattle.std.specs.Prelude.{slice_set}
 use Rattle.std.proofs.lemmas.Option.{same_Some}
-use Rattle.lfs_fs.specs.FileView.{RuntimeFiles, unsaved_or_tree, open_file_at, open_writer}
+use Rattle.lfs_fs.specs.FileView.{RuntimeFiles, unsaved_or_tree, open_file_at, writer_if_any}
 use Rattle.lfs_fs.specs.WriterChanges.{CanChangeWriter, HasFileUnder, ChangesOnlyWriter, IsUnsavedForm}
 use Rattle.lfs_fs.specs.declared.files.OpenFile.{OpenFile}
 use Rattle.lfs_fs.specs.declared.files.OpenFile.TheVariants as file
@@ -22,14 +22,14 @@ entry_at (f ∷ fs) (suc fd) x other e = entry_at fs fd x other e
 -- the entry of that number is the writer's
 pub same_writer : (fs : RuntimeFiles) (fd : ℕ) (v w : Writer) (entry : Option OpenFile) (x : OpenFile) → entry ≡ slice_index_or fs fd entry → entry ≡ Some x → x ≡ file.Writing v → open_file_at fs fd ≡ Some (file.Writing w) → v ≡ w
 same_writer fs fd v w entry x at is written e =
-    same_Some v w (ap open_writer (sym (ap Some written) ∙ sym is ∙ at ∙ entry_at fs fd (file.Writing w) entry e))
+    same_Some v w (ap writer_if_any (sym (ap Some written) ∙ sym is ∙ at ∙ entry_at fs fd (file.Writing w) entry e))
 
 pub same_files_before : {P : Writer → Type 0} (fs gs : RuntimeFiles) (fd : ℕ) (later : RuntimeFiles) → fs ≡ gs → ChangesOnlyWriter fs fd P later → ChangesOnlyWriter gs fd P later
 same_files_before fs gs fd later e h = record { writer = h.writer; only = h.only ∙ ap (λ xs. slice_set xs fd (Some (file.Writing h.writer))) e; holds = h.holds }
 
 -- one writer takes the place of another
-pub as_many : (fs : RuntimeFiles) (fd : ℕ) (v w : Writer) → open_file_at fs fd ≡ Some (file.Writing w) → one_of (open_writer (Some (file.Writing v))) ≤ one_of (open_writer (open_file_at fs fd))
-as_many fs fd v w e = subst (λ o. one_of (open_writer (Some (file.Writing v))) ≤ one_of (open_writer o)) (sym e) (omega arith)
+pub as_many : (fs : RuntimeFiles) (fd : ℕ) (v w : Writer) → open_file_at fs fd ≡ Some (file.Writing w) → one_of (writer_if_any (Some (file.Writing v))) ≤ one_of (writer_if_any (open_file_at fs fd))
+as_many fs fd v w e = subst (λ o. one_of (writer_if_any (Some (file.Writing v))) ≤ one_of (writer_if_any o)) (sym e) (omega arith)
 
 -- the contents of a writer whose changes were taken out
 pub has_contents : (t : TreeState) (w : Writer) (unsaved : Option UnsavedContents) → CanChangeWriter t w → unsaved ≡ w.unsaved → HasFileUnder t w.path unsaved

@@ -16,7 +16,7 @@ use Rattle.lfs_model.specs.session.Session.{list_blocks_of, reserved_for_writer}
 use Rattle.lfs_model.specs.format.Slots.{zero_gstate}
 use Rattle.lfs_model.specs.format.Thread.{pairs_gstate}
 use Rattle.lfs_model.specs.tree.Tree.{Node, FileNode, DirectoryNode, Path, Tree}
-use Rattle.lfs_tree.specs.OpenContents.{CanStoreAt, StoresBytesAt, CanTruncateWriterContents, CanWriteWriterContents, OverTreeFile, InlineUpToLimit, WritesUnusedBlocks, writer_contents_bytes, kept_thread}
+use Rattle.lfs_tree.specs.OpenContents.{CanStoreAt, StoresBytesAt, CanTruncateWriterContents, CanWriteWriterContents, OverTreeFile, InlineUpToLimit, KeepsImage, writer_contents_bytes, kept_thread}
 use Rattle.lfs_tree.specs.TreeState.{TreeState, OnlyReadsTree, IsFailedTree, tree_summary, tree_view}
 use Rattle.lfs_file.specs.Contents.{FormFitsInlineLimit, finish_room, NeedsTruncateRoom, contents_form, truncation_room, write_room}
 use Rattle.lfs_file.specs.Form as shape_of
@@ -135,11 +135,11 @@ kept_by_form t w shape opened h = go w.unsaved refl h
 
 -- ---- the writer after
 
-pub beside_later : (old mid new : TreeState) → OnlyReadsTree old mid → WritesUnusedBlocks mid new → WritesUnusedBlocks old new
+pub beside_later : (old mid new : TreeState) → OnlyReadsTree old mid → KeepsImage mid new → KeepsImage old new
 beside_later old mid new asked b =
-    again (subst (λ t. WritesUnusedBlocks t new) asked.same b)
+    again (subst (λ t. KeepsImage t new) asked.same b)
   where
-    again : WritesUnusedBlocks (record old { history = mid.history; cache = mid.cache }) new → WritesUnusedBlocks old new
+    again : KeepsImage (record old { history = mid.history; cache = mid.cache }) new → KeepsImage old new
     again k = record {
       works = k.works;
       sound = k.sound;
@@ -167,7 +167,7 @@ pub broken_after : {A : Type 0} (old mid new : TreeState) (r : Result A Error) �
 broken_after old mid new (Ok x) asked b = tt
 broken_after old mid new (Err e) asked b = broken_later old mid new asked b
 
-pub as_writer : (old new : TreeState) (path : Path) (position size : ℕ) (appends turned : Bool) (end : Option ℕ) (c : WriterContents) (v : session.FileWriter) → WritesUnusedBlocks old new → old.writable ≡ true →
+pub as_writer : (old new : TreeState) (path : Path) (position size : ℕ) (appends turned : Bool) (end : Option ℕ) (c : WriterContents) (v : session.FileWriter) → KeepsImage old new → old.writable ≡ true →
     pairs_gstate old.pairs ≡ zero_gstate → is_file (tree_view old path) ≡ true → length (writer_contents_bytes (kept_thread new) c) ≡ size → OverTreeFile new path c → FitsWriterForm old.disk.profile old.disk.block_size (contents_form c) v →
     InlineUpToLimit (inline_limit old.disk.profile old.disk.block_size) (contents_form c) → HasWriterRoom old v →
     writer_view new (record { path = path; position = position; size = size; appends = appends; unsaved = Some (record { contents = c; has_turned = turned; last_end = end }) }) ≡ v →
@@ -194,7 +194,7 @@ as_writer old new path position size appends turned end c v b writable settled t
     w = record { path = path; position = position; size = size; appends = appends; unsaved = Some (record { contents = c; has_turned = turned; last_end = end }) }
 
 -- the one that wrote bytes
-pub wrote : (old new : TreeState) (w : Writer) (bytes : List ℕ) (place end size : ℕ) (turned : Bool) (c : WriterContents) → WritesUnusedBlocks old new → IsWriterReady old w → 1 ≤ length bytes → HasWriterRoom old (written_writer (writer_view old w) bytes) →
+pub wrote : (old new : TreeState) (w : Writer) (bytes : List ℕ) (place end size : ℕ) (turned : Bool) (c : WriterContents) → KeepsImage old new → IsWriterReady old w → 1 ≤ length bytes → HasWriterRoom old (written_writer (writer_view old w) bytes) →
     place ≡ write_position (writer_view old w) → end ≡ place + length bytes → size ≡ max w.size end → turned ≡ (is_unsaved_nonsequential w.unsaved || turns_writer (change_end w.unsaved) (min place w.size)) →
     OverTreeFile new w.path c → writer_contents_bytes (kept_thread new) c ≡ written_contents (unsaved_or_tree old w.path w.unsaved) place bytes → FitsWriterForm old.disk.profile old.disk.block_size (contents_form c) (written_writer (writer_view old w) bytes) →
     InlineUpToLimit (inline_limit old.disk.profile old.disk.block_size) (contents_form c) →
@@ -219,7 +219,7 @@ wrote old new w bytes place end size turned c b opened some room at stop long tu
         ∙ sym (after_write_is (writer_view old w) bytes some)
 
 -- the one whose contents have another size
-pub cut : (old new : TreeState) (w : Writer) (size : ℕ) (turned : Bool) (end : Option ℕ) (c : WriterContents) → WritesUnusedBlocks old new → IsWriterReady old w → (size == length (unsaved_or_tree old w.path w.unsaved)) ≡ false →
+pub cut : (old new : TreeState) (w : Writer) (size : ℕ) (turned : Bool) (end : Option ℕ) (c : WriterContents) → KeepsImage old new → IsWriterReady old w → (size == length (unsaved_or_tree old w.path w.unsaved)) ≡ false →
     HasWriterRoom old (truncated_writer (writer_view old w) size) → turned ≡ (is_unsaved_nonsequential w.unsaved || is_some (change_end w.unsaved)) → end ≡ (if nat_lt w.size size then Some size else change_end w.unsaved) →
     OverTreeFile new w.path c → writer_contents_bytes (kept_thread new) c ≡ take size (padded_with_zeros size (unsaved_or_tree old w.path w.unsaved)) → FitsWriterForm old.disk.profile old.disk.block_size (contents_form c) (truncated_writer (writer_view old w) size) →
     InlineUpToLimit (inline_limit old.disk.profile old.disk.block_size) (contents_form c) →
@@ -291,7 +291,7 @@ can_write old mid w bytes place c path can asked at over same shape large write 
 
 pub has_written : (old mid new : TreeState) (w : Writer) (bytes : List ℕ) (place begin size : ℕ) (turned : Bool) (c d : WriterContents) (path : Path) → CanWriteBy old w bytes → OnlyReadsTree old mid →
     place ≡ (if w.appends then w.size else w.position) → OverTreeFile mid path c → path ≡ w.path → IsUnsavedForm old.disk.profile old.disk.block_size w.unsaved (length (unsaved_or_tree old path w.unsaved)) (contents_form c) →
-    writer_contents_bytes (kept_thread mid) c ≡ unsaved_or_tree old path w.unsaved → WrittenLaw → WritesUnusedBlocks mid new → ((p : Path) → OverTreeFile mid p c → OverTreeFile new p d) →
+    writer_contents_bytes (kept_thread mid) c ≡ unsaved_or_tree old path w.unsaved → WrittenLaw → KeepsImage mid new → ((p : Path) → OverTreeFile mid p c → OverTreeFile new p d) →
     writer_contents_bytes (kept_thread new) d ≡ written_contents (writer_contents_bytes (kept_thread mid) c) place bytes → contents_form d ≡ written_form (inline_limit mid.disk.profile mid.disk.block_size) place (length bytes) (contents_form c) →
     begin ≡ min place w.size → turned ≡ (is_unsaved_nonsequential w.unsaved || turns_writer (change_end w.unsaved) begin) → size ≡ max w.size (place + length bytes) →
     IsChangedWriter new (written_writer (writer_view old w) bytes) (record { path = w.path; position = place + length bytes; size = size; appends = w.appends; unsaved = Some (record { contents = d; has_turned = turned; last_end = Some (place + length bytes) }) })
@@ -343,7 +343,7 @@ can_truncate old mid w size c path can asked over same shape large truncate =
 
 pub has_truncated : (old mid new : TreeState) (w : Writer) (size : ℕ) (turned : Bool) (end : Option ℕ) (c d : WriterContents) (path : Path) → CanTruncateBy old w size → OnlyReadsTree old mid →
     OverTreeFile mid path c → path ≡ w.path → IsUnsavedForm old.disk.profile old.disk.block_size w.unsaved (length (unsaved_or_tree old path w.unsaved)) (contents_form c) →
-    writer_contents_bytes (kept_thread mid) c ≡ unsaved_or_tree old path w.unsaved → TruncatedLaw → WritesUnusedBlocks mid new → ((p : Path) → OverTreeFile mid p c → OverTreeFile new p d) →
+    writer_contents_bytes (kept_thread mid) c ≡ unsaved_or_tree old path w.unsaved → TruncatedLaw → KeepsImage mid new → ((p : Path) → OverTreeFile mid p c → OverTreeFile new p d) →
     writer_contents_bytes (kept_thread new) d ≡ take size (padded_with_zeros size (writer_contents_bytes (kept_thread mid) c)) → contents_form d ≡ truncated_form (inline_limit mid.disk.profile mid.disk.block_size) size (contents_form c) →
     turned ≡ (is_unsaved_nonsequential w.unsaved || is_some (change_end w.unsaved)) → end ≡ (if nat_lt w.size size then Some size else change_end w.unsaved) →
     IsChangedWriter new (truncated_writer (writer_view old w) size) (record { path = w.path; position = w.position; size = size; appends = w.appends; unsaved = Some (record { contents = d; has_turned = turned; last_end = end }) })

@@ -17,10 +17,10 @@ use Rattle.lfs_model.specs.tree.Tree.{Tree}
 use Rattle.lfs_model.specs.tree.View.{DiskView}
 use Rattle.lfs_model.proofs.Committed.{recovered_from}
 use Rattle.lfs_model.proofs.StepsMade.{filled_step}
-use Rattle.lfs_tree.specs.OpenContents.{WritesUnusedBlocks}
+use Rattle.lfs_tree.specs.OpenContents.{KeepsImage}
 use Rattle.lfs_tree.specs.TreeState.{TreeState, tree_summary, tree_view}
 use Rattle.lfs_fs.specs.WriterChanges.{CanWriteBy, IsChangedWriter}
-use Rattle.lfs_fs.specs.FileView.{RuntimeFiles, open_file_at, files_view, open_writer, writer_view}
+use Rattle.lfs_fs.specs.FileView.{RuntimeFiles, open_file_at, files_view, writer_if_any, writer_view}
 use Rattle.lfs_fs.specs.SessionView.{StepsOrFails, SessionView, IsReady, view_of_session, system_state, refusal_by_checks, viewed_session}
 use Rattle.lfs_fs.specs.declared.files.OpenFile.TheVariants as file
 use Rattle.lfs_fs.specs.declared.files.Writer.{Writer}
@@ -37,8 +37,8 @@ module _ (t : TreeState) (fs : RuntimeFiles) (fd : ℕ) (bytes : List ℕ) (w : 
   works_now : t.failed ≡ false
   works_now = not_failed (view_of_session t fs) (ops.Write fd bytes) accepted
 
-  is_writer : Some w ≡ open_writer (open_file_at fs fd)
-  is_writer = sym (ap open_writer e)
+  is_writer : Some w ≡ writer_if_any (open_file_at fs fd)
+  is_writer = sym (ap writer_if_any e)
 
   seen_there : file_writer (file_numbered (files_view t fs) fd) ≡ Some (writer_view t w)
   seen_there = the_writer t fs fd (Some w) is_writer
@@ -95,7 +95,7 @@ empty_put t fs fd now w same invariant accepted e =
   where
     stays : files_with_file (files_view t fs) fd (option_map (λ v. Writing (written_writer v [])) (file_writer (file_numbered (files_view t fs) fd))) ≡ files_view t fs
     stays =
-        ap (λ o. files_with_file (files_view t fs) fd (option_map (λ v. Writing (written_writer v [])) o)) (the_writer t fs fd (Some w) (sym (ap open_writer e)))
+        ap (λ o. files_with_file (files_view t fs) fd (option_map (λ v. Writing (written_writer v [])) o)) (the_writer t fs fd (Some w) (sym (ap writer_if_any e)))
         ∙ sym (set_is t fs fd (Some (file.Writing w)) (ap is_some e)) ∙ ap (files_view t) (set_same fs fd (file.Writing w) e)
 
 pub nothing_put : (t : TreeState) (fs : RuntimeFiles) (fd : ℕ) (bytes : List ℕ) (now : SessionView) (w : Writer) → view_of_session t fs ≡ now → (t.failed ≡ false → IsReady t fs) → refusal_by_checks (view_of_session t fs) (ops.Write fd bytes) ≡ None → open_file_at fs fd ≡ Some (file.Writing w) →
@@ -115,7 +115,7 @@ pub some_taken : (t : TreeState) (fs : RuntimeFiles) (fd : ℕ) (bytes : List �
 some_taken t fs fd bytes some = some_needed (viewed_session (view_of_session t fs)) fd bytes some
 
 pub some_put : (t new : TreeState) (fs : RuntimeFiles) (fd : ℕ) (bytes : List ℕ) (now : SessionView) (w v : Writer) → view_of_session t fs ≡ now → (t.failed ≡ false → IsReady t fs) → refusal_by_checks (view_of_session t fs) (ops.Write fd bytes) ≡ None → open_file_at fs fd ≡ Some (file.Writing w) → (length bytes == 0) ≡ false →
-    IsChangedWriter new (written_writer (writer_view t w) bytes) v → WritesUnusedBlocks t new → IsStep (system_state now) (ops.Write fd bytes) (ops.Count (length bytes)) (system_state (view_of_session new (set fs fd (Some (file.Writing v)))))
+    IsChangedWriter new (written_writer (writer_view t w) bytes) v → KeepsImage t new → IsStep (system_state now) (ops.Write fd bytes) (ops.Count (length bytes)) (system_state (view_of_session new (set fs fd (Some (file.Writing v)))))
 some_put t new fs fd bytes now w v same invariant accepted e some made b =
     subst (λ z. IsStep (system_state z) op (ops.Count (length bytes)) (system_state (view_of_session new later))) same
     (subst (λ m. IsStep m op (ops.Count (length bytes)) (system_state (view_of_session new later))) (sym (healthy_system (view_of_session t fs) works))
@@ -137,7 +137,7 @@ some_put t new fs fd bytes now w v same invariant accepted e some made b =
     files =
         other_tree t new fs fd w v (only fs fd w e (invariant works).one) ∙ ap (λ x. set (files_view t fs) fd (Some (Writing x))) made.seen
         ∙ sym (inside_put t fs fd (Writing (written_writer (writer_view t w) bytes)) (ap is_some e))
-        ∙ sym (ap (λ o. files_with_file (files_view t fs) fd (option_map (λ u. Writing (written_writer u bytes)) o)) (the_writer t fs fd (Some w) (sym (ap open_writer e))))
+        ∙ sym (ap (λ o. files_with_file (files_view t fs) fd (option_map (λ u. Writing (written_writer u bytes)) o)) (the_writer t fs fd (Some w) (sym (ap writer_if_any e))))
 
     to : system_state (view_of_session new later) ≡ record { disk = new.disk; calls = b.calls ++ t.history; state = Healthy (operation_effect (tree_summary t) (viewed_session (view_of_session t fs)) op).1 }
     to = healthy_system (view_of_session new later) b.works ∙ ap₂ (λ calls (s : Session). record { disk = new.disk; calls = calls; state = Healthy s }) b.called (ap₂ (λ z f. record { tree = z; files = f }) b.shows files)

@@ -75,15 +75,15 @@ abbrev pub kept_position : OpenFile → ℕ
 kept_position (file.Reading r) = r.position
 kept_position (file.Writing w) = w.position
 
-abbrev pub open_reader : Option OpenFile → Option Reader
-open_reader None = None
-open_reader (Some (file.Reading r)) = Some r
-open_reader (Some (file.Writing w)) = None
+abbrev pub reader_if_any : Option OpenFile → Option Reader
+reader_if_any None = None
+reader_if_any (Some (file.Reading r)) = Some r
+reader_if_any (Some (file.Writing w)) = None
 
-abbrev pub open_writer : Option OpenFile → Option Writer
-open_writer None = None
-open_writer (Some (file.Reading r)) = None
-open_writer (Some (file.Writing w)) = Some w
+abbrev pub writer_if_any : Option OpenFile → Option Writer
+writer_if_any None = None
+writer_if_any (Some (file.Reading r)) = None
+writer_if_any (Some (file.Writing w)) = Some w
 
 abbrev pub prepended : {A : Type 0} → Option A → List A → List A
 prepended None rest = rest
@@ -94,10 +94,10 @@ selected_files kind [] = []
 selected_files kind (f ∷ files) = prepended (kind f) (selected_files kind files)
 
 abbrev pub readers_among : RuntimeFiles → List Reader
-readers_among files = selected_files open_reader files
+readers_among files = selected_files reader_if_any files
 
 abbrev pub writers_among : RuntimeFiles → List Writer
-writers_among files = selected_files open_writer files
+writers_among files = selected_files writer_if_any files
 
 -- the paths of the writers
 abbrev pub writers_paths : RuntimeFiles → List Path

@@ -4,7 +4,7 @@ ghost use Rattle.std.specs.Prelude.{if◌then◌else◌, nat_lt, ◌+◌, ◌≡
 ghost use Rattle.lfs_model.specs.session.Operations as ops;
 ghost use Rattle.lfs_model.specs.session.Session.{is_over_charge};
 ghost use Rattle.lfs_model.specs.format.Disk.{block_count, attr_max_of, file_max_of, name_max_of};
-ghost use Rattle.lfs_fs.specs.FileView.{open_file_at, files_view, reserved_by_writers, reserved_for, open_writer};
+ghost use Rattle.lfs_fs.specs.FileView.{open_file_at, files_view, reserved_by_writers, reserved_for, writer_if_any};
 ghost use Rattle.lfs_model.specs.session.Refusals.{path_or_root};
 ghost use Rattle.lfs_model.specs.session.Effects.{items_at, node_file_size};
 ghost use Rattle.lfs_fs.specs.FlagsView.{flags_view};
@@ -464,7 +464,7 @@ pub fn check_write<D: BlockDevice>(
     bytes: &[u8],
 ) -> Result<(), Error>
     requires { tree.now.failed ≡ false → IsReady tree.now files.now }
-    ensures { IsUnreadResult (view_of_session tree.now files.now) (ops.Write fd bytes.now) (λ _. is_some (open_writer (open_file_at files.now fd)) ≡ true) result }
+    ensures { IsUnreadResult (view_of_session tree.now files.now) (ops.Write fd bytes.now) (λ _. is_some (writer_if_any (open_file_at files.now fd)) ≡ true) result }
 {
     if tree.has_failed() {
         return Err(Error::Failed);
@@ -494,7 +494,7 @@ pub fn check_truncate<D: BlockDevice>(
     size: u32,
 ) -> Result<(), Error>
     requires { tree.now.failed ≡ false → IsReady tree.now files.now }
-    ensures { IsUnreadResult (view_of_session tree.now files.now) (ops.Truncate fd size) (λ _. is_some (open_writer (open_file_at files.now fd)) ≡ true) result }
+    ensures { IsUnreadResult (view_of_session tree.now files.now) (ops.Truncate fd size) (λ _. is_some (writer_if_any (open_file_at files.now fd)) ≡ true) result }
 {
     if tree.has_failed() {
         return Err(Error::Failed);

@@ -10,11 +10,11 @@ ghost use Rattle.lfs_model.specs.session.Writers.{turns_writer, written_writer};
 ghost use Rattle.lfs_model.specs.session.Refusals.{path_or_root, is_unusable};
 ghost use Rattle.lfs_file.specs.Known.{no_known_blocks};
 ghost use Rattle.lfs_fs.specs.RenamePaths.{open_prevents_rename};
-ghost use Rattle.lfs_tree.specs.OpenContents.{WritesUnusedBlocks};
+ghost use Rattle.lfs_tree.specs.OpenContents.{KeepsImage};
 ghost use Rattle.lfs_tree.specs.TreeState.{HasErrorCause, IsFailedTree, IsSoundState, SurvivesStops, TreeState, tree_view};
 ghost use Rattle.lfs_fs.specs.WriterChanges.{CanWriteBy, ChangesOnlyWriter, IsChangedWriter};
 ghost use Rattle.lfs_fs.specs.declared.files.Writer.{Writer as WriterSeen};
-ghost use Rattle.lfs_fs.specs.FileView.{change_end, open_file_at, files_view, is_open_where, is_unsaved_one, lowest_free, reserved_by_writers, reserved_by, reserved_for, file_with_known, file_with_position, runtime_files_with, open_reader, readers_among, is_unsaved_nonsequential, open_writer, writer_view, writers_among, kept_position};
+ghost use Rattle.lfs_fs.specs.FileView.{change_end, open_file_at, files_view, is_open_where, is_unsaved_one, lowest_free, reserved_by_writers, reserved_by, reserved_for, file_with_known, file_with_position, runtime_files_with, reader_if_any, readers_among, is_unsaved_nonsequential, writer_if_any, writer_view, writers_among, kept_position};
 
 use crate::owned_path::OwnedPath;
 use crate::writers::write_by_writer;
@@ -214,7 +214,7 @@ impl Files {
 
     /// Borrows the reader of that number.
     pub fn reader(&self, fd: u32) -> Option<&Reader>
-        ensures { option_map (λ r. r.now) result ≡ open_reader (open_file_at self.now fd) }
+        ensures { option_map (λ r. r.now) result ≡ reader_if_any (open_file_at self.now fd) }
     {
         match self.entries.get(fd as usize) {
             Some(Some(OpenFile::Reading(reader))) => Some(reader),
@@ -224,7 +224,7 @@ impl Files {
 
     // Borrows the writer of that number.
     pub(crate) fn writer(&self, fd: u32) -> Option<&Writer>
-        ensures { option_map (λ w. w.now) result ≡ open_writer (open_file_at self.now fd) }
+        ensures { option_map (λ w. w.now) result ≡ writer_if_any (open_file_at self.now fd) }
     {
         match self.entries.get(fd as usize) {
             Some(Some(OpenFile::Writing(writer))) => Some(writer),
@@ -303,7 +303,7 @@ impl Files {
     ) -> Result<(), Error>
         requires { (w : WriterSeen) × (open_file_at self.old fd ≡ Some (OpenFile.Writing w)) × CanWriteBy tree.old w bytes.now }
         ensures written { (w : WriterSeen) → open_file_at self.old fd ≡ Some (OpenFile.Writing w) → ChangesOnlyWriter self.old fd (λ v. OnOk result (IsChangedWriter tree.new (written_writer (writer_view tree.old w) bytes.now) v)) self.new }
-        ensures beside { OnOk result (WritesUnusedBlocks tree.old tree.new) }
+        ensures beside { OnOk result (KeepsImage tree.old tree.new) }
         ensures broken { OnErr result (IsFailedTree tree.old tree.new) }
         ensures errors { IfErr result (HasErrorCause tree.old tree.new) }
         ensures survives { IsSoundState tree.old → SurvivesStops tree.old tree.new (tree_view tree.old) }
@@ -332,7 +332,7 @@ impl Files {
 
     /// Returns whether a writer has that number, and contents of that size.
     pub fn has_sized_writer(&self, fd: u32, size: u32) -> bool
-        ensures { (w : _) → open_writer (open_file_at self.now fd) ≡ Some w → result ≡ (size == w.size) }
+        ensures { (w : _) → writer_if_any (open_file_at self.now fd) ≡ Some w → result ≡ (size == w.size) }
     {
         match self.writer(fd) {
             Some(writer) => size == writer.size,
@@ -424,7 +424,7 @@ fn write_in_table<D: BlockDevice>(
     requires { (w : WriterSeen) × (open_file_at entries.old.items index ≡ Some (OpenFile.Writing w)) × CanWriteBy tree.old w bytes.now }
     ensures written { (w : WriterSeen) → open_file_at entries.old.items index ≡ Some (OpenFile.Writing w) → ChangesOnlyWriter entries.old.items index (λ v. OnOk result (IsChangedWriter tree.new (written_writer (writer_view tree.old w) bytes.now) v)) entries.new.items }
     ensures len { vec_len entries.new ≡ vec_len entries.old }
-    ensures beside { OnOk result (WritesUnusedBlocks tree.old tree.new) }
+    ensures beside { OnOk result (KeepsImage tree.old tree.new) }
     ensures broken { OnErr result (IsFailedTree tree.old tree.new) }
     ensures errors { IfErr result (HasErrorCause tree.old tree.new) }
     ensures survives { IsSoundState tree.old → SurvivesStops tree.old tree.new (tree_view tree.old) }
@@ -570,7 +570,7 @@ fn reader_count(entries: &[Option<OpenFile>]) -> usize
 }
 
 fn is_reader(entry: &Option<OpenFile>) -> bool
-    ensures { result ≡ is_some (open_reader entry.now) }
+    ensures { result ≡ is_some (reader_if_any entry.now) }
 {
     matches!(entry, Some(OpenFile::Reading(_)))
 }

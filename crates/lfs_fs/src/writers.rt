@@ -2,7 +2,7 @@
 
 ghost use Rattle.std.specs.Prelude.{ℕ, List, [], true, ◌≡◌, length, IfErr, IfOk, IfSome, IsSome, OnErr, OnOk};
 ghost use Rattle.lfs_model.specs.session.Writers.{opened_writer, synced_writer, truncated_writer, written_writer};
-ghost use Rattle.lfs_tree.specs.OpenContents.{OverTreeFile, StoresBytesAt, WritesUnusedBlocks, writer_contents_bytes, kept_thread};
+ghost use Rattle.lfs_tree.specs.OpenContents.{OverTreeFile, StoresBytesAt, KeepsImage, writer_contents_bytes, kept_thread};
 ghost use Rattle.lfs_tree.specs.TreeState.{tree_view, OnlyReadsTree, IsFailedTree, IsApplied, FailedByReading, HasErrorCause, IsSoundState, LeavesOthersAlone, SurvivesStops};
 ghost use Rattle.lfs_file.specs.Contents.{contents_form};
 ghost use Rattle.lfs_fs.specs.WriterChanges.{CanOpenWriter, IsOpenedWriter, CanSaveWriter, CanTruncateBy, CanWriteBy, HasFileUnder, IsUnsavedForm, IsSavedWriter, IsChangedWriter};
@@ -62,7 +62,7 @@ pub(crate) fn write_by_writer<D: BlockDevice>(
 ) -> Result<(), Error>
     requires { CanWriteBy tree.old writer.old bytes.now }
     ensures written { OnOk result (IsChangedWriter tree.new (written_writer (writer_view tree.old writer.old) bytes.now) writer.new) }
-    ensures beside { OnOk result (WritesUnusedBlocks tree.old tree.new) }
+    ensures beside { OnOk result (KeepsImage tree.old tree.new) }
     ensures broken { OnErr result (IsFailedTree tree.old tree.new) }
     ensures errors { IfErr result (HasErrorCause tree.old tree.new) }
     ensures survives { IsSoundState tree.old → SurvivesStops tree.old tree.new (tree_view tree.old) }
@@ -94,7 +94,7 @@ pub(crate) fn writer_after_truncating<D: BlockDevice>(
 ) -> Result<Writer, Error>
     requires { CanTruncateBy tree.old writer new_size }
     ensures written { IfOk result (IsChangedWriter tree.new (truncated_writer (writer_view tree.old writer) new_size)) }
-    ensures beside { OnOk result (WritesUnusedBlocks tree.old tree.new) }
+    ensures beside { OnOk result (KeepsImage tree.old tree.new) }
     ensures broken { OnErr result (IsFailedTree tree.old tree.new) }
     ensures errors { IfErr result (HasErrorCause tree.old tree.new) }
     ensures survives { IsSoundState tree.old → SurvivesStops tree.old tree.new (tree_view tree.old) }

@@ -110,7 +110,7 @@ pub use Rattle.lfs_tag.specs.FieldsView.{move_view}
 pub use Rattle.lfs_thread.specs.CachedLog.{cached_log}
 pub use Rattle.lfs_thread.specs.Kept.{KeptThread, ThreadView}
 pub use Rattle.lfs_thread.specs.ThreadDevice.{LossLeavesCleanly}
-pub use Rattle.lfs_thread.specs.ThreadSteps.{BothOnDisk, CanChangePair, CanDropNext, CanSplitAt, CanThreadIn, HasOldPair, SameGeometryAs, IoMeantFaultNoMemoryKeptOtherBlocks, IoMeantFaultNoMemoryWroteNothing, RefusesCommit, IsThreadedIn, IsNextDropped, IsPairCommitted, IsSplitInTwo, IsPairWritten, OnlyReadsThread, LossLeavesPairChanged, LossLeavesPairSplit, LossLeavesThreadedIn, BeginWithSuperblock, PartsFitPairs, ChangesThreadBlocks, split_back_pair, map_freeing, map_using, tail_setting_change, complete_after, empty_anchor, split_front_pair, thread_pair_at, pairs_with, ThreadedInOnDisk, KeepsSuperblockFirst, fresh_with_tail, FreshInFlight, pairs_with_split}
+pub use Rattle.lfs_thread.specs.ThreadSteps.{BothOnDisk, CanChangePair, CanDropNext, CanSplitAt, CanThreadIn, HasOldPair, SameGeometryAs, IoMeantFaultNoMemoryKeptOtherBlocks, IoMeantFaultNoMemoryWroteNothing, RefusesChanges, IsThreadedIn, IsNextDropped, IsPairCommitted, IsSplitInTwo, IsPairWritten, OnlyReadsThread, LossLeavesPairChanged, LossLeavesPairSplit, LossLeavesThreadedIn, BeginWithSuperblock, PartsFitPairs, ChangesThreadBlocks, split_back_pair, map_freeing, map_using, tail_setting_change, complete_after, empty_anchor, split_front_pair, thread_pair_at, pairs_with, ThreadedInOnDisk, KeepsSuperblockFirst, fresh_with_tail, FreshInFlight, pairs_with_split}
 pub use Rattle.std.proofs.Common.{ℕ, zero, suc, ◌≡◌, ◌⊎◌, inl, inr, ◌+◌, ◌<◌, true, false, List, [], ◌∷◌, ◌++◌, length, Option, Some, refl, sym, ap, subst, ◌∙◌, arith, append_assoc, length-append, ◌-◌, ◌≤◌, Bool, None, nat_eq, get_or, ap₂, insert, cond, eqb-true, eq-eqb, subst₂, length-set, set, slice_get, not, remove, ◌^◌, take, drop, ◌==◌, ⊎_elim, Result, Ok, Err, sum_by, Less, map}
 pub use Rattle.std.proofs.lemmas.Bool.{and_parts, cases_lt, eqb-false, le-ltb, lt-ltb, ne_eqb}
 pub use Rattle.std.proofs.lemmas.List.{take-append-drop, append-nil, length-map, length-take-le}

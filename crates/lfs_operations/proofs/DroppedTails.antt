@@ -1,5 +1,5 @@
 -- What a pair that goes leaves to the one in front of it, as changes of that one.
-use Rattle.lfs_operations.proofs.Common.{ℕ, zero, suc, ◌≡◌, ◌+◌, ◌<◌, ◌&&◌, Bool, true, false, cond, not, inl, inr, ◌⊎◌, List, [], ◌∷◌, ◌++◌, length, Option, Some, None, refl, sym, ap, ap₂, subst, ◌∙◌, arith, get_or, set, remove, xor_lt, same_Some, Blocks, PutMove, PutTail, changed_content_of, RawContent, complete_content, content_after, content_at, has_commit, current_of_two, current_block, is_later, empty_raw_content, raw_content, Disk, disk_block, block_entries, block_revision, IsWellFormed, MoveStateFits, PairContent, FitsInPair, Gstate, Tail, gstate_xor, zero_gstate, Pair, pairs_gstate, tail_address_of, completed_from, completed_parts, Each, each_right, each_weaker, Does, does_first, does_nothing, puts_move, puts_tail, gstate_assoc, gstate_comm, gstate_cons, gstate_moved, gstate_right, gstate_self, logged, KeptThread, CanDropNext, IsNextDropped, LossLeavesPairChanged, RefusesCommit, IsPairWritten, complete_after, empty_anchor, thread_pair_at, tail_setting_change, pairs_with, option_and_then, slice_index, HoldBytes, IsAllowedTail, ends_tail, IsPairDropped, LeftByDrop, delta_after_drop, tail_after_drop, tail_over_drop, dropping_changes, content_after_drop}
+use Rattle.lfs_operations.proofs.Common.{ℕ, zero, suc, ◌≡◌, ◌+◌, ◌<◌, ◌&&◌, Bool, true, false, cond, not, inl, inr, ◌⊎◌, List, [], ◌∷◌, ◌++◌, length, Option, Some, None, refl, sym, ap, ap₂, subst, ◌∙◌, arith, get_or, set, remove, xor_lt, same_Some, Blocks, PutMove, PutTail, changed_content_of, RawContent, complete_content, content_after, content_at, has_commit, current_of_two, current_block, is_later, empty_raw_content, raw_content, Disk, disk_block, block_entries, block_revision, IsWellFormed, MoveStateFits, PairContent, FitsInPair, Gstate, Tail, gstate_xor, zero_gstate, Pair, pairs_gstate, tail_address_of, completed_from, completed_parts, Each, each_right, each_weaker, Does, does_first, does_nothing, puts_move, puts_tail, gstate_assoc, gstate_comm, gstate_cons, gstate_moved, gstate_right, gstate_self, logged, KeptThread, CanDropNext, IsNextDropped, LossLeavesPairChanged, RefusesChanges, IsPairWritten, complete_after, empty_anchor, thread_pair_at, tail_setting_change, pairs_with, option_and_then, slice_index, HoldBytes, IsAllowedTail, ends_tail, IsPairDropped, LeftByDrop, delta_after_drop, tail_after_drop, tail_over_drop, dropping_changes, content_after_drop}
 use Rattle.lfs_operations.proofs.Held.{completes_to}
 use Rattle.lfs_operations.proofs.Threads.{get_at, set_at}
 
@@ -191,7 +191,7 @@ module _ (t : KeptThread) (front : ℕ) (state : Gstate) (below : front + 1 < le
   parted = two_at t.pairs front below
 
   -- the slots stay, so it fits
-  pub drop_not_refused : FitsInPair t.disk.block_size t.disk.page (thread_pair_at t front).content → (new : KeptThread) → RefusesCommit t front (dropping_changes t front state) new → ⊥
+  pub drop_not_refused : FitsInPair t.disk.block_size t.disk.page (thread_pair_at t front).content → (new : KeptThread) → RefusesChanges t front (dropping_changes t front state) new → ⊥
   drop_not_refused fits new is = is.too_large (subst (FitsInPair t.disk.block_size t.disk.page) (same_Some (content_after_drop t front state) is.content (sym made ∙ is.made)) (record { size = fits.size; count = fits.count }))
 
   pub has_dropped : (new : KeptThread) → IsNextDropped t front (dropping_changes t front state) new → IsPairDropped t front state new

@@ -1,5 +1,5 @@
 -- An entry whose attributes change, as a step of the thread.
-use Rattle.lfs_operations.proofs.Common.{ℕ, ◌≡◌, ◌^◌, ◌<◌, ◌≤◌, true, false, List, [], ◌∷◌, ◌++◌, Some, refl, sym, ap, subst, ◌∙◌, arith, inl, Name, recursion_from_All, tree_with_change, PairChange, PutAttribute, RawSlot, attributes_with, attributes_without, Disk, CallEvent, Operation, SurvivesLossSince, Session, path_or_root, Attributes, Slot, is_superblock, same_pair, slot_size, Pair, blocks_of_pairs, Tree, IsTreeEntry, IsWellFormedCtz, IsWritableEntry, IsWritableSlot, LeadsTo, all_slots_not_moved, tree_on_disk, IsChangedImage, IsCompletion, recovered_from, commit_step, Each, each_right, number_count, puts_attribute, file_blocks_same, is_list_same, HoldsAtLosses-weaker, some_filled, Site, thread_at, begin_of, LossLeavesCleanly, KeptThread, CanChangePair, IsPairCommitted, LossLeavesPairChanged, RefusesCommit, All, removes_attribute, attributes_change, remove_attr_completed, set_attr_completed, CanTurn, LeftByTurn, IsTurned, CanEditIn, CanSetAttribute, HasRemovedAttribute, HasSetAttribute, editable_slot, tree_with_attributes_set, ShowsReadyTree}
+use Rattle.lfs_operations.proofs.Common.{ℕ, ◌≡◌, ◌^◌, ◌<◌, ◌≤◌, true, false, List, [], ◌∷◌, ◌++◌, Some, refl, sym, ap, subst, ◌∙◌, arith, inl, Name, recursion_from_All, tree_with_change, PairChange, PutAttribute, RawSlot, attributes_with, attributes_without, Disk, CallEvent, Operation, SurvivesLossSince, Session, path_or_root, Attributes, Slot, is_superblock, same_pair, slot_size, Pair, blocks_of_pairs, Tree, IsTreeEntry, IsWellFormedCtz, IsWritableEntry, IsWritableSlot, LeadsTo, all_slots_not_moved, tree_on_disk, IsChangedImage, IsCompletion, recovered_from, commit_step, Each, each_right, number_count, puts_attribute, file_blocks_same, is_list_same, HoldsAtLosses-weaker, some_filled, Site, thread_at, begin_of, LossLeavesCleanly, KeptThread, CanChangePair, IsPairCommitted, LossLeavesPairChanged, RefusesChanges, All, removes_attribute, attributes_change, remove_attr_completed, set_attr_completed, CanTurn, LeftByTurn, IsTurned, CanEditIn, CanSetAttribute, HasRemovedAttribute, HasSetAttribute, editable_slot, tree_with_attributes_set, ShowsReadyTree}
 use Rattle.lfs_model.specs.session.TreeEdits.{node_attributes_of, with_attributes}
 use Rattle.lfs_model.specs.layers.Changes.{RemoveAttribute}
 use Rattle.lfs_model.specs.session.Operations as ops
@@ -43,7 +43,7 @@ module _ (t : KeptThread) (index id : ℕ) (can : CanEditIn t index id) (f : Att
   pub can_put_attributes : CanTurn t index (change ∷ [])
   can_put_attributes = can_put t index id can g v change does turns fits
 
-  pub edit_not_refused : slot_size v ≤ slot_size u → (new : KeptThread) → RefusesCommit t index (change ∷ []) new → ⊥
+  pub edit_not_refused : slot_size v ≤ slot_size u → (new : KeptThread) → RefusesChanges t index (change ∷ []) new → ⊥
   edit_not_refused less = replacing.not_refused t index id can g v change does turns fits less
 
   there_now : t.pairs ≡ thread_at w (p ∷ [])
@@ -155,7 +155,7 @@ module _ (t : KeptThread) (index id kind : ℕ) (low : kind < 2 ^ 8) (can : CanE
   can_remove = (can_put_attributes t index id can (attributes_without kind) (RemoveAttribute id kind) remove_does still_fits).can
 
   -- so what the pair holds then fits, as what it held did
-  pub not_refused : (new : KeptThread) → RefusesCommit t index (RemoveAttribute id kind ∷ []) new → ⊥
+  pub not_refused : (new : KeptThread) → RefusesChanges t index (RemoveAttribute id kind ∷ []) new → ⊥
   not_refused new is = edit_not_refused t index id can (attributes_without kind) (RemoveAttribute id kind) remove_does still_fits
       (let n = fewer_attributes kind (editable_slot can).attributes in omega arith) new is
 

@@ -1,5 +1,5 @@
 -- A file that goes while its pair stays, as a step of the thread.
-use Rattle.lfs_operations.proofs.Common.{Err, Result, append_assoc, nat_eq, slice_get, ℕ, ◌≡◌, ◌≢◌, ◌⊎◌, inl, inr, ◌+◌, ◌<◌, ◌&&◌, not, Bool, true, false, eqb-true, List, [], ◌∷◌, ◌++◌, length, Some, refl, sym, ap, ap₂, subst, ◌∙◌, arith, append-nil, length-append, remove, sum_by, eqb-false, same_Some, sum_by-append, sum_by-cons, tree_removing, Free, InFlight, Delete, changed_content_of, RawContent, complete_content, raw_content, Disk, CallEvent, SurvivesLossSince, PairContent, FitsInPair, Slot, same_pair, slot_size, Pair, blocks_of_pairs, first_address, tail_address_of, Tree, struct_blocks, tree_on_disk, Name, IsChangedImage, IsCompletion, commit_step, recovered_from, complete_length, complete_remove, completed_from, completed_parts, count_append, deletes, does_first, does_nothing, HoldsAtLosses-weaker, Ends, file_goes, remove_here, same, same_number, site, pair_back, pair_on, IsPairAt, IsDistinct, Site, thread_at, ends_joined, LossLeavesCleanly, KeptThread, ThreadView, CanChangePair, IoMeantFaultNoMemoryWroteNothing, IsPairCommitted, LossLeavesPairChanged, RefusesCommit, complete_after, thread_pair_at, is_err, Error, option_and_then, remove_completed, CanEditIn, editable_slot, ShowsAfterDrops, ShowsUpdatedTree, CanRemoveIn, IsFileRemoved, ReportsErrorsOfCommitTakingNoBlock, drops_with_its_slot, tree_without_entry}
+use Rattle.lfs_operations.proofs.Common.{Err, Result, append_assoc, nat_eq, slice_get, ℕ, ◌≡◌, ◌≢◌, ◌⊎◌, inl, inr, ◌+◌, ◌<◌, ◌&&◌, not, Bool, true, false, eqb-true, List, [], ◌∷◌, ◌++◌, length, Some, refl, sym, ap, ap₂, subst, ◌∙◌, arith, append-nil, length-append, remove, sum_by, eqb-false, same_Some, sum_by-append, sum_by-cons, tree_removing, Free, InFlight, Delete, changed_content_of, RawContent, complete_content, raw_content, Disk, CallEvent, SurvivesLossSince, PairContent, FitsInPair, Slot, same_pair, slot_size, Pair, blocks_of_pairs, first_address, tail_address_of, Tree, struct_blocks, tree_on_disk, Name, IsChangedImage, IsCompletion, commit_step, recovered_from, complete_length, complete_remove, completed_from, completed_parts, count_append, deletes, does_first, does_nothing, HoldsAtLosses-weaker, Ends, file_goes, remove_here, same, same_number, site, pair_back, pair_on, IsPairAt, IsDistinct, Site, thread_at, ends_joined, LossLeavesCleanly, KeptThread, ThreadView, CanChangePair, IoMeantFaultNoMemoryWroteNothing, IsPairCommitted, LossLeavesPairChanged, RefusesChanges, complete_after, thread_pair_at, is_err, Error, option_and_then, remove_completed, CanEditIn, editable_slot, ShowsAfterDrops, ShowsUpdatedTree, CanRemoveIn, IsFileRemoved, ReportsErrorsOfCommitTakingNoBlock, drops_with_its_slot, tree_without_entry}
 use Rattle.lfs_model.specs.session.Operations as ops
 use Rattle.lfs_operations.proofs.Held.{CompletesTo, below, fits_there, here, raw_there}
 use Rattle.lfs_operations.proofs.Splicing.{Commits, IsSplicing}
@@ -130,7 +130,7 @@ module _ (t : KeptThread) (index id first : ℕ) (take : CanRemoveIn t index id 
       let n = f.count in
       record { size = omega arith; count = omega arith }
 
-  pub not_refused : (new : KeptThread) → RefusesCommit t index (Delete id ∷ []) new → ⊥
+  pub not_refused : (new : KeptThread) → RefusesChanges t index (Delete id ∷ []) new → ⊥
   not_refused new is = is.too_large (subst (FitsInPair t.disk.block_size t.disk.page) (sym (same_Some is.content now (sym is.made ∙ made))) still_fits)
 
   -- ---- in the image

@@ -1,5 +1,5 @@
 -- An entry that takes the place of a directory while the sync bit turns, as a step of the thread.
-use Rattle.lfs_operations.proofs.Common.{subst₂, ℕ, ◌≡◌, ◌⊎◌, inl, inr, ◌+◌, ◌≤◌, true, List, [], ◌∷◌, ◌++◌, length, Some, refl, sym, ap, ap₂, subst, ◌∙◌, arith, append_assoc, length-append, sum_by, insert, sum_by-append, sum_by-cons, same_Some, tree_renaming, PairChange, Delete, PutMove, changed_content_of, RawContent, RawSlot, complete_slots, complete_content, raw_content, Disk, CallEvent, HasName, MoveStateFits, Name, is_valid_name, SurvivesLossSince, PairContent, FitsInPair, Gstate, Slot, gstate_xor, slot_size, Pair, pairs_gstate, tail_address_of, IsTreeEntry, tree_on_disk, IsChangedImage, complete_insert, complete_length, completed_from, completed_parts, does_first, puts_move, gstate_comm, sync_bit_delta, turned_is, HoldsAtLosses-weaker, IsStep, insert_here, some_filled, renamed_addresses, site, Site, thread_at, IsWritableChange, LossLeavesCleanly, KeptThread, CanChangePair, IsPairCommitted, LossLeavesPairChanged, RefusesCommit, IsPairWritten, complete_after, thread_pair_at, option_and_then, struct_len, CanEditIn, id_after_removal, tree_renamed, CanReplaceDirectory, IsDirectoryReplaced, replace_directory_changes, HasSlot, NamelessSlot, nameless_of, slot_changes}
+use Rattle.lfs_operations.proofs.Common.{subst₂, ℕ, ◌≡◌, ◌⊎◌, inl, inr, ◌+◌, ◌≤◌, true, List, [], ◌∷◌, ◌++◌, length, Some, refl, sym, ap, ap₂, subst, ◌∙◌, arith, append_assoc, length-append, sum_by, insert, sum_by-append, sum_by-cons, same_Some, tree_renaming, PairChange, Delete, PutMove, changed_content_of, RawContent, RawSlot, complete_slots, complete_content, raw_content, Disk, CallEvent, HasName, MoveStateFits, Name, is_valid_name, SurvivesLossSince, PairContent, FitsInPair, Gstate, Slot, gstate_xor, slot_size, Pair, pairs_gstate, tail_address_of, IsTreeEntry, tree_on_disk, IsChangedImage, complete_insert, complete_length, completed_from, completed_parts, does_first, puts_move, gstate_comm, sync_bit_delta, turned_is, HoldsAtLosses-weaker, IsStep, insert_here, some_filled, renamed_addresses, site, Site, thread_at, IsWritableChange, LossLeavesCleanly, KeptThread, CanChangePair, IsPairCommitted, LossLeavesPairChanged, RefusesChanges, IsPairWritten, complete_after, thread_pair_at, option_and_then, struct_len, CanEditIn, id_after_removal, tree_renamed, CanReplaceDirectory, IsDirectoryReplaced, replace_directory_changes, HasSlot, NamelessSlot, nameless_of, slot_changes}
 use Rattle.lfs_operations.proofs.Held.{CompletesTo, below, here, raw_there}
 use Rattle.lfs_operations.proofs.RenameMade as made
 use Rattle.lfs_operations.proofs.RenameMade.{ComesAhead, ComesBehind, Leaves, behind_or_ahead}
@@ -307,7 +307,7 @@ module _ (t : KeptThread) (index id place : ℕ) (name : Name) (rename : CanRepl
   pub same_made : (z : PairContent) → complete_after t index (replace_directory_changes t index id place name) ≡ Some z → z ≡ over_content has_over.x has_over.y
   same_made z m = same_Some z (over_content has_over.x has_over.y) (sym m ∙ over_made has_over.x has_over.y has_over.over)
 
-  pub over_not_refused : (new : KeptThread) → RefusesCommit t index (replace_directory_changes t index id place name) new → ⊥
+  pub over_not_refused : (new : KeptThread) → RefusesChanges t index (replace_directory_changes t index id place name) new → ⊥
   over_not_refused new is = is.too_large (subst (FitsInPair t.disk.block_size t.disk.page) (sym (same_made is.content is.made)) (over_fits has_over.x has_over.y has_over.over))
 
   pub renamed_over : (new : KeptThread) → IsPairCommitted t index (replace_directory_changes t index id place name) new → IsDirectoryReplaced t new index id place rename.can.path rename.can.name name

@@ -1,5 +1,5 @@
 -- A pair that is changed after it was read.
-use Rattle.lfs_operations.proofs.Common.{ℕ, ◌≡◌, ◌⊎◌, inl, inr, false, Some, List, Result, Err, refl, sym, ap, subst, ◌∙◌, arith, Blocks, PairChange, CallEvent, OnlyReadsSince, fault_count, IsPairOfDirectory, with_blocks, Pair, LossLeavesAtWorst-read, AllCallsSince-behind, HoldsAtLosses-read_count, HoldsAtLosses-trans, HoldsAtLosses-weaker, OnlyReadsSince-trans, StayUnprogrammed-read_count, StayUnprogrammed-trans, LeftByLoss-read, LossLeavesCleanly, KeptThread, ThreadView, CanChangePair, IoMeantFaultNoMemoryWroteNothing, IsPairCommitted, LossLeavesPairChanged, OnlyReadsThread, RefusesCommit, ChangesThreadBlocks, thread_pair_at, IfErr, Error, Io, NoMemory, IsReadyImage, ReportsErrorsOfReadThenCommit, ReportsErrorsOfCommitTakingNoBlock}
+use Rattle.lfs_operations.proofs.Common.{ℕ, ◌≡◌, ◌⊎◌, inl, inr, false, Some, List, Result, Err, refl, sym, ap, subst, ◌∙◌, arith, Blocks, PairChange, CallEvent, OnlyReadsSince, fault_count, IsPairOfDirectory, with_blocks, Pair, LossLeavesAtWorst-read, AllCallsSince-behind, HoldsAtLosses-read_count, HoldsAtLosses-trans, HoldsAtLosses-weaker, OnlyReadsSince-trans, StayUnprogrammed-read_count, StayUnprogrammed-trans, LeftByLoss-read, LossLeavesCleanly, KeptThread, ThreadView, CanChangePair, IoMeantFaultNoMemoryWroteNothing, IsPairCommitted, LossLeavesPairChanged, OnlyReadsThread, RefusesChanges, ChangesThreadBlocks, thread_pair_at, IfErr, Error, Io, NoMemory, IsReadyImage, ReportsErrorsOfReadThenCommit, ReportsErrorsOfCommitTakingNoBlock}
 use Rattle.lfs_operations.proofs.Held.{here, holds}
 use Rattle.lfs_operations.proofs.Putting.{read_is, with_history, same_err}
 use Rattle.lfs_operations.proofs.RenameRead.{changed_earlier, written_earlier}
@@ -10,7 +10,7 @@ changed_after_read t mid new index changes only is = changed_earlier t mid.histo
 pub can_change_after_read : (t mid : KeptThread) (index : ℕ) (changes : List PairChange) → OnlyReadsThread t mid → CanChangePair t index changes → CanChangePair mid index changes
 can_change_after_read t mid index changes only can = subst (λ (k : KeptThread). CanChangePair k index changes) (sym (read_is t mid only)) (record { below = can.below; content = can.content; made = can.made; next = can.next })
 
-refused_earlier : (t : KeptThread) (h : List CallEvent) (new : KeptThread) (index : ℕ) (changes : List PairChange) → OnlyReadsSince t.disk.blocks t.history h → RefusesCommit (with_history t h) index changes new → RefusesCommit t index changes new
+refused_earlier : (t : KeptThread) (h : List CallEvent) (new : KeptThread) (index : ℕ) (changes : List PairChange) → OnlyReadsSince t.disk.blocks t.history h → RefusesChanges (with_history t h) index changes new → RefusesChanges t index changes new
 refused_earlier t h new index changes reads is = record {
   content = is.content;
   made = is.made;
@@ -18,8 +18,8 @@ refused_earlier t h new index changes reads is = record {
   only = record { disk = is.only.disk; reads = OnlyReadsSince-trans reads is.only.reads refl; pairs = is.only.pairs; map = is.only.map };
 }
 
-pub refused_after_read : (t mid new : KeptThread) (index : ℕ) (changes : List PairChange) → OnlyReadsThread t mid → RefusesCommit mid index changes new → RefusesCommit t index changes new
-refused_after_read t mid new index changes only is = refused_earlier t mid.history new index changes only.reads (subst (λ (k : KeptThread). RefusesCommit k index changes new) (read_is t mid only) is)
+pub refused_after_read : (t mid new : KeptThread) (index : ℕ) (changes : List PairChange) → OnlyReadsThread t mid → RefusesChanges mid index changes new → RefusesChanges t index changes new
+refused_after_read t mid new index changes only is = refused_earlier t mid.history new index changes only.reads (subst (λ (k : KeptThread). RefusesChanges k index changes new) (read_is t mid only) is)
 
 pub writes_earlier : (t : KeptThread) (h : List CallEvent) (new : KeptThread) (bs : List ℕ) → OnlyReadsSince t.disk.blocks t.history h → ChangesThreadBlocks bs (with_history t h) new → ChangesThreadBlocks bs t new
 writes_earlier t h new bs reads w = record {

@@ -1,5 +1,5 @@
 -- An entry that becomes another of the same name, as a step of the thread.
-use Rattle.lfs_operations.proofs.Common.{nat_eq, ℕ, ◌≡◌, ◌+◌, ◌<◌, ◌≤◌, true, false, List, [], ◌∷◌, ◌++◌, length, Some, refl, sym, ap, ap₂, subst, ◌∙◌, arith, length-append, set, sum_by, same_Some, sum_by-append, sum_by-cons, PairChange, changed_content_of, RawContent, RawSlot, raw_content, complete_slot, complete_content, changed_at, slot_of_id, CanSplit, Disk, SameGeometry, disk_block, IsPlaceOf, Slot, PairContent, FitsInPair, is_superblock, same_pair, slot_size, Pair, pairs_gstate, tail_address_of, IsTreeEntry, IsWellFormedCtz, IsWritableEntry, LeadsTo, all_slots_not_moved, struct_blocks, used_blocks, no_move_from, completed_parts, completed_from, Each, each_pieces, each_right, number_count, count_append, Does, does_first, does_nothing, SameFileBlocks, entry_small, site, thread_is, is_site, same, number_is, IsDistinct, IsInFlight, Site, dirs_at, thread_at, begin_of, unmoved_in, logged_changed, changed_pair, KeptThread, RefusesCommit, thread_pair_at, complete_after, is_some, option_and_then, IsNamed, set_here, CanTurn, CanEditIn, editable_slot}
+use Rattle.lfs_operations.proofs.Common.{nat_eq, ℕ, ◌≡◌, ◌+◌, ◌<◌, ◌≤◌, true, false, List, [], ◌∷◌, ◌++◌, length, Some, refl, sym, ap, ap₂, subst, ◌∙◌, arith, length-append, set, sum_by, same_Some, sum_by-append, sum_by-cons, PairChange, changed_content_of, RawContent, RawSlot, raw_content, complete_slot, complete_content, changed_at, slot_of_id, CanSplit, Disk, SameGeometry, disk_block, IsPlaceOf, Slot, PairContent, FitsInPair, is_superblock, same_pair, slot_size, Pair, pairs_gstate, tail_address_of, IsTreeEntry, IsWellFormedCtz, IsWritableEntry, LeadsTo, all_slots_not_moved, struct_blocks, used_blocks, no_move_from, completed_parts, completed_from, Each, each_pieces, each_right, number_count, count_append, Does, does_first, does_nothing, SameFileBlocks, entry_small, site, thread_is, is_site, same, number_is, IsDistinct, IsInFlight, Site, dirs_at, thread_at, begin_of, unmoved_in, logged_changed, changed_pair, KeptThread, RefusesChanges, thread_pair_at, complete_after, is_some, option_and_then, IsNamed, set_here, CanTurn, CanEditIn, editable_slot}
 use Rattle.lfs_model.proofs.Completed.{complete_set}
 use Rattle.lfs_model.proofs.Halves.{set_cut}
 use Rattle.lfs_model.proofs.Superblocks.{entry_is_other}
@@ -99,7 +99,7 @@ module _ (t : KeptThread) (index id : ℕ) (can : CanEditIn t index id) (g : Raw
       let number_count = f.count in
       record { size = omega arith; count = omega arith }
 
-  pub not_refused : slot_size v ≤ slot_size u → (new : KeptThread) → RefusesCommit t index (change ∷ []) new → ⊥
+  pub not_refused : slot_size v ≤ slot_size u → (new : KeptThread) → RefusesChanges t index (change ∷ []) new → ⊥
   not_refused less new is = is.too_large (subst (FitsInPair t.disk.block_size t.disk.page) (sym (same_Some is.content now (sym is.made ∙ made))) (fits_as_before less))
 
   pub can_put : CanTurn t index (change ∷ [])

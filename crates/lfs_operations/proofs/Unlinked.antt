@@ -1,5 +1,5 @@
 -- An entry that goes while the sync bit turns, as a change of its pair.
-use Rattle.lfs_operations.proofs.Common.{ℕ, ◌≡◌, ◌<◌, List, [], ◌∷◌, ◌++◌, length, Some, refl, sym, ap, ap₂, subst, ◌∙◌, arith, length-append, remove, sum_by, PairContent, same_Some, sum_by-append, sum_by-cons, Delete, PutMove, changed_content_of, RawContent, complete_content, raw_content, MoveStateFits, FitsInPair, Gstate, Slot, gstate_xor, slot_size, Pair, complete_length, complete_remove, completed_from, completed_parts, deletes, does_first, does_nothing, puts_move, sync_bit_delta, remove_here, KeptThread, CanChangePair, RefusesCommit, complete_after, thread_pair_at, option_and_then, CanEditIn, unlink_changes}
+use Rattle.lfs_operations.proofs.Common.{ℕ, ◌≡◌, ◌<◌, List, [], ◌∷◌, ◌++◌, length, Some, refl, sym, ap, ap₂, subst, ◌∙◌, arith, length-append, remove, sum_by, PairContent, same_Some, sum_by-append, sum_by-cons, Delete, PutMove, changed_content_of, RawContent, complete_content, raw_content, MoveStateFits, FitsInPair, Gstate, Slot, gstate_xor, slot_size, Pair, complete_length, complete_remove, completed_from, completed_parts, deletes, does_first, does_nothing, puts_move, sync_bit_delta, remove_here, KeptThread, CanChangePair, RefusesChanges, complete_after, thread_pair_at, option_and_then, CanEditIn, unlink_changes}
 use Rattle.lfs_operations.proofs.DroppedTails.{move_xor}
 use Rattle.lfs_operations.proofs.Held.{CompletesTo, below, fits_there, here, raw_there}
 
@@ -93,5 +93,5 @@ module _ (t : KeptThread) (index id : ℕ) (can : CanEditIn t index id) where
       let n = fits_held.count in
       record { size = omega arith; count = omega arith }
 
-  pub unlink_not_refused : (new : KeptThread) → RefusesCommit t index (unlink_changes t index id) new → ⊥
+  pub unlink_not_refused : (new : KeptThread) → RefusesChanges t index (unlink_changes t index id) new → ⊥
   unlink_not_refused new is = is.too_large (subst (FitsInPair t.disk.block_size t.disk.page) (same_Some (content_without_entry t index id) is.content (sym unlink_made ∙ is.made)) fits_gone)

@@ -16,7 +16,7 @@ use Rattle.lfs_model.specs.layers.Cut.{CanSplit}
 use Rattle.lfs_pair.specs.Commits.{changed_pair}
 use Rattle.lfs_pair.specs.Split.{KeepsOutsideBoth}
 use Rattle.lfs_thread.specs.Kept.{KeptThread, ThreadView}
-use Rattle.lfs_thread.specs.ThreadSteps.{thread_pair_at, complete_after, CanChangePair, RefusesCommit, SameGeometryAs, IsPairCommitted, LossLeavesPairChanged, LossLeavesPairSplit, OnlyReadsThread, OnlyReadsDevice, PartsFitPairs, ChangesThreadBlocks, split_front_pair, split_back_pair, map_using, pairs_with_split}
+use Rattle.lfs_thread.specs.ThreadSteps.{thread_pair_at, complete_after, CanChangePair, RefusesChanges, SameGeometryAs, IsPairCommitted, LossLeavesPairChanged, LossLeavesPairSplit, OnlyReadsThread, OnlyReadsDevice, PartsFitPairs, ChangesThreadBlocks, split_front_pair, split_back_pair, map_using, pairs_with_split}
 
 -- ---- free blocks
 
@@ -82,7 +82,7 @@ pub record CanTurn (t : KeptThread) (index : ℕ) (changes : List PairChange) : 
 -- There is a pair at the index. What the changes make of it fits it, and has a tail that names the same pair as before.
 pub record CanCommit (t : KeptThread) (index : ℕ) (changes : List PairChange) : Type 0 where
   pub can : CanChangePair t index changes
-  pub fits : (new : KeptThread) → RefusesCommit t index changes new → ⊥
+  pub fits : (new : KeptThread) → RefusesChanges t index changes new → ⊥
 
 -- The pair and a fresh one, in two blocks that were free, have the two parts. Everything else is as it was.
 pub record IsSplitInto (old : KeptThread) (index : ℕ) (fresh : ℕ × ℕ) (changes : List PairChange) (new : KeptThread) : Type 0 where

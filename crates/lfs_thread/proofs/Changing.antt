@@ -28,7 +28,7 @@ use Rattle.lfs_pair.specs.Commits.{CanCommit, CommitsChanges, PairHas, AddressIs
 use Rattle.lfs_model.specs.tree.View.{superblock_entry}
 use Rattle.lfs_model.proofs.FirstEntries.{superblock_anew}
 use Rattle.lfs_thread.specs.Kept.{PairHeader, kept_view, disk_pair_at, pairs_of_headers, IsHeader, AreHeaders, AllBlocksUsed, IsKeptOnDisk}
-use Rattle.lfs_thread.specs.ThreadSteps.{thread_pair_at, empty_anchor, complete_after, CanChangePair, pairs_with, KeepsSuperblockFirst, IsPairWritten, IsPairCommitted, OnlyReadsThread, RefusesCommit, LossLeavesPairChanged}
+use Rattle.lfs_thread.specs.ThreadSteps.{thread_pair_at, empty_anchor, complete_after, CanChangePair, pairs_with, KeepsSuperblockFirst, IsPairWritten, IsPairCommitted, OnlyReadsThread, RefusesChanges, LossLeavesPairChanged}
 use Rattle.lfs_thread.proofs.Keeping.{IsAsItWas, header_same, kept_thread, headers_right, header_content, pair_on_content, used_left, used_right, IsReplaced, pairs_are, kept_replaced}
 
 -- ---- the header at an index
@@ -323,7 +323,7 @@ full_read disk new before after hs sets index h same a e f reads = record {
 pub refused : (disk new : Disk) (before after : List CallEvent) (hs : List PairHeader) (sets : BlockStates) (index : ℕ) (h same : PairHeader) (changes : List PairChange) (c : PairContent) → IsAt hs index h
     → complete_after (kept_view disk before hs sets) index changes ≡ Some c
     → ((raw : RawContent) (d : PairContent) → changed_pair disk (header_address h) changes ≡ Some raw → complete_content raw ≡ Some d → FitsInPair disk.block_size disk.page d → ⊥)
-    → new ≡ disk → same ≡ h → OnlyReadsSince disk.blocks before after → RefusesCommit (kept_view disk before hs sets) index changes (kept_view new after (set hs index same) sets)
+    → new ≡ disk → same ≡ h → OnlyReadsSince disk.blocks before after → RefusesChanges (kept_view disk before hs sets) index changes (kept_view new after (set hs index same) sets)
 refused disk new before after hs sets index h same changes c a made too_large e f reads =
     let m = made_of_header disk before hs sets index h changes c a made in
     record {

@@ -16,7 +16,7 @@ use Rattle.lfs_thread.specs.ThreadDevice.{LossLeavesCleanly}
 use Rattle.lfs_thread.specs.Kept.{KeptThread}
 use Rattle.lfs_thread.specs.Moves.{CanMoveNext, IsNextMoved, LossLeavesNextMoved, NextMovedOnDisk}
 use Rattle.lfs_thread.specs.Unloads.{CanUnload, IsUnloaded, LossLeavesUnloaded, UnloadedOnDisk}
-use Rattle.lfs_thread.specs.ThreadSteps.{BothOnDisk, CanChangePair, CanDropNext, CanSplitAt, CanThreadIn, HasOldPair, SameGeometryAs, RefusesCommit, IsThreadedIn, ThreadedInOnDisk, IsNextDropped, IsPairCommitted, IsSplitInTwo, IsPairWritten, RefusesThreadingIn, LossLeavesPairChanged, LossLeavesPairSplit, LossLeavesThreadedIn, PartsFitPairs}
+use Rattle.lfs_thread.specs.ThreadSteps.{BothOnDisk, CanChangePair, CanDropNext, CanSplitAt, CanThreadIn, HasOldPair, SameGeometryAs, RefusesChanges, IsThreadedIn, ThreadedInOnDisk, IsNextDropped, IsPairCommitted, IsSplitInTwo, IsPairWritten, RefusesThreadingIn, LossLeavesPairChanged, LossLeavesPairSplit, LossLeavesThreadedIn, PartsFitPairs}
 
 -- the same thread, with its names in that order
 abbrev pub in_order : NameOrder → KeptThread → KeptThread
@@ -62,7 +62,7 @@ module _ (order : NameOrder) where
     map = is.map;
   }
 
-  pub refused_in : (old new : KeptThread) (index : ℕ) (changes : List PairChange) → RefusesCommit old index changes new → RefusesCommit (in_order order old) index changes (in_order order new)
+  pub refused_in : (old new : KeptThread) (index : ℕ) (changes : List PairChange) → RefusesChanges old index changes new → RefusesChanges (in_order order old) index changes (in_order order new)
   refused_in old new index changes is = record {
     content = is.content;
     made = is.made;

@@ -119,7 +119,7 @@ pub record IsPairCommitted (old : KeptThread) (index : ℕ) (changes : List Pair
   pub map : new.map ≡ old.map
 
 -- A commit that is refused: what the changes make doesn't fit, and nothing was written.
-pub record RefusesCommit (old : KeptThread) (index : ℕ) (changes : List PairChange) (new : KeptThread) : Type 0 where
+pub record RefusesChanges (old : KeptThread) (index : ℕ) (changes : List PairChange) (new : KeptThread) : Type 0 where
   pub content : PairContent
   pub made : complete_after old index changes ≡ Some content
   pub too_large : ¬ FitsInPair old.disk.block_size old.disk.page content

@@ -6,7 +6,7 @@ ghost use Rattle.lfs_pair.specs.ChangeView.{changes_view};
 ghost use Rattle.lfs_thread.specs.ThreadDevice.{LossLeavesCleanly, IoMeansFaultNoMemoryWritesNothing};
 ghost use Rattle.lfs_thread.specs.Kept.{IsCacheCurrent, IsKept, kept_of_device};
 ghost use Rattle.lfs_thread.specs.CachedLog.{cached_block_log, reads_unless_cached};
-ghost use Rattle.lfs_thread.specs.ThreadSteps.{CanDropNext, IsNextDropped, LossLeavesPairChanged, RefusesCommit, thread_pair_at};
+ghost use Rattle.lfs_thread.specs.ThreadSteps.{CanDropNext, IsNextDropped, LossLeavesPairChanged, RefusesChanges, thread_pair_at};
 ghost use Rattle.lfs_model.specs.format.Thread.{address_blocks};
 
 use crate::commits::commit_with_cache;
@@ -34,7 +34,7 @@ pub(crate) fn drop_next_pair<D: BlockDevice>(
     ensures current { IsCacheCurrent (D.blocks device.new) cache.new }
     ensures is_dropped { result ≡ Ok Outcome.Done → IsNextDropped (kept_of_device D.BlockDevice device.old pairs.old.items map.old) index (changes_view changes.now)
         (kept_of_device D.BlockDevice device.new pairs.new.items map.new) }
-    ensures full { result ≡ Ok Outcome.Full → RefusesCommit (kept_of_device D.BlockDevice device.old pairs.old.items map.old) index (changes_view changes.now)
+    ensures full { result ≡ Ok Outcome.Full → RefusesChanges (kept_of_device D.BlockDevice device.old pairs.old.items map.old) index (changes_view changes.now)
         (kept_of_device D.BlockDevice device.new pairs.new.items map.new) }
     ensures device { ChangesOnlyBlocksWithinReadLimit D.BlockDevice (1 + reads_unless_cached (cached_block_log (kept_of_device D.BlockDevice device.old pairs.old.items map.old) cache.old index)) (address_blocks (thread_pair_at (kept_of_device D.BlockDevice device.old pairs.old.items map.old) index).at) device.old device.new }
     ensures errors { IoMeansFaultNoMemoryWritesNothing D.BlockDevice device.old device.new result }

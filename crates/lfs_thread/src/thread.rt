@@ -21,7 +21,7 @@ ghost use Rattle.lfs_thread.specs.Moves.{CanMoveNext, IsNextMoved, LossLeavesNex
 ghost use Rattle.lfs_thread.specs.MountErrors.{IsViolationTrue, error_of_mount};
 ghost use Rattle.lfs_thread.specs.HeaderReading.{IsThreadReadFromDevice};
 ghost use Rattle.lfs_thread.specs.Unloads.{CanUnload, IsUnloaded, LossLeavesUnloaded};
-ghost use Rattle.lfs_thread.specs.ThreadSteps.{CanSplitAt, CanChangePair, CanDropNext, CanThreadIn, IoMeantFaultNoMemoryWroteNothing, IoMeantFaultNoMemoryKeptOtherBlocks, RefusesThreadingIn, IsThreadedIn, LossLeavesThreadedIn, IsPairCommitted, IsNextDropped, LossLeavesPairChanged, LossLeavesPairSplit, OnlyReadsThread, RefusesCommit, IsSplitInTwo, ChangesWithinReads, thread_pair_at};
+ghost use Rattle.lfs_thread.specs.ThreadSteps.{CanSplitAt, CanChangePair, CanDropNext, CanThreadIn, IoMeantFaultNoMemoryWroteNothing, IoMeantFaultNoMemoryKeptOtherBlocks, RefusesThreadingIn, IsThreadedIn, LossLeavesThreadedIn, IsPairCommitted, IsNextDropped, LossLeavesPairChanged, LossLeavesPairSplit, OnlyReadsThread, RefusesChanges, IsSplitInTwo, ChangesWithinReads, thread_pair_at};
 
 use crate::commits::commit_with_cache;
 use crate::deltas::headers_gstate;
@@ -400,7 +400,7 @@ impl<D: BlockDevice> Thread<D> {
         requires works { self.old.failed ≡ false }
         requires can { CanChangePair self.old.kept index (changes_view changes.now) }
         ensures done { result ≡ Ok Outcome.Done → IsPairCommitted self.old.kept index (changes_view changes.now) self.new.kept }
-        ensures full { result ≡ Ok Outcome.Full → RefusesCommit self.old.kept index (changes_view changes.now) self.new.kept }
+        ensures full { result ≡ Ok Outcome.Full → RefusesChanges self.old.kept index (changes_view changes.now) self.new.kept }
         ensures failed { self.new.failed ≡ is_err result }
         ensures errors { IoMeantFaultNoMemoryWroteNothing self.old.kept self.new.kept result }
         ensures device { ChangesWithinReads (1 + reads_unless_cached (cached_log self.old index)) (address_blocks (thread_pair_at self.old.kept index).at) self.old.kept self.new.kept }
@@ -505,7 +505,7 @@ impl<D: BlockDevice> Thread<D> {
         requires works { self.old.failed ≡ false }
         requires can { CanDropNext self.old.kept index (changes_view changes.now) }
         ensures done { result ≡ Ok Outcome.Done → IsNextDropped self.old.kept index (changes_view changes.now) self.new.kept }
-        ensures full { result ≡ Ok Outcome.Full → RefusesCommit self.old.kept index (changes_view changes.now) self.new.kept }
+        ensures full { result ≡ Ok Outcome.Full → RefusesChanges self.old.kept index (changes_view changes.now) self.new.kept }
         ensures failed { self.new.failed ≡ is_err result }
         ensures errors { IoMeantFaultNoMemoryWroteNothing self.old.kept self.new.kept result }
         ensures device { ChangesWithinReads (1 + reads_unless_cached (cached_log self.old index)) (address_blocks (thread_pair_at self.old.kept index).at) self.old.kept self.new.kept }

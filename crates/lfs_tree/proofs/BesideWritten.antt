@@ -26,7 +26,7 @@ use Rattle.lfs_model.proofs.Files.{SameFileBlocks, file_blocks_same}
 use Rattle.lfs_tree.specs.ThreadContents.{CanTruncate, CanWrite, HasContents, KeepsPairs, ReportsFaultOrNoMemory, contents_list_blocks}
 use Rattle.lfs_thread.specs.Kept.{KeptThread, ThreadView}
 use Rattle.lfs_tree.specs.RootedThreads.{SoundUnlessFailed, IsSoundWithRoot, kept_state, thread_state}
-use Rattle.lfs_tree.specs.OpenContents.{CanTruncateWriterContents, CanWriteWriterContents, OverThreadFile, WritesOnlyUnusedBlocksOrFails, WritesUnusedBlocks, slot_list_blocks, writer_contents_bytes, list_blocks_at}
+use Rattle.lfs_tree.specs.OpenContents.{CanTruncateWriterContents, CanWriteWriterContents, OverThreadFile, WritesOnlyUnusedBlocksOrFails, KeepsImage, slot_list_blocks, writer_contents_bytes, list_blocks_at}
 use Rattle.lfs_tree.specs.TreeState.{IsFailedTree, HasErrorCause, IsSoundState, TreeState}
 use Rattle.lfs_tree.proofs.BesideImage.{files_still, geometry_back, still_follows, used_still, writable_on}
 use Rattle.lfs_tree.proofs.SameErrors.{same_error}
@@ -114,7 +114,7 @@ module _ (a b : ThreadView) (root : ℕ) (writable : Bool) (h : IsSoundWithRoot 
   pub rooted_beside : IsSoundWithRoot b root writable
   rooted_beside = record { works = still; sound = sound_beside a.kept b.kept writable leaves sound; root_is = h.root_is ∙ ap pair_count_before_root (sym leaves.pairs) }
 
-  written_beside : (r : Result WriterContents Error) → ReportsFaultOrNoMemory a.kept b.kept r → OnOk r (WritesUnusedBlocks (thread_state a writable) (thread_state (behind b r) writable))
+  written_beside : (r : Result WriterContents Error) → ReportsFaultOrNoMemory a.kept b.kept r → OnOk r (KeepsImage (thread_state a writable) (thread_state (behind b r) writable))
   written_beside (Err e) t = tt
   written_beside (Ok c) t =
       let s = sound_beside a.kept b.kept writable leaves sound in

@@ -28,7 +28,8 @@ use Rattle.lfs_thread.specs.Kept.{KeptThread}
 use Rattle.lfs_thread.specs.ThreadSteps.{SameGeometryAs, ChangesThreadBlocks, thread_pair_at}
 use Rattle.lfs_operations.specs.MovingSteps.{WritesThreadFree}
 use Rattle.lfs_lookup.specs.Entry.{IsStorage}
-use Rattle.lfs_tree.specs.Removals.{CanFreeList, list_of_storage}
+use Rattle.lfs_tree.specs.Removals.{CanFreeList}
+use Rattle.lfs_tree.specs.Stores.{list_in_storage}
 use Rattle.lfs_lookup.specs.declared.entry.FileStorage.{FileStorage}
 use Rattle.lfs_lookup.specs.declared.entry.FileStorage.TheVariants as shown
 use Rattle.lfs_tree.proofs.Carried.{behind_below, pair_blocks}
@@ -128,17 +129,17 @@ files_stay old mid index id first can w = each_from_counted (λ b. disk_block mi
 module _ (old mid : KeptThread) (index id : ℕ) (can : CanEditIn old index id) (contents : FileStorage) (shows : IsStorage contents (editable_slot can).struct) (geometry : SameGeometry old.disk mid.disk)
     (same : SameFileBlocks old.disk mid.disk (editable_slot can).struct) (ready : IsReadyUpdated mid (struct_blocks old.disk (editable_slot can).struct) [])
     (once : (b : ℕ) → number_count b (used_blocks mid.disk mid.pairs) + number_count b (struct_blocks old.disk (editable_slot can).struct) ≤ 1) where
-  list_is : thread_list_blocks mid (list_of_storage contents) ≡ struct_blocks old.disk (editable_slot can).struct
+  list_is : thread_list_blocks mid (list_in_storage contents) ≡ struct_blocks old.disk (editable_slot can).struct
   list_is = go contents shows
     where
-      go : (c : FileStorage) → IsStorage c (editable_slot can).struct → thread_list_blocks mid (list_of_storage c) ≡ struct_blocks old.disk (editable_slot can).struct
+      go : (c : FileStorage) → IsStorage c (editable_slot can).struct → thread_list_blocks mid (list_in_storage c) ≡ struct_blocks old.disk (editable_slot can).struct
       go (shown.Inline len) h = ap (struct_blocks old.disk) (sym h.1.0)
       go (shown.List head size) h = ap (struct_blocks mid.disk) (sym h) ∙ file_blocks_same old.disk mid.disk (editable_slot can).struct geometry same
 
-  base_there : IsListOrEmpty mid.disk.blocks mid.disk.block_size (list_of_storage contents).head (list_of_storage contents).size
+  base_there : IsListOrEmpty mid.disk.blocks mid.disk.block_size (list_in_storage contents).head (list_in_storage contents).size
   base_there = go contents shows
     where
-      go : (c : FileStorage) → IsStorage c (editable_slot can).struct → IsListOrEmpty mid.disk.blocks mid.disk.block_size (list_of_storage c).head (list_of_storage c).size
+      go : (c : FileStorage) → IsStorage c (editable_slot can).struct → IsListOrEmpty mid.disk.blocks mid.disk.block_size (list_in_storage c).head (list_in_storage c).size
       go (shown.Inline len) h = inl refl
       go (shown.List head size) h = inr (subst (IsWellFormedCtz mid.disk) h (is_list_same old.disk mid.disk (editable_slot can).struct geometry same (list_there old index id can)))
 
@@ -157,14 +158,14 @@ beside_is a b r =
     ∙ ap (λ (ps : List Pair). let k : KeptThread = record { disk = a.disk; history = b.history; pairs = ps; map = b.map } in k) r.pairs
 
 module _ (t : KeptThread) (contents : FileStorage) (can : CanFreeList t contents) where
-  pub can_settle : CanSettleFile t (list_of_storage contents) empty_list
+  pub can_settle : CanSettleFile t (list_in_storage contents) empty_list
   can_settle = record {
     was = can.list;
     list = inl refl;
     size = can.ready.size;
     apart = λ b has lists.
         let a = number_count-Contains (blocks_of_pairs t.pairs) b has in
-        let l = number_count-Contains can.gone b (subst (λ z. Contains z b) (append-nil (thread_list_blocks t (list_of_storage contents)) ∙ can.are) lists) in
+        let l = number_count-Contains can.gone b (subst (λ z. Contains z b) (append-nil (thread_list_blocks t (list_in_storage contents)) ∙ can.are) lists) in
         let e = count_append b (blocks_of_pairs t.pairs) (file_blocks t.disk (all_slots_not_moved t.pairs)) in
         let o = can.once b in
         absurd (omega arith);
@@ -172,7 +173,7 @@ module _ (t : KeptThread) (contents : FileStorage) (can : CanFreeList t contents
   }
 
   -- where there is no list, nothing is to be done
-  pub none_freed : thread_list_blocks t (list_of_storage contents) ≡ [] → IsReadyImage t
+  pub none_freed : thread_list_blocks t (list_in_storage contents) ≡ [] → IsReadyImage t
   none_freed none = record {
     accepted = can.ready.accepted;
     writable = can.ready.writable;
@@ -185,11 +186,11 @@ module _ (t : KeptThread) (contents : FileStorage) (can : CanFreeList t contents
     large = can.ready.large;
   }
 
-  module _ (history : List CallEvent) (map : BlockStates) (settled : IsListSettled t (list_of_storage contents) empty_list (with_map t history map))
+  module _ (history : List CallEvent) (map : BlockStates) (settled : IsListSettled t (list_in_storage contents) empty_list (with_map t history map))
       (law : (sets later : BlockStates) (owned used before now gone come : List ℕ) → AreUsed sets owned → ((b : ℕ) → number_count b owned ≤ 1) → ((b : ℕ) → number_count b owned + number_count b come ≡ number_count b used + number_count b gone)
       → ((b : ℕ) → number_count b now + number_count b gone ≡ number_count b come + number_count b before) → ((b : ℕ) → Contains now b → Contains used b) → SettlesList sets later before now → AreUsed later used) where
     used_now : AreUsed map (used_blocks t.disk t.pairs)
-    used_now = law t.map map can.ready.used.owned (used_blocks t.disk t.pairs) (thread_list_blocks t (list_of_storage contents)) (thread_list_blocks t empty_list) can.gone []
+    used_now = law t.map map can.ready.used.owned (used_blocks t.disk t.pairs) (thread_list_blocks t (list_in_storage contents)) (thread_list_blocks t empty_list) can.gone []
         can.ready.used.are (λ b. let e = can.ready.used.same b in let o = can.once b in omega arith) can.ready.used.same
         (λ b. let e = ap (number_count b) can.are in omega arith) (λ b h. let k = number_count-Contains [] b h in absurd (omega arith)) settled
 
@@ -214,10 +215,10 @@ module _ (t : KeptThread) (contents : FileStorage) (can : CanFreeList t contents
             let free = settled.freed b (subst (λ z. Contains z b) (sym can.are) (Contains-number_count can.gone b some)) (All-from_recursion (λ x. x ≢ b) [] tt) in
             ((λ flies. absurd (not_free map b free flies)), (λ flies. absurd (not_both t.map b was flies)))
         go (inr never) =
-            let same = settled.others b (All-from_recursion (λ x. x ≢ b) (thread_list_blocks t (list_of_storage contents)) (subst (Each (λ x. x ≢ b)) (sym can.are) (none_there b can.gone never))) (All-from_recursion (λ x. x ≢ b) [] tt) in
+            let same = settled.others b (All-from_recursion (λ x. x ≢ b) (thread_list_blocks t (list_in_storage contents)) (subst (Each (λ x. x ≢ b)) (sym can.are) (none_there b can.gone never))) (All-from_recursion (λ x. x ≢ b) [] tt) in
             ((λ flies. sym same ∙ flies), (λ flies. same ∙ flies))
 
-  module _ (new : KeptThread) (only : ChangesOnlyMap t new) (settled : IsListSettled t (list_of_storage contents) empty_list new)
+  module _ (new : KeptThread) (only : ChangesOnlyMap t new) (settled : IsListSettled t (list_in_storage contents) empty_list new)
       (law : (sets later : BlockStates) (owned used before now gone come : List ℕ) → AreUsed sets owned → ((b : ℕ) → number_count b owned ≤ 1) → ((b : ℕ) → number_count b owned + number_count b come ≡ number_count b used + number_count b gone)
       → ((b : ℕ) → number_count b now + number_count b gone ≡ number_count b come + number_count b before) → ((b : ℕ) → Contains now b → Contains used b) → SettlesList sets later before now → AreUsed later used) where
     pub freed_ready : IsReadyImage new

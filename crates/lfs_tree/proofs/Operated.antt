@@ -18,7 +18,7 @@ use Rattle.lfs_thread.specs.Kept.{KeptThread, ThreadView}
 use Rattle.lfs_thread.specs.ThreadSteps.{ChangesThreadBlocks}
 use Rattle.lfs_tree.specs.TreeCalls as call
 use Rattle.lfs_tree.specs.TreeCalls.{IsOperationCall, tree_after_call}
-use Rattle.lfs_tree.specs.TreeChanges.{AppliesOperation, HasFurtherCalls, CanChangeRecovered, ChangesTreeOrFails, HasSoundImage, SurvivesEither, ReportsFaults}
+use Rattle.lfs_tree.specs.TreeChanges.{AppliesOperation, HasFurtherCalls, CanChangeRecovered, ChangesTreeOrFails, HasSoundImage, SurvivesEither, HasThreadCause}
 use Rattle.lfs_tree.specs.SlotChanges.{tree_with_attributes}
 use Rattle.lfs_tree.specs.RootedThreads.{kept_state}
 use Rattle.lfs_tree.specs.TreeState.{tree_summary}
@@ -108,7 +108,7 @@ pub quiet_reported : {X : Type 0} (a c : KeptThread) (h : List CallEvent) (r : R
 quiet_reported a c h (Ok x) same t = t.no_fault (λ io. absurd (cc)) ∙ same
 quiet_reported a c h (Err e) same t = tt
 
-errors_reported : {X : Type 0} (a c : KeptThread) (h : List CallEvent) (r : Result X Error) → fault_count h ≡ fault_count a.history → ReportsFaultsSince h c.history r → IfErr r (ReportsFaults a c)
+errors_reported : {X : Type 0} (a c : KeptThread) (h : List CallEvent) (r : Result X Error) → fault_count h ≡ fault_count a.history → ReportsFaultsSince h c.history r → IfErr r (HasThreadCause a c)
 errors_reported a c h (Ok x) same t = tt
 errors_reported {X} a c h (Err e) same t = (let r : Result X Error = Err e in reports_error a c h r e same t refl)
 
@@ -148,5 +148,5 @@ only_read_change {X} t root rests mid Done after r e is k =
     }
 
 -- one that failed
-pub failed_change : {X : Type 0} (t new : ThreadView) (Done : KeptThread → Type 0) (after : Tree) (r : Result X Error) (e : Error) → r ≡ Err e → HasFurtherCalls t.kept new.kept → ReportsFaults t.kept new.kept e → SurvivesEither t.kept new.kept after → ChangesTreeOrFails t Done after r new
+pub failed_change : {X : Type 0} (t new : ThreadView) (Done : KeptThread → Type 0) (after : Tree) (r : Result X Error) (e : Error) → r ≡ Err e → HasFurtherCalls t.kept new.kept → HasThreadCause t.kept new.kept e → SurvivesEither t.kept new.kept after → ChangesTreeOrFails t Done after r new
 failed_change {X} t new Done after r e is called reported survives = subst (λ (z : Result X Error). ChangesTreeOrFails t Done after z new) (sym is) (record { done = tt; works = tt; stands = tt; called = called; errors = reported; survives = survives })

@@ -41,7 +41,7 @@ use Rattle.lfs_operations.specs.EndingMove.{CanEndMove, HasEndedMove}
 use Rattle.lfs_operations.proofs.RecoverMap.{count_used}
 use Rattle.lfs_thread.specs.Kept.{KeptThread, ThreadView}
 use Rattle.lfs_thread.specs.ThreadSteps.{IoMeantFaultNoMemoryWroteNothing, OnlyReadsThread, ChangesThreadBlocks}
-use Rattle.lfs_tree.specs.TreeChanges.{AppliesOperation, HasFurtherCalls, SurvivesEither, ReportsFaults}
+use Rattle.lfs_tree.specs.TreeChanges.{AppliesOperation, HasFurtherCalls, SurvivesEither, HasThreadCause}
 use Rattle.lfs_tree.specs.RootedThreads.{SoundUnlessFailed, IsSoundWithRoot, kept_state, thread_state}
 use Rattle.lfs_tree.specs.Recoveries.{CanDropUnreached, HasDroppedUnreached}
 use Rattle.lfs_tree.specs.TreeState.{IsApplied, IsSoundState, KeepsInFlight, TreeState, kept_thread, tree_view}
@@ -247,33 +247,33 @@ recovered_whole t root b c rooted left e w d called quiet =
 
 -- ---- what it tells
 
-pub reports_reading : {X : Type 0} (t m : KeptThread) (r : Result X Error) (e : Error) → r ≡ Err e → IoMeantFaultNoMemoryWroteNothing t m r → ReportsFaults t m e
+pub reports_reading : {X : Type 0} (t m : KeptThread) (r : Result X Error) (e : Error) → r ≡ Err e → IoMeantFaultNoMemoryWroteNothing t m r → HasThreadCause t m e
 reports_reading {X} t m r e is reported = record {
   errors = subst (λ (z : Result X Error). IfErr z (λ f. (f ≡ Io) ⊎ (f ≡ NoMemory))) is reported.errors;
   fault = λ io. reported.fault (is ∙ ap Err io);
   no_fault = λ other. reported.no_fault (λ io. other (same_error e Io (sym is ∙ io)));
 }
 
-pub reports_steps : {X : Type 0} (m d : ThreadView) (r : Result X Error) (e : Error) → r ≡ Err e → ReportsErrorsOfRecovery m d r → ReportsFaults m.kept d.kept e
+pub reports_steps : {X : Type 0} (m d : ThreadView) (r : Result X Error) (e : Error) → r ≡ Err e → ReportsErrorsOfRecovery m d r → HasThreadCause m.kept d.kept e
 reports_steps {X} m d r e is reported = record {
   errors = subst (λ (z : Result X Error). IfErr z (λ f. (f ≡ Io) ⊎ (f ≡ NoMemory))) is reported.errors;
   fault = λ io. reported.fault (is ∙ ap Err io);
   no_fault = λ other. reported.no_fault (λ io. other (same_error e Io (sym is ∙ io)));
 }
 
-pub reports_work : {X : Type 0} (m d : KeptThread) (r : Result X Error) (e : Error) → r ≡ Err e → ReportsFaultOrNoMemory m d r → ReportsFaults m d e
+pub reports_work : {X : Type 0} (m d : KeptThread) (r : Result X Error) (e : Error) → r ≡ Err e → ReportsFaultOrNoMemory m d r → HasThreadCause m d e
 reports_work {X} m d r e is reported = record {
   errors = subst (λ (z : Result X Error). IfErr z (λ f. (f ≡ Io) ⊎ (f ≡ NoMemory))) is reported.errors;
   fault = λ io. reported.fault (is ∙ ap Err io);
   no_fault = λ other. reported.no_fault (λ io. other (same_error e Io (sym is ∙ io)));
 }
 
-pub reports_then : (a b c : KeptThread) (e : Error) → fault_count b.history ≡ fault_count a.history → ReportsFaults b c e → ReportsFaults a c e
+pub reports_then : (a b c : KeptThread) (e : Error) → fault_count b.history ≡ fault_count a.history → HasThreadCause b c e → HasThreadCause a c e
 reports_then a b c e quiet t = record { errors = t.errors; fault = λ io. let k = t.fault io in omega (arith, k, quiet); no_fault = λ other. t.no_fault other ∙ quiet }
 
 -- an error is passed on
-pub reports_given : {Y : Type 0} (a c : KeptThread) (given : Result Y Error) (e f : Error) → given ≡ Err f → f ≡ e → ReportsFaults a c e → IfErr given (ReportsFaults a c)
-reports_given {Y = Y} a c given e f is same t = subst (λ (r : Result Y Error). IfErr r (ReportsFaults a c)) (sym is) (subst (ReportsFaults a c) (sym same) t)
+pub reports_given : {Y : Type 0} (a c : KeptThread) (given : Result Y Error) (e f : Error) → given ≡ Err f → f ≡ e → HasThreadCause a c e → IfErr given (HasThreadCause a c)
+reports_given {Y = Y} a c given e f is same t = subst (λ (r : Result Y Error). IfErr r (HasThreadCause a c)) (sym is) (subst (HasThreadCause a c) (sym same) t)
 
 -- ---- where nothing is left to recover
 

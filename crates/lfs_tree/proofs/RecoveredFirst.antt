@@ -34,7 +34,7 @@ use Rattle.lfs_operations.proofs.RecoverBefore.{AreKin, stand_kin}
 use Rattle.lfs_operations.specs.Ready.{KeepsRootBeginning}
 use Rattle.lfs_thread.specs.Kept.{KeptThread, ThreadView}
 use Rattle.lfs_tree.specs.Permissions.{CanAddEntry, CanRemoveEntry, CanRemoveAttr, CanRenamePath, CanSetAttr, HasNeededBlocks}
-use Rattle.lfs_tree.specs.TreeChanges.{AppliesOperation, HasFurtherCalls, SparesOutsideOperation, HasSoundImage, SurvivesEither, ReportsFaults}
+use Rattle.lfs_tree.specs.TreeChanges.{AppliesOperation, HasFurtherCalls, SparesOutsideOperation, HasSoundImage, SurvivesEither, HasThreadCause}
 use Rattle.lfs_tree.specs.RootedThreads.{IsSoundWithRoot, kept_state}
 use Rattle.lfs_tree.specs.KeptFiles.{KeepsListBytes}
 use Rattle.lfs_tree.specs.Recoveries.{HasDroppedUnreached, HasRecovered}
@@ -267,7 +267,7 @@ module _ (a b : KeptThread) (f : HasRecovered a b) where
 
   -- ---- what it tells
 
-  pub reported_after : (c : KeptThread) (e : Error) → ReportsFaults b c e → ReportsFaults a c e
+  pub reported_after : (c : KeptThread) (e : Error) → HasThreadCause b c e → HasThreadCause a c e
   reported_after c e reported = record {
     errors = reported.errors;
     fault = λ io. let k = reported.fault io in let same = f.carries.no_fault in omega (arith, k, same);

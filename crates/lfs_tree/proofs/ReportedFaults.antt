@@ -9,7 +9,7 @@ use Rattle.lfs_operations.specs.Changing.{ReportsFaultsChangingNothingAtNoSpace}
 use Rattle.lfs_operations.specs.Making.{HasFreeBlocks}
 use Rattle.lfs_thread.specs.Kept.{KeptThread}
 use Rattle.lfs_thread.specs.ThreadSteps.{IoMeantFaultNoMemoryWroteNothing, OnlyReadsThread, ChangesThreadBlocks}
-use Rattle.lfs_tree.specs.TreeChanges.{HasFurtherCalls, ReportsFaults}
+use Rattle.lfs_tree.specs.TreeChanges.{HasFurtherCalls, HasThreadCause}
 use Rattle.lfs_tree.proofs.CarryRooms.{no_room}
 use Rattle.lfs_tree.proofs.SameErrors.{same_error}
 use Rattle.lfs_tree.proofs.Carried.{with_history}
@@ -47,7 +47,7 @@ reported_with_room {X} old new result room t = record { errors = go result refl 
     go (Err e) is (inr (inl none)) = inr none
     go (Err e) is (inr (inr space)) = absurd (no_room old.map room (t.no_space (is ∙ ap Err space)))
 
-pub reports_error : {X : Type 0} (a c : KeptThread) (h : List CallEvent) (result : Result X Error) (e : Error) → fault_count h ≡ fault_count a.history → ReportsFaultsSince h c.history result → result ≡ Err e → ReportsFaults a c e
+pub reports_error : {X : Type 0} (a c : KeptThread) (h : List CallEvent) (result : Result X Error) (e : Error) → fault_count h ≡ fault_count a.history → ReportsFaultsSince h c.history result → result ≡ Err e → HasThreadCause a c e
 reports_error {X} a c h result e same t is = record {
   errors = subst (λ (r : Result X Error). IfErr r (λ e. (e ≡ Io) ⊎ (e ≡ NoMemory))) is t.errors;
   fault = λ io. let k = t.fault (is ∙ ap Err io) in omega (arith, k, same);

@@ -25,7 +25,7 @@ use Rattle.lfs_model.proofs.Histories.{HoldsAtLosses-weaker, HoldsAtLosses-worst
 use Rattle.lfs_tree.specs.ThreadContents.{CanFinish, HasContents, KeepsPairs, contents_list_blocks}
 use Rattle.lfs_thread.specs.Kept.{KeptThread, ThreadView}
 use Rattle.lfs_tree.proofs.LeftAlone.{files_of_alone, pair_of_alone}
-use Rattle.lfs_tree.specs.TreeChanges.{HasFurtherCalls, CanChangeRecovered, SurvivesEither, ReportsFaults}
+use Rattle.lfs_tree.specs.TreeChanges.{HasFurtherCalls, CanChangeRecovered, SurvivesEither, HasThreadCause}
 use Rattle.lfs_tree.specs.RootedThreads.{SoundUnlessFailed, kept_state, thread_state}
 use Rattle.lfs_tree.proofs.Asking.{seen_working}
 use Rattle.lfs_tree.specs.KeptFiles.{KeepsListBytes, KeepsOtherFiles}
@@ -57,7 +57,7 @@ called_then a b c k m = record {
   called = m.called ∙ ap (λ z. m.calls ++ z) k.called ∙ sym (append_assoc m.calls k.calls a.history);
 }
 
-pub errors_then : {X : Type 0} (a b c : KeptThread) (r : Result X Error) → fault_count b.history ≡ fault_count a.history → IfErr r (ReportsFaults b c) → IfErr r (ReportsFaults a c)
+pub errors_then : {X : Type 0} (a b c : KeptThread) (r : Result X Error) → fault_count b.history ≡ fault_count a.history → IfErr r (HasThreadCause b c) → IfErr r (HasThreadCause a c)
 errors_then a b c (Ok x) same t = tt
 errors_then a b c (Err e) same t = record {
   errors = t.errors;

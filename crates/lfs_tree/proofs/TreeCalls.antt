@@ -11,7 +11,7 @@ use Rattle.lfs_model.specs.tree.Shown.{tree_on_disk}
 use Rattle.lfs_thread.specs.Kept.{KeptThread, ThreadView}
 use Rattle.lfs_tree.specs.TreeCalls as calls
 use Rattle.lfs_tree.specs.TreeCalls.{TreeCall, IsOperationCall, AppliesCallOrFails, tree_after_call}
-use Rattle.lfs_tree.specs.TreeChanges.{HasFurtherCalls, HasAppliedCall, CanChangeRecovered, ChangesTreeOrFails, AppliesOrFails, SurvivesEither, ReportsFaults}
+use Rattle.lfs_tree.specs.TreeChanges.{HasFurtherCalls, HasAppliedCall, CanChangeRecovered, ChangesTreeOrFails, AppliesOrFails, SurvivesEither, HasThreadCause}
 use Rattle.lfs_tree.specs.RootedThreads.{SoundUnlessFailed, IsSoundWithRoot, kept_state, thread_state}
 use Rattle.lfs_tree.specs.Recoveries.{HasRecovered}
 use Rattle.lfs_tree.specs.TreeState.{IsFailedTree, IsApplied, IsAppliedTo, HasErrorCause, IsSoundState, LeavesOthersAlone, TreeState, SurvivesStops, without_cache, kept_thread, tree_view}
@@ -34,7 +34,7 @@ module _ (t : ThreadView) (writable : Bool) (now : TreeState) (view : thread_sta
   pub reports : IfErr r (HasErrorCause now (thread_state new writable))
   reports = subst (λ (s : TreeState). IfErr r (HasErrorCause s (thread_state new writable))) view (go r w.errors)
     where
-      go : (r : Result X Error) → IfErr r (ReportsFaults t.kept new.kept) → IfErr r (HasErrorCause (thread_state t writable) (thread_state new writable))
+      go : (r : Result X Error) → IfErr r (HasThreadCause t.kept new.kept) → IfErr r (HasErrorCause (thread_state t writable) (thread_state new writable))
       go (Ok x) k = tt
       go (Err e) k = record { errors = k.errors; fault = k.fault; no_fault = k.no_fault }
 
@@ -144,7 +144,7 @@ module _ (old mid : TreeState) (works : old.failed ≡ false) (may : old.writabl
         broken (Ok x) f = tt
         broken (Err e) f = record { failed = f; geometry = all.geometry; calls = all.calls; called = all.called }
 
-        errors : (r : Result X Error) → IfErr r (ReportsFaults t.kept new.kept) → IfErr r (HasErrorCause old (thread_state new writable))
+        errors : (r : Result X Error) → IfErr r (HasThreadCause t.kept new.kept) → IfErr r (HasErrorCause old (thread_state new writable))
         errors (Ok x) k = tt
         errors (Err e) k = let m = reported_after (kept_thread old) t.kept settled_here new.kept e k in record { errors = m.errors; fault = m.fault; no_fault = m.no_fault }
 

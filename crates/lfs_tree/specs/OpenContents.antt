@@ -103,7 +103,7 @@ abbrev pub IsOpenedForm : Profile → ℕ → ℕ → StorageForm → Type 0
 IsOpenedForm profile block_size size shape = ((shape ≡ form.InMemory size) × (size ≤ inline_limit profile block_size)) ⊎ (shape ≡ form.Finished size false)
 
 -- Only blocks were written that the image doesn't use: it shows what it showed, in the same pairs. Each list is in the same blocks.
-pub record WritesUnusedBlocks (old new : TreeState) : Type 0 where
+pub record KeepsImage (old new : TreeState) : Type 0 where
   pub works : new.failed ≡ false
   pub sound : IsSoundState new
   pub writable : new.writable ≡ old.writable
@@ -120,7 +120,7 @@ pub record WritesUnusedBlocks (old new : TreeState) : Type 0 where
 -- What a call promises that changes a writer's contents and leaves the image. A loss of power during the call leaves the image,
 -- too.
 pub record WritesOnlyUnusedBlocksOrFails {X : Type 0} (old : TreeState) (result : Result X Error) (new : TreeState) : Type 0 where
-  pub beside : OnOk result (WritesUnusedBlocks old new)
+  pub beside : OnOk result (KeepsImage old new)
   pub broken : OnErr result (IsFailedTree old new)
   pub errors : IfErr result (HasErrorCause old new)
   pub survives : old.writable ≡ true → SurvivesStops old new (tree_view old)

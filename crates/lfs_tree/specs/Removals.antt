@@ -26,7 +26,7 @@ use Rattle.lfs_lookup.specs.declared.paths.PathLookup.TheVariants as found
 use Rattle.lfs_lookup.specs.declared.search.SlotPosition.{SlotPosition}
 use Rattle.lfs_file.specs.Bases.{IsListOrEmpty}
 use Rattle.lfs_file.specs.declared.stored_list.StoredList.{StoredList}
-use Rattle.lfs_tree.specs.Stores.{empty_list}
+use Rattle.lfs_tree.specs.Stores.{empty_list, list_in_storage}
 
 -- an entry is found for the path
 pub record IsFoundAt (order : NameOrder) (ps : List Pair) (path : Path) (found : PathLookup) : Type 0 where
@@ -35,18 +35,13 @@ pub record IsFoundAt (order : NameOrder) (ps : List Pair) (path : Path) (found :
 
 -- ---- the list of a file
 
--- inline contents have no list
-abbrev pub list_of_storage : FileStorage → StoredList
-list_of_storage (contents.Inline len) = empty_list
-list_of_storage (contents.List head size) = record { head = head; size = size; in_flight = false }
-
 -- The image hasn't the file of these contents any more; the blocks of its list are still used.
 pub record CanFreeList (t : KeptThread) (contents : FileStorage) : Type 0 where
   pub gone : List ℕ
   pub ready : IsReadyUpdated t gone []
   pub once : (b : ℕ) → number_count b (used_blocks t.disk t.pairs) + number_count b gone ≤ 1
-  pub list : IsListOrEmpty t.disk.blocks t.disk.block_size (list_of_storage contents).head (list_of_storage contents).size
-  pub are : thread_list_blocks t (list_of_storage contents) ≡ gone
+  pub list : IsListOrEmpty t.disk.blocks t.disk.block_size (list_in_storage contents).head (list_in_storage contents).size
+  pub are : thread_list_blocks t (list_in_storage contents) ≡ gone
 
 -- ---- what may go
 

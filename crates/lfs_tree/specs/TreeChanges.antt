@@ -72,8 +72,8 @@ pub record HasFurtherCalls (old new : KeptThread) : Type 0 where
   pub called : new.history ≡ calls ++ old.history
 
 -- `Io` comes with a fault of the device, and `NoMemory` without one
-abbrev pub ReportsFaults : KeptThread → KeptThread → Error → Type 0
-ReportsFaults old new e = HasErrorCause (kept_state old true false) (kept_state new true true) e
+abbrev pub HasThreadCause : KeptThread → KeptThread → Error → Type 0
+HasThreadCause old new e = HasErrorCause (kept_state old true false) (kept_state new true true) e
 
 -- a loss of power during the call leaves the tree from before, or that one
 abbrev pub SurvivesEither : KeptThread → KeptThread → Tree → Type 0
@@ -96,7 +96,7 @@ pub record ChangesTreeOrFails {X : Type 0} (old : ThreadView) (Done : KeptThread
   pub works : OnOk result (new.failed ≡ false)
   pub stands : OnOk result (HasSoundImage old.kept after new.kept)
   pub called : HasFurtherCalls old.kept new.kept
-  pub errors : IfErr result (ReportsFaults old.kept new.kept)
+  pub errors : IfErr result (HasThreadCause old.kept new.kept)
   pub survives : SurvivesEither old.kept new.kept after
 
 -- the operation of the call is applied, and leaves the other blocks alone

@@ -8,7 +8,7 @@ use Rattle.lfs_model.specs.tree.Tree.{Path}
 use Rattle.lfs_model.specs.session.TreeEdits.{is_file}
 use Rattle.lfs_thread.specs.Kept.{KeptThread, ThreadView}
 use Rattle.lfs_tree.specs.RootedThreads.{IsSoundWithRoot}
-use Rattle.lfs_tree.specs.TreeChanges.{ReportsFaults}
+use Rattle.lfs_tree.specs.TreeChanges.{HasThreadCause}
 
 -- the thread works, and what it keeps meets a condition
 pub record IsWorkingWhere (t : ThreadView) (Can : KeptThread → Type 0) : Type 0 where
@@ -19,7 +19,7 @@ pub record IsWorkingWhere (t : ThreadView) (Can : KeptThread → Type 0) : Type 
 pub record WorksOrReportsFault {X : Type 0} (old new : ThreadView) (result : Result X Error) : Type 0 where
   pub works : OnOk result (new.failed ≡ false)
   pub no_fault : OnOk result (fault_count new.kept.history ≡ fault_count old.kept.history)
-  pub errors : IfErr result (ReportsFaults old.kept new.kept)
+  pub errors : IfErr result (HasThreadCause old.kept new.kept)
 
 -- the image is sound and in the writing profile, no block is in flight, and a file is at the path
 pub record CanOpenPathFile (t : ThreadView) (root : ℕ) (path : Path) : Type 0 where

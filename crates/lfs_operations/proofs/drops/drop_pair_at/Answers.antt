@@ -1,4 +1,4 @@
-use Rattle.lfs_operations.proofs.Common.{ℕ, ◌≡◌, ◌+◌, ◌-◌, ◌<◌, List, Some, length, Ok, Err, subst, sym, ap, ◌∙◌, arith, err_from_is_err_and, HoldsAtLosses-weaker, changes_view, PairChange, CanDropNext, IsNextDropped, LossLeavesPairChanged, RefusesCommit, complete_after, KeptThread, Gstate, Outcome, move_view, CanDropAt, IsPairDropped, dropping_changes, content_after_drop}
+use Rattle.lfs_operations.proofs.Common.{ℕ, ◌≡◌, ◌+◌, ◌-◌, ◌<◌, List, Some, length, Ok, Err, subst, sym, ap, ◌∙◌, arith, err_from_is_err_and, HoldsAtLosses-weaker, changes_view, PairChange, CanDropNext, IsNextDropped, LossLeavesPairChanged, RefusesChanges, complete_after, KeptThread, Gstate, Outcome, move_view, CanDropAt, IsPairDropped, dropping_changes, content_after_drop}
 use Rattle.lfs_pair.specs.declared.commits.Outcome.TheVariants as outcome
 use Rattle.lfs_operations.proofs.DroppedTails.{can_drop, drop_not_refused, has_dropped, left_by_drop}
 use Rattle.lfs_operations.proofs.Removed.{reports_again}
@@ -51,7 +51,7 @@ returns-clause-is_dropped g c = by c.in_ok-drop_next.field-0 c.in_ok-drop_next.w
     by outcome.Done is = has_dropped t (c.args.index - 1) state below made c.drop_next.new.self.kept
         (subst (λ changes. IsNextDropped t (c.args.index - 1) changes c.drop_next.new.self.kept) c.drop_changes_at-changes.ensures.are (c.drop_next.ensures.done is))
     by outcome.Full is = absurd (drop_not_refused t (c.args.index - 1) state below made c.requires.can.fits c.drop_next.new.self.kept
-        (subst (λ changes. RefusesCommit t (c.args.index - 1) changes c.drop_next.new.self.kept) c.drop_changes_at-changes.ensures.are (c.drop_next.ensures.full is)))
+        (subst (λ changes. RefusesChanges t (c.args.index - 1) changes c.drop_next.new.self.kept) c.drop_changes_at-changes.ensures.are (c.drop_next.ensures.full is)))
 
 pub returns-clause-stops : goal.returns-clause-stops
 returns-clause-stops g c clean =

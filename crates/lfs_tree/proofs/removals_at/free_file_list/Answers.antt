@@ -3,27 +3,27 @@ use Rattle.std.specs.Prelude.{OnOk}
 use Rattle.lfs_tree.specs.SettledFiles.{CanSettleFile, IsListSettled, thread_list_blocks}
 use Rattle.lfs_operations.specs.Dropping.{SameInFlight}
 use Rattle.lfs_operations.specs.Ready.{IsReadyImage}
-use Rattle.lfs_tree.specs.Removals.{list_of_storage}
+use Rattle.lfs_tree.specs.Stores.{list_in_storage}
 use Rattle.lfs_tree.proofs.CarryFreed.{can_settle, freed_flying, freed_ready, none_freed, ok_then}
 use Rattle.lfs_tree.proofs.removals_at.free_file_list.Goals as goal
 use Rattle.lfs_tree.specs.Stores.{empty_list}
 
 pub returns-in-Inline-clause-ready : goal.returns-in-Inline-clause-ready
-returns-in-Inline-clause-ready g c = none_freed c.args.thread.now.kept c.args.contents c.requires.can (ap (λ k. thread_list_blocks c.args.thread.now.kept (list_of_storage k)) c.in-Inline.is)
+returns-in-Inline-clause-ready g c = none_freed c.args.thread.now.kept c.args.contents c.requires.can (ap (λ k. thread_list_blocks c.args.thread.now.kept (list_in_storage k)) c.in-Inline.is)
 
 pub settle_file-requires-clause-can : goal.settle_file-requires-clause-can
-settle_file-requires-clause-can g c = subst (λ k. CanSettleFile c.args.thread.now.kept (list_of_storage k) empty_list) c.in-List.is (can_settle c.args.thread.now.kept c.args.contents c.requires.can)
+settle_file-requires-clause-can g c = subst (λ k. CanSettleFile c.args.thread.now.kept (list_in_storage k) empty_list) c.in-List.is (can_settle c.args.thread.now.kept c.args.contents c.requires.can)
 
 pub returns-in-List-clause-ready : goal.returns-in-List-clause-ready
 returns-in-List-clause-ready g c =
     let t = c.args.thread.now.kept in
     let new = c.settle_file.new.thread.kept in
-    ok_then c.settle_file.result (IsListSettled t (list_of_storage c.args.contents) empty_list new) (IsReadyImage new) (λ s. freed_ready t c.args.contents c.requires.can new c.settle_file.ensures.only s c.lemma_settled_map.ensures)
-    (subst (λ k. OnOk c.settle_file.result (IsListSettled t (list_of_storage k) empty_list new)) (sym c.in-List.is) c.settle_file.ensures.settled)
+    ok_then c.settle_file.result (IsListSettled t (list_in_storage c.args.contents) empty_list new) (IsReadyImage new) (λ s. freed_ready t c.args.contents c.requires.can new c.settle_file.ensures.only s c.lemma_settled_map.ensures)
+    (subst (λ k. OnOk c.settle_file.result (IsListSettled t (list_in_storage k) empty_list new)) (sym c.in-List.is) c.settle_file.ensures.settled)
 
 pub returns-in-List-clause-flying : goal.returns-in-List-clause-flying
 returns-in-List-clause-flying g c =
     let t = c.args.thread.now.kept in
     let new = c.settle_file.new.thread.kept in
-    ok_then c.settle_file.result (IsListSettled t (list_of_storage c.args.contents) empty_list new) (SameInFlight t.map new.map) (λ s. freed_flying t c.args.contents c.requires.can new c.settle_file.ensures.only s c.lemma_settled_map.ensures)
-    (subst (λ k. OnOk c.settle_file.result (IsListSettled t (list_of_storage k) empty_list new)) (sym c.in-List.is) c.settle_file.ensures.settled)
+    ok_then c.settle_file.result (IsListSettled t (list_in_storage c.args.contents) empty_list new) (SameInFlight t.map new.map) (λ s. freed_flying t c.args.contents c.requires.can new c.settle_file.ensures.only s c.lemma_settled_map.ensures)
+    (subst (λ k. OnOk c.settle_file.result (IsListSettled t (list_in_storage k) empty_list new)) (sym c.in-List.is) c.settle_file.ensures.settled)

@@ -1,5 +1,5 @@
 use Rattle.std.proofs.Common.{◌≡◌, ◌<◌, ◌∙◌, length, subst, sym, ap, arith}
-use Rattle.lfs_fs.specs.FileView.{lowest_free, open_reader, readers_among, open_writer}
+use Rattle.lfs_fs.specs.FileView.{lowest_free, reader_if_any, readers_among, writer_if_any}
 use Rattle.lfs_fs.proofs.OpenFiles.{few_open, few_put, free_at_most}
 use Rattle.lfs_fs.proofs.files.Files.add_reader.Goals as goal
 
@@ -27,7 +27,7 @@ invariant_of-self-2 c =
     let few = subst (λ xs. length (readers_among xs) < 16) (sym c.self.view_is) c.requires.few in (
       c.in_ok-set_table_entry.ensures.few c.self.invariant.0,
       (
-        few_put open_reader fs _ c.free_number-number.result 16 _ c.in_ok-set_table_entry.ensures.put (omega (arith, few)),
-        few_put open_writer fs _ c.free_number-number.result 1 _ c.in_ok-set_table_entry.ensures.put (omega (arith, c.self.invariant.1.1)),
+        few_put reader_if_any fs _ c.free_number-number.result 16 _ c.in_ok-set_table_entry.ensures.put (omega (arith, few)),
+        few_put writer_if_any fs _ c.free_number-number.result 1 _ c.in_ok-set_table_entry.ensures.put (omega (arith, c.self.invariant.1.1)),
       ),
     )

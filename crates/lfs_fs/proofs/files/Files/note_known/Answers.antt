@@ -1,5 +1,5 @@
 use Rattle.std.proofs.Common.{◌≡◌, true, is_some, arith, subst, sym}
-use Rattle.lfs_fs.specs.FileView.{open_file_at, file_with_known, open_reader, open_writer}
+use Rattle.lfs_fs.specs.FileView.{open_file_at, file_with_known, reader_if_any, writer_if_any}
 use Rattle.lfs_fs.proofs.OpenFiles.{few_set, inside_is, less_changed, reader_noted, writer_noted}
 use Rattle.lfs_fs.proofs.files.Files.note_known.Goals as goal
 
@@ -9,7 +9,7 @@ invariant_of-self c =
     let lt = inside_is fs c.args.fd (subst (λ fs. is_some (open_file_at fs c.args.fd) ≡ true) (sym c.self.view_is) c.requires) in (
       omega (arith, c.note_in_table.ensures.len, c.self.invariant.0),
       (
-        few_set open_reader fs _ c.args.fd 16 _ c.note_in_table.ensures.files lt c.self.invariant.1.0 (less_changed open_reader (file_with_known c.args.known) (open_file_at fs c.args.fd) (reader_noted c.args.known)),
-        few_set open_writer fs _ c.args.fd 1 _ c.note_in_table.ensures.files lt c.self.invariant.1.1 (less_changed open_writer (file_with_known c.args.known) (open_file_at fs c.args.fd) (writer_noted c.args.known)),
+        few_set reader_if_any fs _ c.args.fd 16 _ c.note_in_table.ensures.files lt c.self.invariant.1.0 (less_changed reader_if_any (file_with_known c.args.known) (open_file_at fs c.args.fd) (reader_noted c.args.known)),
+        few_set writer_if_any fs _ c.args.fd 1 _ c.note_in_table.ensures.files lt c.self.invariant.1.1 (less_changed writer_if_any (file_with_known c.args.known) (open_file_at fs c.args.fd) (writer_noted c.args.known)),
       ),
     )

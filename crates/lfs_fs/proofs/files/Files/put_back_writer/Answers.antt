@@ -1,5 +1,5 @@
 use Rattle.std.proofs.Common.{◌≡◌, ◌<◌, ◌≤◌, Some, [], length, ap, arith, subst, sym}
-use Rattle.lfs_fs.specs.FileView.{selected_files, open_reader, open_writer, writers_among}
+use Rattle.lfs_fs.specs.FileView.{selected_files, reader_if_any, writer_if_any, writers_among}
 use Rattle.lfs_fs.specs.declared.files.OpenFile.TheVariants as file
 use Rattle.lfs_fs.proofs.OpenFiles.{count_set, few_set}
 use Rattle.lfs_fs.proofs.files.Files.put_back_writer.Goals as goal
@@ -9,11 +9,11 @@ invariant_of-self c =
     let fs = c.self.inside.entries.items in
     let lt = subst (λ xs. c.args.fd < length xs) (sym c.self.view_is) c.requires.inside in
     let none = subst (λ xs. writers_among xs ≡ []) (sym c.self.view_is) c.requires.none in
-    let k = count_set open_writer fs c.args.fd (Some (file.Writing c.args.writer)) lt in
+    let k = count_set writer_if_any fs c.args.fd (Some (file.Writing c.args.writer)) lt in
     let l = ap (λ ws. length ws) none in (
       omega (arith, c.set_in_table.ensures.len, c.self.invariant.0),
       (
-        few_set open_reader fs _ c.args.fd 16 _ c.set_in_table.ensures.files lt c.self.invariant.1.0 (omega arith),
-        subst (λ xs. length (selected_files open_writer xs) ≤ 1) (sym c.set_in_table.ensures.files) (omega (arith, k, l)),
+        few_set reader_if_any fs _ c.args.fd 16 _ c.set_in_table.ensures.files lt c.self.invariant.1.0 (omega arith),
+        subst (λ xs. length (selected_files writer_if_any xs) ≤ 1) (sym c.set_in_table.ensures.files) (omega (arith, k, l)),
       ),
     )

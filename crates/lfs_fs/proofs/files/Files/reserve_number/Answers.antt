@@ -1,5 +1,5 @@
 use Rattle.std.proofs.Common.{◌≡◌, ◌∙◌, [], length, subst, sym, ap, arith}
-use Rattle.lfs_fs.specs.FileView.{lowest_free, open_reader, open_writer, writers_among}
+use Rattle.lfs_fs.specs.FileView.{lowest_free, reader_if_any, writer_if_any, writers_among}
 use Rattle.lfs_fs.proofs.OpenFiles.{few_put, few_with_none, free_at_most}
 use Rattle.lfs_fs.proofs.files.Files.reserve_number.Goals as goal
 
@@ -27,7 +27,7 @@ invariant_of-self-2 c =
     let none = ap (λ ws. length ws) (subst (λ xs. writers_among xs ≡ []) (sym c.self.view_is) c.requires) in (
       c.in_ok-set_table_entry.ensures.few c.self.invariant.0,
       (
-        few_put open_reader fs _ c.free_number-number.result 16 _ c.in_ok-set_table_entry.ensures.put (omega (arith, c.self.invariant.1.0)),
-        few_put open_writer fs _ c.free_number-number.result 1 _ c.in_ok-set_table_entry.ensures.put (omega (arith, none)),
+        few_put reader_if_any fs _ c.free_number-number.result 16 _ c.in_ok-set_table_entry.ensures.put (omega (arith, c.self.invariant.1.0)),
+        few_put writer_if_any fs _ c.free_number-number.result 1 _ c.in_ok-set_table_entry.ensures.put (omega (arith, none)),
       ),
     )

@@ -5,7 +5,7 @@ use Rattle.lfs_model.proofs.Histories.{HoldsAtLosses-weaker}
 use Rattle.lfs_thread.specs.ThreadDevice.{LossLeavesCleanly}
 use Rattle.lfs_thread.specs.Kept.{ThreadView, disk_of_device, kept_in_order, kept_of_device}
 use Rattle.lfs_thread.specs.CachedLog.{cached_log, reads_unless_cached}
-use Rattle.lfs_thread.specs.ThreadSteps.{CanChangePair, IoMeantFaultNoMemoryWroteNothing, IsPairCommitted, LossLeavesPairChanged, RefusesCommit, ChangesWithinReads, thread_pair_at}
+use Rattle.lfs_thread.specs.ThreadSteps.{CanChangePair, IoMeantFaultNoMemoryWroteNothing, IsPairCommitted, LossLeavesPairChanged, RefusesChanges, ChangesWithinReads, thread_pair_at}
 use Rattle.lfs_thread.proofs.Changing.{at_there, can_commit, device_kept, device_changed, ok_outcome, full_kept, refused, left_in_thread}
 use Rattle.lfs_thread.proofs.CachedPair.{reading_there}
 use Rattle.lfs_thread.proofs.InOrder.{can_change, changed_in, left_changed_in, refused_in}
@@ -54,7 +54,7 @@ returns-clause-full g c full =
     let can = can_change c.self.inside.order (kept_of_device g.D.BlockDevice c.self.inside.device c.self.inside.pairs.items c.self.inside.map) c.args.index (changes_view c.args.changes.now) (subst (λ (v : ThreadView). CanChangePair v.kept c.args.index (changes_view c.args.changes.now)) (sym c.self.view_is) c.requires.can) in
     let a = at_there (disk_of_device g.D.BlockDevice c.self.inside.device) c.self.inside.pairs.items c.args.index c.index_mut.result.now can.below c.index_mut.ensures.value in
     let e = c.commit_with_cache-outcome.ensures in
-    subst (λ (v : ThreadView). RefusesCommit v.kept c.args.index (changes_view c.args.changes.now) (kept_in_order g.D.BlockDevice c.self.inside.order c.commit_with_cache-outcome.new.device (set c.self.inside.pairs.items c.args.index c.commit_with_cache-outcome.new.pair) c.self.inside.map)) c.self.view_is
+    subst (λ (v : ThreadView). RefusesChanges v.kept c.args.index (changes_view c.args.changes.now) (kept_in_order g.D.BlockDevice c.self.inside.order c.commit_with_cache-outcome.new.device (set c.self.inside.pairs.items c.args.index c.commit_with_cache-outcome.new.pair) c.self.inside.map)) c.self.view_is
     (refused_in c.self.inside.order (kept_of_device g.D.BlockDevice c.self.inside.device c.self.inside.pairs.items c.self.inside.map)
     (kept_of_device g.D.BlockDevice c.commit_with_cache-outcome.new.device (set c.self.inside.pairs.items c.args.index c.commit_with_cache-outcome.new.pair) c.self.inside.map) c.args.index (changes_view c.args.changes.now)
     (refused _ _ _ _ c.self.inside.pairs.items _ c.args.index _ _ _ can.content a can.made (e.ends.full full).completed (ap₂ disk_of_blocks (e.ends.full full).device.geometry (e.ends.full full).device.same) (e.ends.full full).pair (e.ends.full full).device.reads))

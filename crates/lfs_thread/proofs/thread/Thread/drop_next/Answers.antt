@@ -3,7 +3,7 @@ use Rattle.lfs_pair.specs.ChangeView.{changes_view}
 use Rattle.lfs_thread.specs.ThreadDevice.{LossLeavesCleanly}
 use Rattle.lfs_thread.specs.Kept.{ThreadView, kept_in_order, kept_of_device}
 use Rattle.lfs_thread.specs.CachedLog.{cached_log, reads_unless_cached}
-use Rattle.lfs_thread.specs.ThreadSteps.{IoMeantFaultNoMemoryWroteNothing, LossLeavesPairChanged, ChangesWithinReads, thread_pair_at, CanDropNext, IsNextDropped, RefusesCommit}
+use Rattle.lfs_thread.specs.ThreadSteps.{IoMeantFaultNoMemoryWroteNothing, LossLeavesPairChanged, ChangesWithinReads, thread_pair_at, CanDropNext, IsNextDropped, RefusesChanges}
 use Rattle.lfs_thread.proofs.InOrder.{can_drop, dropped_in, left_changed_in, refused_in, stops_in}
 use Rattle.lfs_thread.proofs.Reported.{reported_from, reading_from}
 use Rattle.lfs_thread.proofs.thread.Thread.drop_next.Goals as goal
@@ -21,7 +21,7 @@ returns-clause-done g c done =
 
 pub returns-clause-full : goal.returns-clause-full
 returns-clause-full g c full =
-    subst (λ (v : ThreadView). RefusesCommit v.kept c.args.index (changes_view c.args.changes.now) (kept_in_order g.D.BlockDevice c.self.inside.order c.drop_next_pair-outcome.new.device c.drop_next_pair-outcome.new.pairs.items c.drop_next_pair-outcome.new.map)) c.self.view_is
+    subst (λ (v : ThreadView). RefusesChanges v.kept c.args.index (changes_view c.args.changes.now) (kept_in_order g.D.BlockDevice c.self.inside.order c.drop_next_pair-outcome.new.device c.drop_next_pair-outcome.new.pairs.items c.drop_next_pair-outcome.new.map)) c.self.view_is
     (refused_in c.self.inside.order (kept_of_device g.D.BlockDevice c.self.inside.device c.self.inside.pairs.items c.self.inside.map) (kept_of_device g.D.BlockDevice c.drop_next_pair-outcome.new.device c.drop_next_pair-outcome.new.pairs.items c.drop_next_pair-outcome.new.map) c.args.index (changes_view c.args.changes.now) (c.drop_next_pair-outcome.ensures.full full))
 
 pub returns-clause-errors : goal.returns-clause-errors

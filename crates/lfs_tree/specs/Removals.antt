@@ -20,13 +20,12 @@ use Rattle.lfs_tree.specs.SlotChanges.{is_entry_found}
 use Rattle.lfs_lookup.specs.Entry.{IsStorage}
 use Rattle.lfs_lookup.specs.LookupPaths.{IsLastEntry}
 use Rattle.lfs_lookup.specs.declared.entry.FileStorage.{FileStorage}
-use Rattle.lfs_lookup.specs.declared.entry.FileStorage.TheVariants as contents
 use Rattle.lfs_lookup.specs.declared.paths.PathLookup.{PathLookup}
 use Rattle.lfs_lookup.specs.declared.paths.PathLookup.TheVariants as found
 use Rattle.lfs_lookup.specs.declared.search.SlotPosition.{SlotPosition}
 use Rattle.lfs_file.specs.Bases.{IsListOrEmpty}
 use Rattle.lfs_file.specs.declared.stored_list.StoredList.{StoredList}
-use Rattle.lfs_tree.specs.Stores.{empty_list, list_in_storage}
+use Rattle.lfs_tree.specs.Stores.{list_in_storage}
 
 -- an entry is found for the path
 pub record IsFoundAt (order : NameOrder) (ps : List Pair) (path : Path) (found : PathLookup) : Type 0 where

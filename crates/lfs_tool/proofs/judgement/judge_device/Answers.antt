@@ -1,11 +1,12 @@
-use Rattle.std.proofs.Common.{subst, sym}
+use Rattle.std.proofs.Common.{ap, subst, sym}
 use Rattle.std.proofs.lemmas.Result.{IfOk-weaker}
 use Rattle.lfs_model.specs.format.Disk.{ordered_disk, Disk}
 use Rattle.lfs_model.specs.layers.BlockSets.{AreUsed}
 use Rattle.lfs_model.specs.tree.Shown.{used_blocks}
 use Rattle.lfs_model.specs.tree.View.{IsAccepted}
 use Rattle.lfs_model.specs.declared.order.NameOrder.TheVariants.{LongerFirst}
-use Rattle.lfs_tool.specs.Verdict.{IsDiskVerdict}
+use Rattle.lfs_thread.specs.MountErrors.{error_of_mount}
+use Rattle.lfs_tool.specs.Verdict.{BreaksInSome, IsDiskVerdict}
 use Rattle.lfs_tool.proofs.judgement.judge_device.Goals as goal
 
 pub judge_thread-requires-clause-used : goal.judge_thread-requires-clause-used
@@ -21,6 +22,13 @@ pub returns-in-Ok-clause-verdict : goal.returns-in-Ok-clause-verdict
 returns-in-Ok-clause-verdict c =
     IfOk-weaker c.judge_thread.result _ _ (λ v h. subst (λ (d : Disk). IsDiskVerdict (ordered_disk LongerFirst d) v) c.in-Ok.ensures.mounted.disk_is h) c.judge_thread.ensures.verdict
 
-pub judge_refused_image-requires-clause-refused : goal.judge_refused_image-requires-clause-refused
-judge_refused_image-requires-clause-refused c = λ is order ps a.
-    c.in-Err.ensures.corrupt is order ps (subst (λ (d : Disk). IsAccepted (ordered_disk order d) ps) c.in-Err.ensures.back.disk a)
+pub broken_rule_of-requires-clause-refused : goal.broken_rule_of-requires-clause-refused
+broken_rule_of-requires-clause-refused c = λ order ps a.
+    c.in-Err.ensures.corrupt (ap error_of_mount c.in-Corrupt.is) order ps (subst (λ (d : Disk). IsAccepted (ordered_disk order d) ps) c.in-Err.ensures.back.disk a)
+
+pub returns-in_ok-rule-in-Corrupt-clause-verdict : goal.returns-in_ok-rule-in-Corrupt-clause-verdict
+returns-in_ok-rule-in-Corrupt-clause-verdict c =
+    let rule = c.in_ok-rule-in-Corrupt in (
+      λ order ps a. c.in-Err.ensures.corrupt (ap error_of_mount c.in-Corrupt.is) order ps a,
+      subst (λ (d : Disk). BreaksInSome d rule.rule.violation) c.in-Err.ensures.back.disk rule.ensures.broken,
+    )

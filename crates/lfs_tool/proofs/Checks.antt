@@ -6,9 +6,9 @@ use Rattle.lfs_tool.specs.declared.image_layout.ImageLayout.{ImageLayout}
 use Rattle.lfs_model.specs.format.Disk.{IsWhole}
 use Rattle.lfs_tool.specs.CheckResults.{AreGivenSizes, IsCheckResult, IsWrongNumber, IsShortEnough}
 use Rattle.lfs_tool.specs.WrongNumbers.{NoWrongNumberIn, IsWrongNumberIn}
-use Rattle.lfs_tool.specs.declared.check_result.CheckResult.{CheckResult}
-use Rattle.lfs_tool.specs.declared.check_result.GivenSizes.{GivenSizes}
-use Rattle.lfs_tool.specs.declared.wrong_number.WrongNumber.{WrongNumber}
+use Rattle.lfs_tool.specs.declared.verdict.CheckResult.{CheckResult}
+use Rattle.lfs_tool.specs.declared.verdict.GivenSizes.{GivenSizes}
+use Rattle.lfs_tool.specs.declared.verdict.WrongNumber.{WrongNumber}
 use Rattle.lfs_tool.proofs.Images.{image_fits, most}
 
 -- ---- the reason that comes first

@@ -1,6 +1,5 @@
 pub mod Counts
 pub mod NoWrongNumbers
-mod Decimals
 mod KnownBytes
 pub mod Writers
 mod Images

@@ -5,8 +5,8 @@ use Rattle.lfs_model.specs.tree.View.{accepts_version}
 use Rattle.lfs_model.specs.format.EntryTypes.{SuperblockFields}
 use Rattle.lfs_tool.specs.WrongNumbers.{HasSizesVersion}
 use Rattle.lfs_tool.specs.WrongNumbers.{HasSizesVersion, NoWrongNumberIn, IsSuperblockAt, IsWrongField}
-use Rattle.lfs_tool.specs.declared.wrong_number.WrongNumber.{WrongNumber}
-use Rattle.lfs_tool.specs.declared.wrong_number.WrongNumber.TheVariants as stated
+use Rattle.lfs_tool.specs.declared.verdict.WrongNumber.{WrongNumber}
+use Rattle.lfs_tool.specs.declared.verdict.WrongNumber.TheVariants as stated
 
 -- fields with these sizes and version have no wrong number
 pub right_fields : (block_size count : ℕ) (versions : AcceptedVersions) (fields : SuperblockFields) (number : WrongNumber) → HasSizesVersion block_size count versions fields → IsWrongField block_size count versions fields number → ⊥

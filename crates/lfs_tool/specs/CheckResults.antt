@@ -6,12 +6,12 @@ use Rattle.lfs_tool.specs.Verdict.{BreaksInSome, IsSummarized, IsInNoOrder, IsDi
 use Rattle.lfs_tool.specs.declared.verdict.ImageVerdict.{ImageVerdict}
 use Rattle.lfs_model.specs.format.Disk.{Disk, IsWhole, disk_of_image}
 use Rattle.lfs_model.specs.declared.order.NameOrder.TheVariants.{LongerFirst}
-use Rattle.lfs_tool.specs.declared.wrong_number.WrongNumber.{WrongNumber}
-use Rattle.lfs_tool.specs.declared.check_result.CheckResult.{CheckResult}
-use Rattle.lfs_tool.specs.declared.check_result.CheckResult.TheVariants as checked
-use Rattle.lfs_tool.specs.declared.check_result.GivenSizes.{GivenSizes}
-use Rattle.lfs_tool.specs.declared.check_result.RefusalReason.{RefusalReason}
-use Rattle.lfs_tool.specs.declared.check_result.RefusalReason.TheVariants as reason
+use Rattle.lfs_tool.specs.declared.verdict.WrongNumber.{WrongNumber}
+use Rattle.lfs_tool.specs.declared.verdict.CheckResult.{CheckResult}
+use Rattle.lfs_tool.specs.declared.verdict.CheckResult.TheVariants as checked
+use Rattle.lfs_tool.specs.declared.verdict.GivenSizes.{GivenSizes}
+use Rattle.lfs_tool.specs.declared.verdict.RefusalReason.{RefusalReason}
+use Rattle.lfs_tool.specs.declared.verdict.RefusalReason.TheVariants as reason
 
 -- the bytes are an image, and this holds of its disk
 abbrev pub HoldsOfImage : ImageLayout → List ℕ → (Disk → Type 0) → Type 0

@@ -9,11 +9,11 @@ use Rattle.lfs_model.specs.declared.breaches.ProfileBreach.{ProfileBreach}
 use Rattle.lfs_model.specs.declared.breaches.ProfileBreach.TheVariants as breach
 use Rattle.lfs_tag.specs.declared.fields.Superblock.{Superblock}
 use Rattle.lfs_tool.specs.NumberTexts.{no_image_text, pair_text, wrong_number_text}
-use Rattle.lfs_tool.specs.declared.check_result.CheckResult.{CheckResult}
-use Rattle.lfs_tool.specs.declared.check_result.CheckResult.TheVariants as checked
-use Rattle.lfs_tool.specs.declared.check_result.GivenSizes.{GivenSizes}
-use Rattle.lfs_tool.specs.declared.check_result.RefusalReason.{RefusalReason}
-use Rattle.lfs_tool.specs.declared.check_result.RefusalReason.TheVariants as reason
+use Rattle.lfs_tool.specs.declared.verdict.CheckResult.{CheckResult}
+use Rattle.lfs_tool.specs.declared.verdict.CheckResult.TheVariants as checked
+use Rattle.lfs_tool.specs.declared.verdict.GivenSizes.{GivenSizes}
+use Rattle.lfs_tool.specs.declared.verdict.RefusalReason.{RefusalReason}
+use Rattle.lfs_tool.specs.declared.verdict.RefusalReason.TheVariants as reason
 use Rattle.lfs_tool.specs.declared.verdict.AcceptedOrders.{AcceptedOrders}
 use Rattle.lfs_tool.specs.declared.verdict.AcceptedOrders.TheVariants as orders
 use Rattle.lfs_tool.specs.declared.verdict.ImageSummary.{ImageSummary}

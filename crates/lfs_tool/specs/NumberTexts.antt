@@ -1,9 +1,9 @@
 -- Addresses and wrong numbers, as lines show them.
 use Rattle.std.specs.Prelude.{ℕ, ◌/◌, ◌%◌, ◌++◌, List, codes}
 use Rattle.std.specs.Fmt.{decimal}
-use Rattle.lfs_tool.specs.declared.wrong_number.WrongNumber.{WrongNumber}
-use Rattle.lfs_tool.specs.declared.wrong_number.WrongNumber.TheVariants as stated
-use Rattle.lfs_tool.specs.declared.check_result.GivenSizes.{GivenSizes}
+use Rattle.lfs_tool.specs.declared.verdict.WrongNumber.{WrongNumber}
+use Rattle.lfs_tool.specs.declared.verdict.WrongNumber.TheVariants as stated
+use Rattle.lfs_tool.specs.declared.verdict.GivenSizes.{GivenSizes}
 
 -- `pair A B`
 abbrev pub pair_text : ℕ × ℕ → List ℕ

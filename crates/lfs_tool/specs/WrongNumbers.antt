@@ -7,8 +7,8 @@ use Rattle.lfs_model.specs.format.EntryTypes.{SuperblockFields, inline_type, sup
 use Rattle.lfs_model.specs.format.Tag.{make_tag}
 use Rattle.lfs_tag.specs.FieldsView.{superblock_view}
 use Rattle.lfs_tag.specs.declared.fields.Superblock.{Superblock}
-use Rattle.lfs_tool.specs.declared.wrong_number.WrongNumber.{WrongNumber}
-use Rattle.lfs_tool.specs.declared.wrong_number.WrongNumber.TheVariants as stated
+use Rattle.lfs_tool.specs.declared.verdict.WrongNumber.{WrongNumber}
+use Rattle.lfs_tool.specs.declared.verdict.WrongNumber.TheVariants as stated
 
 -- the fields give something else than blocks of that size, so many of them, and one of these versions
 abbrev pub IsWrongField : ℕ → ℕ → AcceptedVersions → SuperblockFields → WrongNumber → Type 0

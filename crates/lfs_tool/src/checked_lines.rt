@@ -1,11 +1,10 @@
 // The lines of a check's result.
 
 ghost use Rattle.std.specs.Prelude.{◌≡◌, ◌++◌, IfOk, OnOk};
-ghost use Rattle.lfs_tool.specs.CheckedLines.{blocks_text, result_text, counts_text, inline_limit_text, limit_line, order_line, other_limit_text, profile_breach_text, recover_line, reason_text, summary_text, superblock_lines, version_line, writable_line, writable_text, yes_or_no_text};
+ghost use Rattle.lfs_tool.specs.CheckedLines.{blocks_text, result_text, counts_text, limit_line, order_line, other_limit_text, profile_breach_text, recover_line, reason_text, summary_text, superblock_lines, version_line, writable_line, writable_text, yes_or_no_text};
 
-use crate::check_result::{CheckResult, GivenSizes, RefusalReason};
 use crate::number_text::{NoImageText, PairText, WrongNumberText};
-use crate::verdict::{AcceptedOrders, ImageSummary};
+use crate::verdict::{AcceptedOrders, CheckResult, GivenSizes, ImageSummary, RefusalReason};
 use lfs_device::Profile;
 use lfs_model::{OtherLimit, ProfileBreach};
 use lfs_tag::Superblock;
@@ -74,15 +73,6 @@ fn push_other_limit(text: &mut Vec<u8>, limit: OtherLimit) -> io::Result<()>
     }
 }
 
-fn push_inline_limit(text: &mut Vec<u8>, inline_max: Option<u32>) -> io::Result<()>
-    ensures { OnOk result (text.new.items ≡ text.old.items ++ inline_limit_text inline_max) }
-{
-    match inline_max {
-        Some(most) => write!(text, "inline_max {most}"),
-        None => write!(text, "an eighth of a block"),
-    }
-}
-
 fn push_profile_breach(
     text: &mut Vec<u8>,
     inline_max: Option<u32>,
@@ -102,17 +92,17 @@ fn push_profile_breach(
         ProfileBreach::LongInline { pair, slot } => {
             let pair = PairText(pair);
             write!(text, "{pair}, slot {slot}: more bytes inline than ")?;
-            push_inline_limit(text, inline_max)
+            match inline_max {
+                Some(most) => write!(text, "inline_max {most}"),
+                None => write!(text, "an eighth of a block"),
+            }
         }
         ProfileBreach::EmptyPair { pair } => {
             let pair = PairText(pair);
             write!(text, "{pair}: no entry, but a directory goes on in it")
         }
         ProfileBreach::TooLarge { .. } => {
-            write!(
-                text,
-                "a pair or an entry is larger than this library writes"
-            )
+            text.write_all(b"a pair or an entry is larger than this library writes")
         }
     }
 }

@@ -14,8 +14,11 @@ use lfs_model::NameOrder;
 use lfs_tool_folders::{Source, SourceEntry, SourceError, read_tree};
 use std::alloc::Global;
 
-// Reads all that the source has.
-fn read_source_entries<S: Source>(
+/// Reads all that a source has, as `create` does.
+///
+/// # Errors
+/// `Input` where it couldn't be read, and `NoMemory` where memory isn't granted.
+pub fn read_source_entries<S: Source>(
     alloc: Global,
     source: &mut S,
 ) -> Result<Vec<SourceEntry>, ToolError>
@@ -68,13 +71,11 @@ pub fn new_image<F: FollowsProgress>(
     Ok(session.unmount())
 }
 
-/// Writes an image of a geometry that holds what a source has. The names in its directories have
-/// that order, and its limits are those of the geometry's profile. All of the source is read first.
-/// Its entries are then copied into an empty file system, depth first and in name order, the shorter
-/// names first. A folder is made. A file is opened to create it, its bytes are written at once, and
-/// it is closed. Nothing is written where one of these operations is refused. The writer is flushed,
-/// when all is written. `progress` is told the files and bytes of the whole, and of each entry that is
-/// copied.
+/// Writes an image of a geometry that holds what a source has. The names in its directories have that order, and its
+/// limits are those of the geometry's profile. All of the source is read first. Its entries are then copied into an empty
+/// file system, depth first and in name order, the shorter names first. Nothing is written where one of these operations
+/// is refused. The writer is flushed, when all is written. `progress` is told the files and bytes of the whole, and of each
+/// entry that is copied.
 ///
 /// # Errors
 /// - `Input` where the source couldn't be read, or a name in a folder of it is given twice or isn't

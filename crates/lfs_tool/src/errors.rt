@@ -1,7 +1,19 @@
-ghost use Rattle.std.specs.Prelude.{◌≡◌};
-ghost use Rattle.lfs_tool.specs.Errors.{error_line_of, error_status};
+// Errors, and the lines that show them, which are made without memory.
 
-use crate::line_text::{LineText, text_of_error, text_of_str};
+ghost use Rattle.std.specs.Prelude.{◌≡◌, ◌≤◌, ◌++◌, codes, false, length, true};
+ghost use Rattle.std.specs.Io.KnownBytes.{Appends};
+ghost use Rattle.lfs_model.specs.layers.Listing.{newline};
+ghost use Rattle.lfs_tool.specs.Errors.{error_line, error_line_of, error_status};
+ghost use Rattle.lfs_tool.specs.ExitStatus.{is_help_request};
+ghost use Rattle.lfs_tool.specs.KnownBytes.{AppendsBeginning};
+ghost use Rattle.lfs_tool.specs.Reports.{HasWrittenOne};
+ghost use Rattle.lfs_tool.specs.RunEnds.{IsFailureReportedWithStatus};
+
+use crate::ToolOutput;
+use crate::output::write_and_flush;
+use arrayvec::ArrayString;
+use clap::error::ErrorKind;
+use itoa::Buffer;
 use lfs_device::Error;
 use lfs_tool_line::LineError;
 use std::alloc::AllocError;
@@ -56,23 +68,124 @@ impl From<AllocError> for ToolError {
 
 impl ToolError {
     // Returns the line for the error.
-    pub(crate) fn error_line_text(self) -> LineText
+    fn error_line_text(self) -> LineText
         ensures { result.bytes ≡ error_line_of self }
     {
         match self {
             ToolError::Fs(error) => text_of_error(error),
-            ToolError::Input => text_of_str("error: input\n"),
-            ToolError::Output => text_of_str("error: output\n"),
+            ToolError::Input => line_of_words("input"),
+            ToolError::Output => line_of_words("output"),
         }
     }
 
     // Returns the status with which the program ends.
-    pub(crate) fn exit_status(self) -> u8
+    fn exit_status(self) -> u8
         ensures { result ≡ error_status self }
     {
         match self {
             ToolError::Fs(_) => 1,
             ToolError::Input | ToolError::Output => 3,
         }
+    }
+}
+
+// A line of the tool's own.
+type LineText = ArrayString<96>;
+
+// Makes the line of an error that has these words.
+fn line_of_words(words: &str) -> LineText
+    requires { length words.now ≤ 80 }
+    ensures { result.bytes ≡ codes "error: " ++ words.now ++ newline }
+{
+    let mut line = LineText::new();
+    line.push_str("error: ");
+    line.push_str(words);
+    line.push_str("\n");
+    line
+}
+
+// Returns the line for an error of the file system.
+fn text_of_error(error: Error) -> LineText
+    ensures { result.bytes ≡ error_line error }
+{
+    let mut digits = Buffer::new();
+    let mut line = LineText::new();
+    line.push_str("error: ");
+    line.push_str(error.name());
+    line.push_str(" (");
+    line.push_str(digits.format(error.number()));
+    line.push_str(")\n");
+    line
+}
+
+// Writes the line of a mistake in a command line, and returns its status. A failed write is ignored.
+fn write_mistake<E: ToolOutput>(err: &mut E, rule: &str) -> u8
+    requires { length rule.now ≤ 80 }
+    ensures status { result ≡ 2 }
+    ensures beginning { AppendsBeginning (E.contents err.old) (E.contents err.new) (codes "error: " ++ rule.now ++ newline) }
+    ensures line { E.faults err.new ≡ E.faults err.old → Appends (E.contents err.old) (E.contents err.new) (codes "error: " ++ rule.now ++ newline) }
+{
+    let text = line_of_words(rule);
+    let _ = write_and_flush(err, text.as_bytes());
+    2
+}
+
+// Writes the line of an error. A failed write is ignored.
+fn write_error_line<E: ToolOutput>(err: &mut E, error: ToolError) -> u8
+    ensures status { result ≡ error_status error }
+    ensures beginning { AppendsBeginning (E.contents err.old) (E.contents err.new) (error_line_of error) }
+    ensures line { E.faults err.new ≡ E.faults err.old → Appends (E.contents err.old) (E.contents err.new) (error_line_of error) }
+{
+    let line = error.error_line_text();
+    let _ = write_and_flush(err, line.as_bytes());
+    error.exit_status()
+}
+
+/// Shows the error of a run, and returns the status with which the program ends.
+///
+/// | Status | Meaning | Text |
+/// |---|---|---|
+/// | 0 | help was asked for | the parser's text, to `out` |
+/// | 1 | the file system refused, or memory ran out | `error: <name> (<number>)`, to `err` |
+/// | 2 | there is no command line | the parser's text, or a line of the tool's own, as `error: give exactly one of -c, -u, -l`, to `err` |
+/// | 3 | input or output failed | `error: input` or `error: output`, to `err` |
+///
+/// A failed write is ignored. The writer that gets nothing isn't called. Unless its writer failed,
+/// a line of the tool's own is written whole, or the parser's text is shown. Either is flushed.
+/// No promise is made of the parser's text.
+pub fn report<O: ToolOutput, E: ToolOutput>(fault: &Fault, out: &mut O, err: &mut E) -> u8
+    ensures shown { IsFailureReportedWithStatus E.ToolOutput fault.now result err.old err.new }
+    ensures out { is_help_request fault.now ≡ false → out.new ≡ out.old }
+    ensures help { is_help_request fault.now ≡ true → HasWrittenOne O.ToolOutput out.old out.new }
+{
+    match fault {
+        Fault::Line(LineError::Modes) => write_mistake(err, "give exactly one of -c, -u, -l"),
+        Fault::Line(LineError::Order) => {
+            write_mistake(err, "--order is longer-first or shorter-first")
+        }
+        Fault::Line(LineError::Board) => {
+            write_mistake(err, "--board is esp8266, esp32, rp2040 or micropython")
+        }
+        Fault::Line(LineError::Limit(limit)) => write_mistake(err, limit.rule()),
+        Fault::Line(LineError::Misuse(misuse)) => write_mistake(err, misuse.rule()),
+        Fault::Line(LineError::Part) => {
+            write_mistake(
+                err,
+                "-b auto and --offset are for -l, -u, --check and --cat",
+            )
+        }
+        Fault::Line(LineError::NotUtf8) => write_mistake(err, "the command line is not UTF-8"),
+        Fault::Line(LineError::Parser(error)) => match error.kind() {
+            ErrorKind::OutOfMemory => write_error_line(err, ToolError::Fs(Error::NoMemory)),
+            ErrorKind::DisplayHelp | ErrorKind::DisplayVersion => {
+                let _ = out.show(error);
+                0
+            }
+            _ => {
+                let _ = err.show(error);
+                2
+            }
+        },
+        Fault::Tool(error) => write_error_line(err, *error),
     }
 }

@@ -5,13 +5,11 @@ ghost use Rattle.lfs_tool.specs.CheckResults.{AreRefusedBytes, IsCheckResult, Ar
 ghost use Rattle.lfs_tool.specs.KnownBytes.{IsReaderError};
 ghost use Rattle.lfs_tool.specs.Reports.{IsReadToEnd};
 
-use crate::check_result::{CheckResult, GivenSizes, RefusalReason};
 use crate::image_devices::ram_device_of;
 use crate::input::{IMAGE_MAX, read_image};
 use crate::judgement::judge_device;
 use crate::superblocks::image_wrong_number;
-use crate::verdict::ImageVerdict;
-use crate::wrong_number::WrongNumber;
+use crate::verdict::{CheckResult, GivenSizes, ImageVerdict, RefusalReason, WrongNumber};
 use crate::{ImageInput, ImageLayout, ToolError};
 use lfs_device::Error;
 use std::alloc::Global;

@@ -1,7 +1,7 @@
 // The slots of a thread, for the lines that name them.
 
 use crate::number_text::PairText;
-use lfs_device::{BlockDevice, Error, RamDevice, read_block};
+use lfs_device::{BlockDevice, Error, Geometry, RamDevice, read_block};
 use lfs_lookup::{OwnedStruct, push_escaped_path};
 use lfs_model::NameOrder;
 use lfs_pair::is_same_pair;
@@ -108,6 +108,8 @@ impl Neighbours<'_> {
 // What a thread has.
 #[derive(Drop)]
 pub(crate) struct FoundThread {
+    pub alloc: Global,
+    pub geometry: Geometry,
     pub pairs: Vec<[u32; 2]>,
     // The first pairs of its directories. That of the root comes first.
     pub directories: Vec<[u32; 2]>,
@@ -123,6 +125,8 @@ impl FoundThread {
         stop: Option<[u32; 2]>,
     ) -> Result<FoundThread, Error> {
         let mut thread = FoundThread {
+            alloc,
+            geometry: device.geometry(),
             pairs: Vec::new(alloc),
             directories: Vec::new(alloc),
             slots: Vec::new(alloc),
@@ -141,7 +145,7 @@ impl FoundThread {
                 break;
             };
             let content = Content::read(alloc, &Log::read(&block))?;
-            is_chain = thread.push_pair(alloc, at, &content, is_chain)?;
+            is_chain = thread.push_pair(at, &content, is_chain)?;
             next = content.tail.map(|tail| tail.pair);
         }
         Ok(thread)
@@ -151,7 +155,6 @@ impl FoundThread {
     // last superblock of the chain (SPEC.md of littlefs, "0x0ff LFS_TYPE_SUPERBLOCK").
     fn push_pair(
         &mut self,
-        alloc: Global,
         pair: [u32; 2],
         content: &Content<'_>,
         is_chain: bool,
@@ -166,7 +169,7 @@ impl FoundThread {
             self.directories.push(pair)?;
         }
         self.pairs.push(pair)?;
-        self.push_slots(alloc, pair, &content.slots)?;
+        self.push_slots(pair, &content.slots)?;
         self.state = gstate_xor_delta(&self.state, &content.move_state);
         match content.tail {
             Some(tail) if !tail.hard => self.directories.push(tail.pair)?,
@@ -176,12 +179,8 @@ impl FoundThread {
     }
 
     // Adds the slots of a pair that have a name and a struct.
-    fn push_slots(
-        &mut self,
-        alloc: Global,
-        pair: [u32; 2],
-        slots: &[Slot<'_>],
-    ) -> Result<(), AllocError> {
+    fn push_slots(&mut self, pair: [u32; 2], slots: &[Slot<'_>]) -> Result<(), AllocError> {
+        let alloc = self.alloc;
         let directory = self.directories.last().copied().unwrap_or(pair);
         for number in 0..slots.len() {
             let (Some(name), Some(part)) = (slots[number].name, slots[number].structure) else {
@@ -262,13 +261,9 @@ impl FoundThread {
     }
 
     // Returns the entries that lead to an address, of the directories that paths lead to.
-    pub(crate) fn entries_leading_to(
-        &self,
-        alloc: Global,
-        at: [u32; 2],
-    ) -> Result<Vec<&FoundSlot>, AllocError> {
-        let mut leading = Vec::new(alloc);
-        let mut reached: Vec<[u32; 2]> = Vec::new(alloc);
+    pub(crate) fn entries_leading_to(&self, at: [u32; 2]) -> Result<Vec<&FoundSlot>, AllocError> {
+        let mut leading = Vec::new(self.alloc);
+        let mut reached: Vec<[u32; 2]> = Vec::new(self.alloc);
         reached.extend_from_slice(self.directories.get(..1).unwrap_or(&[]))?;
         for step in 0..self.directories.len() {
             let Some(directory) = reached.get(step).copied() else {

@@ -7,10 +7,10 @@ ghost use Rattle.lfs_tool.specs.Reports.{IsReadToEnd, ReportsOneFault, ReportsWr
 ghost use Rattle.lfs_tool.specs.CheckResults.{IsCheckResult, is_accepted_result};
 ghost use Rattle.lfs_tool.specs.CheckedLines.{result_text};
 
-use crate::check_result::CheckResult;
 use crate::checked_lines::check_result_lines;
 use crate::examination::result_of_image;
 use crate::output::write_and_flush;
+use crate::verdict::CheckResult;
 use crate::{ImageInput, ImageLayout, ToolError, ToolOutput};
 use lfs_device::Error;
 use std::alloc::Global;

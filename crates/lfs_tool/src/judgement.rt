@@ -62,46 +62,15 @@ fn accepted_name_orders<D: BlockDevice + Drop>(
     }
 }
 
-// Returns whether a rule is that names rise.
-fn concerns_names(violation: Violation) -> bool {
-    match violation {
-        Violation::Names { .. } => true,
-        _ => false,
-    }
-}
-
 // Returns the rule to tell of an image that breaks one rule with longer names first and another one with shorter
 // names first. Names in a wrong order are told only where they are in both.
 fn rule_to_tell(longer: Violation, shorter: Violation) -> Violation
     ensures { (result ≡ longer) ⊎ (result ≡ shorter) }
 {
-    if concerns_names(longer) && !concerns_names(shorter) {
-        shorter
-    } else {
-        longer
-    }
-}
-
-// Returns the rule that the image of a device breaks. With longer names first it breaks the rule `longer`, and
-// a mount with shorter names first met this error.
-fn rule_of_both(
-    alloc: Global,
-    device: RamDevice,
-    longer: Violation,
-    error: MountError,
-) -> Result<BrokenRule, Error>
-    requires longer { Breaks (ordered_disk LongerFirst (disk_of_blocks (ram_geometry device) (ram_blocks device))) longer }
-    requires shorter { IsTrueViolation (ordered_disk ShorterFirst (disk_of_blocks (ram_geometry device) (ram_blocks device))) error }
-    requires no_fault { error ≢ MountError.Io }
-    ensures broken { IfOk result (λ rule. BreaksInSome (disk_of_blocks (ram_geometry device) (ram_blocks device)) rule.violation) }
-    ensures err { IfErr result (λ e. e ≡ Error.NoMemory) }
-{
-    match error {
-        MountError::Corrupt(shorter) => {
-            let rule = broken_rule(alloc, device, rule_to_tell(longer, shorter), shorter)?;
-            Ok(rule)
-        }
-        error => Err(error.into()),
+    match (longer, shorter) {
+        (Violation::Names { .. }, Violation::Names { .. }) => longer,
+        (Violation::Names { .. }, _) => shorter,
+        _ => longer,
     }
 }
 
@@ -116,28 +85,12 @@ fn broken_rule_of(alloc: Global, device: RamDevice, longer: Violation) -> Result
     match mount_in_order(alloc, device, NameOrder::ShorterFirst) {
         // The image is accepted in neither order.
         Ok(_thread) => unreachable!(),
-        Err((device, error)) => rule_of_both(alloc, device, longer, error),
-    }
-}
-
-// Returns the verdict on the image of a device whose mount met this error.
-fn judge_refused_image(
-    alloc: Global,
-    device: RamDevice,
-    error: MountError,
-) -> Result<ImageVerdict, Error>
-    requires refused { error_of_mount error ≡ Error.Corrupt → IsInNoOrder (disk_of_blocks (ram_geometry device) (ram_blocks device)) }
-    requires longer { IsTrueViolation (ordered_disk LongerFirst (disk_of_blocks (ram_geometry device) (ram_blocks device))) error }
-    requires no_fault { error ≢ MountError.Io }
-    ensures verdict { IfOk result (IsDiskVerdict (disk_of_blocks (ram_geometry device) (ram_blocks device))) }
-    ensures err { IfErr result (λ e. e ≡ Error.NoMemory) }
-{
-    match error {
-        MountError::Corrupt(violation) => {
-            let rule = broken_rule_of(alloc, device, violation)?;
-            Ok(ImageVerdict::Refused(rule))
-        }
-        error => Err(error.into()),
+        Err((device, error)) => match error {
+            MountError::Corrupt(shorter) => {
+                broken_rule(alloc, device, rule_to_tell(longer, shorter), shorter)
+            }
+            error => Err(error.into()),
+        },
     }
 }
 
@@ -187,6 +140,12 @@ pub fn judge_device(alloc: Global, device: RamDevice) -> Result<ImageVerdict, Er
             // The device has no fault, so memory ran out.
             Err(_) => Err(Error::NoMemory),
         },
-        Err((device, error)) => judge_refused_image(alloc, device, error),
+        Err((device, error)) => match error {
+            MountError::Corrupt(longer) => {
+                let rule = broken_rule_of(alloc, device, longer)?;
+                Ok(ImageVerdict::Refused(rule))
+            }
+            error => Err(error.into()),
+        },
     }
 }

@@ -3,10 +3,8 @@
 //! made of a tree of files.
 #![tactic(auto)]
 
-mod check_result;
 mod checked_lines;
 mod creation;
-mod error_lines;
 mod errors;
 mod examination;
 mod found_thread;
@@ -15,7 +13,6 @@ mod image_devices;
 mod image_layout;
 mod input;
 mod judgement;
-mod line_text;
 mod lines;
 mod listings;
 mod loaded_block;
@@ -23,7 +20,6 @@ mod number_text;
 mod output;
 mod progress;
 mod reader;
-mod sizes;
 mod source_entries;
 mod sparse;
 mod summaries;
@@ -33,17 +29,14 @@ mod verdict;
 mod violation_lines;
 mod watched_stream;
 mod writer;
-mod wrong_number;
 
-pub use check_result::{CheckResult, GivenSizes, RefusalReason};
 pub use checked_lines::check_result_lines;
-pub use creation::{create, new_image};
-pub use error_lines::report;
-pub use errors::{Fault, ToolError};
+pub use creation::{create, new_image, read_source_entries};
+pub use errors::{Fault, ToolError, report};
 pub use examination::result_of_image;
 pub use image_checks::check;
 pub use image_devices::{ram_device_of, sparse_device_of};
-pub use image_layout::ImageLayout;
+pub use image_layout::{ImageLayout, geometry_of_sizes};
 pub use input::read_image;
 pub use judgement::{accepted_summary, judge_device};
 pub use lfs_lookup::push_escaped_path;
@@ -53,13 +46,14 @@ pub use lfs_tool_line::{
 pub use listings::{lines_of_device, list};
 pub use loaded_block::LoadedBlock;
 pub use output::write_and_flush;
-pub use progress::{FilesAndBytes, FollowsProgress};
+pub use progress::{FilesAndBytes, FollowsProgress, ProgressLine};
 pub use reader::ImageInput;
-pub use sizes::geometry_of_sizes;
 pub use sparse::SparseDevice;
 pub use superblocks::{image_superblock_at, image_wrong_number};
 pub use unpacked_images::unpack;
-pub use verdict::{AcceptedOrders, BrokenRule, ImageSummary, ImageVerdict};
+pub use verdict::{
+    AcceptedOrders, BrokenRule, CheckResult, GivenSizes, ImageSummary, ImageVerdict, RefusalReason,
+    WrongNumber,
+};
 pub use watched_stream::WatchedStream;
 pub use writer::ToolOutput;
-pub use wrong_number::WrongNumber;

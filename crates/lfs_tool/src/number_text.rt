@@ -1,7 +1,6 @@
 // Addresses and wrong numbers, as lines show them.
 
-use crate::check_result::GivenSizes;
-use crate::wrong_number::WrongNumber;
+use crate::verdict::{GivenSizes, WrongNumber};
 use std::fmt;
 
 // The two blocks of a pair.

@@ -5,7 +5,7 @@ ghost use Rattle.lfs_model.specs.format.EntryTypes.{SuperblockFields};
 ghost use Rattle.lfs_tag.specs.FieldsView.{superblock_view};
 ghost use Rattle.lfs_tool.specs.WrongNumbers.{HasSizesVersion, NoWrongNumberIn, IsWrongNumberIn, IsWrongField, IsSuperblockAt, IsFirstSuperblock};
 
-use crate::wrong_number::WrongNumber;
+use crate::verdict::WrongNumber;
 use lfs_device::AcceptedVersions;
 use lfs_tag::{Superblock, superblock_of};
 

@@ -1,6 +1,9 @@
-// The verdict on an image.
+// The verdict on an image, and the result of a check.
 
-use crate::wrong_number::WrongNumber;
+ghost use Rattle.std.specs.Prelude.{◌≡◌, ℕ, List, length};
+ghost use Rattle.lfs_tool.specs.CheckResults.{AreGivenSizes};
+
+use crate::ImageLayout;
 use lfs_model::{ProfileBreach, Violation};
 use lfs_tag::Superblock;
 
@@ -41,8 +44,6 @@ pub struct BrokenRule {
     pub violation: Violation,
     /// A line without its end, which says the rule and the place, with names and numbers.
     pub line: Vec<u8>,
-    /// The number of the superblock that is wrong, where that is the rule.
-    pub stated: Option<WrongNumber>,
 }
 
 /// Whether an image is accepted, and with what, or why not.
@@ -54,4 +55,64 @@ pub enum ImageVerdict {
     },
     /// A rule that the image breaks.
     Refused(BrokenRule),
+}
+
+/// A number in a superblock's struct that is wrong for its image (SPEC.md of littlefs, "0x0ff
+/// LFS_TYPE_SUPERBLOCK").
+#[derive(Clone, Copy, Debug, PartialEq, Eq, Drop)]
+pub enum WrongNumber {
+    /// Another size of a block, in bytes.
+    BlockSize(u32),
+    /// Another number of blocks.
+    BlockCount(u32),
+    /// A version that isn't accepted: the major number in the upper 16 bits, the minor one in the lower.
+    Version(u32),
+}
+
+/// The sizes with which an image is checked: of a block, a page and the image in bytes, and the number of
+/// whole blocks. Of bytes that are more than an image may have, one more than these is counted.
+#[derive(Clone, Copy, Debug, PartialEq, Eq, Drop)]
+pub struct GivenSizes {
+    pub block_size: u32,
+    pub page: u32,
+    pub size: usize,
+    pub blocks: usize,
+}
+
+impl GivenSizes {
+    // Returns the sizes with which an image of so many bytes is checked.
+    pub(crate) fn of(len: usize, layout: ImageLayout) -> GivenSizes
+        ensures { (image : List ℕ) → length image ≡ len → AreGivenSizes layout image result }
+    {
+        GivenSizes {
+            block_size: layout.block_size,
+            page: layout.page,
+            size: len,
+            blocks: len.checked_div(layout.block_size as usize).unwrap_or(0),
+        }
+    }
+}
+
+/// The cause for which an image isn't accepted.
+#[derive(Drop)]
+pub enum RefusalReason {
+    /// The superblock in block 0 or 1 gives another size, number of blocks or version.
+    WrongNumber(WrongNumber),
+    /// No image of blocks and pages of these sizes has so many bytes.
+    NoImage,
+    /// The image breaks this rule.
+    Broken(BrokenRule),
+}
+
+/// Whether an image is accepted, and with what, or why not.
+#[derive(Drop)]
+pub enum CheckResult {
+    Accepted {
+        summary: ImageSummary,
+        orders: AcceptedOrders,
+    },
+    Refused {
+        reason: RefusalReason,
+        given: GivenSizes,
+    },
 }

@@ -21,8 +21,13 @@ mod profiles;
 #[cfg(test)]
 mod progress;
 #[cfg(test)]
+mod progress_lines;
+mod runs;
+#[cfg(test)]
 mod sources;
 #[cfg(test)]
 mod texts;
 #[cfg(test)]
 mod whole_images;
+
+pub use runs::{RUNS, make_files, program_words, seconds_at, set_seconds, time_in_image};

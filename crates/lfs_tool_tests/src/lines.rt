@@ -603,7 +603,7 @@ const TIMES: &str = "error: --times is for -c and -u\n";
 
 const STREAMS: &str = "error: --put takes - as FILE or as IMAGE, not as both\n";
 
-const REFUSED: [(&[&str], Option<&str>); 43] = [
+const REFUSED: [(&[&str], Option<&str>); 44] = [
     // options that are for other modes
     (&["mklittlefs", "-l", "-sauto", "i"], Some(SIZE)),
     (&["mklittlefs", "-cd", "--spare=1", "i"], Some(SPARE)),
@@ -611,6 +611,7 @@ const REFUSED: [(&[&str], Option<&str>); 43] = [
     (&["mklittlefs", "-cd", "-sauto", "--spare=x", "i"], None),
     (&["mklittlefs", "--cat", "/a", "--times", "i"], Some(TIMES)),
     (&["mklittlefs", "--check", "--times", "i"], Some(TIMES)),
+    (&["mklittlefs", "-l", "--times", "i"], Some(TIMES)),
     (&["mklittlefs", "--put", "-", "/a", "-"], Some(STREAMS)),
     // a part of a file that is to be made
     (&["mklittlefs", "-cd", "-b", "auto", "i"], Some(PART)),

@@ -4,8 +4,8 @@ use crate::files::Host;
 use crate::run::{folder_of_line, geometry_of_line, refusing_file_limit};
 use crate::times::keep_times;
 use lfs_device::{Error, Geometry, RamDevice};
-use lfs_tool::{Extras, FollowsProgress, Line, Mode, ToolError, new_image};
-use lfs_tool_folders::{Folder, SourceEntry, SourceError, read_tree};
+use lfs_tool::{Extras, FollowsProgress, Line, Mode, ToolError, new_image, read_source_entries};
+use lfs_tool_folders::SourceEntry;
 
 /// The most bytes that an image has.
 pub(crate) const IMAGE_MAX: u32 = 268_435_456;
@@ -15,18 +15,6 @@ const BLOCKS_MAX: u32 = 65_536;
 // No longer file is in its folder's entry.
 const INLINE_MAX: usize = 1022;
 
-/// Reads all that a folder has.
-pub(crate) fn read_folder(
-    host: Host<'_>,
-    source: &mut Folder<'_, HostRuntime>,
-) -> Result<Vec<SourceEntry>, ToolError> {
-    match read_tree(host.alloc(), source) {
-        Ok(entries) => Ok(entries),
-        Err(SourceError::Fault) => Err(ToolError::Input),
-        Err(SourceError::NoMemory) => Err(ToolError::Fs(Error::NoMemory)),
-    }
-}
-
 /// Reads all that the folder of a line has, for an image of any size. The line comes with the limit of files by which
 /// such an image is refused.
 pub(crate) fn read_line_folder<'a>(
@@ -35,7 +23,7 @@ pub(crate) fn read_line_folder<'a>(
     folder: &str,
 ) -> Result<(Vec<SourceEntry>, Line<'a>), ToolError> {
     let mut source = folder_of_line(host, folder, IMAGE_MAX)?;
-    let entries = read_folder(host, &mut source)?;
+    let entries = read_source_entries(host.alloc(), &mut source)?;
     let mut line = *line;
     line.profile.file_max = refusing_file_limit(&source, IMAGE_MAX, line.profile.file_max);
     Ok((entries, line))
@@ -73,10 +61,8 @@ fn are_blocks_enough(
 
 // Returns the most blocks of this size that an image has.
 fn most_blocks(block_size: u32) -> u32 {
-    match IMAGE_MAX.checked_div(block_size) {
-        Some(most) => most.min(BLOCKS_MAX),
-        None => 0,
-    }
+    let most = IMAGE_MAX.checked_div(block_size).unwrap_or(0);
+    most.min(BLOCKS_MAX)
 }
 
 // Returns how many blocks the bytes of the entries take at least, beside the root's.

@@ -1,22 +1,17 @@
 // Why a command line wasn't carried out: the lines of --explain.
 
-use crate::blocks::{IMAGE_MAX, enough_blocks, read_folder, read_line_folder};
+use crate::blocks::{IMAGE_MAX, enough_blocks, read_line_folder};
 use crate::files::{Host, is_standard_stream};
-use crate::parts::{ImagePart, open_part};
-use crate::path_words::words_of_refusal;
+use crate::parts::{ImagePart, open_part, skip_bytes};
 use crate::run::{folder_of_line, geometry_of_line};
 use lfs_device::Error;
 use lfs_tool::{
-    CheckResult, Fault, Line, Mode, RefusalReason, ToolError, ToolOutput, WrongNumber,
-    check_result_lines, push_escaped_path, report, result_of_image, write_and_flush,
+    Fault, Line, Mode, ToolError, ToolOutput, check_result_lines, push_escaped_path,
+    read_source_entries, report, result_of_image, write_and_flush,
 };
 use lfs_tool_folders::{Folder, SourceEntry};
 use lfs_tool_line::Sizes;
-use std::io;
-use std::io::Read;
-
-// The version 2.1, as a superblock has it.
-const LATER_VERSION: u32 = 0x0002_0001;
+use std::alloc::AllocError;
 
 // Opens the line's image once more. Standard input can't be read twice.
 fn open_part_again<'a>(host: Host<'a>, line: &Line<'a>) -> Result<ImagePart<'a>, ToolError> {
@@ -26,30 +21,52 @@ fn open_part_again<'a>(host: Host<'a>, line: &Line<'a>) -> Result<ImagePart<'a>,
     open_part(host, line)
 }
 
-// The fault that a file, a folder or a stream met.
-fn path_fault_line(host: Host<'_>) -> Result<Vec<u8>, ToolError> {
-    let mut text = Vec::new(host.alloc());
-    if let Some(fault) = host.log.take()? {
-        push_escaped_path(&mut text, &fault.path)?;
-        text.extend_from_slice(b": ")?;
-        push_escaped_path(&mut text, &fault.words)?;
-        text.extend_from_slice(b"\n")?;
+// Adds a line of a path, whose parts stand behind one another, and of words.
+fn push_path_line(text: &mut Vec<u8>, parts: &[&[u8]], words: &[u8]) -> Result<(), AllocError> {
+    for part in parts {
+        push_escaped_path(text, part)?;
     }
-    Ok(text)
+    text.extend_from_slice(b": ")?;
+    push_escaped_path(text, words)?;
+    text.extend_from_slice(b"\n")
 }
 
-// What is wrong with the path in the image of the line's mode.
-fn path_in_image_line(host: Host<'_>, line: &Line<'_>, error: Error) -> Result<Vec<u8>, ToolError> {
-    let mut text = Vec::new(host.alloc());
+// Adds the fault that a file, a folder or a stream met.
+fn push_path_fault(host: Host<'_>, text: &mut Vec<u8>) -> Result<(), AllocError> {
+    match host.log.take()? {
+        Some(fault) => push_path_line(text, &[fault.path.as_slice()], &fault.words),
+        None => Ok(()),
+    }
+}
+
+// What an error says of a path, where it says something.
+fn words_of_refusal(error: Error) -> Option<&'static str> {
+    match error {
+        Error::NoEnt => Some("nothing is there, or a folder above it is missing"),
+        Error::Exist => Some("something is there already"),
+        Error::NotDir => Some("a file is where a folder is wanted"),
+        Error::IsDir => Some("a folder is where a file is wanted"),
+        Error::Invalid => Some("a path in the image begins with /, as /log/today"),
+        Error::TooBig => Some("the file is longer than the image's limit"),
+        Error::NoSpace => Some("too few blocks are free"),
+        Error::ReadOnly => Some("the image isn't one that is changed here; --check says why"),
+        Error::NameTooLong => Some("a name is longer than the image's limit"),
+        Error::NotEmpty => Some("the folder has entries"),
+        Error::EntryFull => Some("the name takes too much of a block"),
+        _ => None,
+    }
+}
+
+// Adds what is wrong with the path in the image of the line's mode.
+fn push_path_in_image(line: &Line<'_>, error: Error, text: &mut Vec<u8>) -> Result<(), AllocError> {
     let path = match line.mode {
         Mode::Cat(path) | Mode::Put(_, path) | Mode::Remove(path) | Mode::Mkdir(path) => path,
-        Mode::Create(_) | Mode::Unpack(_) | Mode::List | Mode::Check => return Ok(text),
+        Mode::Create(_) | Mode::Unpack(_) | Mode::List | Mode::Check => return Ok(()),
     };
-    if let Some(words) = words_of_refusal(error) {
-        push_escaped_path(&mut text, path.as_bytes())?;
-        text.extend_from_slice(format!(in host.alloc(); ": {words}\n")?.as_bytes())?;
+    match words_of_refusal(error) {
+        Some(words) => push_path_line(text, &[path.as_bytes()], words.as_bytes()),
+        None => Ok(()),
     }
-    Ok(text)
 }
 
 // The sizes of the line's image.
@@ -63,10 +80,7 @@ fn sizes_of_image(host: Host<'_>, line: &Line<'_>) -> Result<Sizes, ToolError> {
     }
     let ImagePart { stream, layout } = open_part_again(host, line)?;
     // One byte more than an image may have is enough to know.
-    let mut bytes = stream.into_inner().take(u64::from(IMAGE_MAX) + 1);
-    let Ok(size) = io::copy(&mut bytes, &mut io::sink()) else {
-        return Err(ToolError::Input);
-    };
+    let size = skip_bytes(&mut stream.into_inner(), u64::from(IMAGE_MAX) + 1)?;
     Ok(Sizes {
         size: size as usize,
         block_size: layout.block_size,
@@ -74,155 +88,131 @@ fn sizes_of_image(host: Host<'_>, line: &Line<'_>) -> Result<Sizes, ToolError> {
     })
 }
 
-// The rule that the sizes break, or what is wrong with the path in the image.
-fn size_rule_line(host: Host<'_>, line: &Line<'_>) -> Result<Vec<u8>, ToolError> {
+// Adds the rule that the sizes break, or what is wrong with the path in the image.
+fn push_size_rule(host: Host<'_>, line: &Line<'_>, text: &mut Vec<u8>) -> Result<(), ToolError> {
     let sizes = sizes_of_image(host, line)?;
-    let mut text = Vec::new(host.alloc());
     match sizes.broken_rule() {
-        Some(rule) => sizes.push_rule_line(&mut text, rule)?,
-        None => return path_in_image_line(host, line, Error::Invalid),
+        Some(rule) => sizes.push_rule_line(text, rule)?,
+        None => push_path_in_image(line, Error::Invalid, text)?,
     }
-    Ok(text)
+    Ok(())
 }
 
-// The wrong number of a superblock, where that is why an image isn't accepted.
-fn wrong_number_of_check_result(checked: &CheckResult) -> Option<WrongNumber> {
-    match checked {
-        CheckResult::Accepted { .. } => None,
-        CheckResult::Refused { reason, .. } => match reason {
-            RefusalReason::WrongNumber(stated) => Some(*stated),
-            RefusalReason::Broken(rule) => rule.stated,
-            RefusalReason::NoImage => None,
-        },
-    }
-}
-
-// What a check says of the image. For version 2.1 it says which option reads it.
-fn check_lines(host: Host<'_>, line: &Line<'_>) -> Result<Vec<u8>, ToolError> {
+// Adds what a check says of the image. For version 2.1 it says which option reads it.
+fn push_check(host: Host<'_>, line: &Line<'_>, text: &mut Vec<u8>) -> Result<(), ToolError> {
     let ImagePart { mut stream, layout } = open_part_again(host, line)?;
     let checked = result_of_image(host.alloc(), &mut stream, layout)?;
-    let mut text = check_result_lines(host.alloc(), &checked)?;
-    if wrong_number_of_check_result(&checked) == Some(WrongNumber::Version(LATER_VERSION)) {
+    text.extend_from_slice(check_result_lines(host.alloc(), &checked)?.as_slice())?;
+    if text.ends_with(b"superblock: version 2.1\n") {
         let _end = text.pop();
         text.extend_from_slice(b"; --also-2.1 reads it\n")?;
     }
-    Ok(text)
-}
-
-// A limit of an image that a folder passes, in bytes.
-#[derive(Clone, Copy)]
-enum PassedLimit {
-    Name(u32),
-    File(u32),
+    Ok(())
 }
 
 // How many bytes a file of a folder has. Zeros stand for one that is longer than each image.
-fn length_of_file(entry: &SourceEntry, source: &Folder<'_, HostRuntime>) -> u64 {
-    let len = match &entry.bytes {
-        Some(bytes) => bytes.len() as u64,
-        None => 0,
-    };
-    if len > u64::from(IMAGE_MAX) {
-        return source.first_long_file().unwrap_or(len);
+fn length_of_file(entry: &SourceEntry, source: &Folder<'_, HostRuntime>) -> usize {
+    let len = entry.bytes.as_ref().map_or(0, |bytes| bytes.len());
+    match source.first_long_file() {
+        Some(long) if len > IMAGE_MAX as usize => long as usize,
+        _ => len,
     }
-    len
 }
 
 // How many bytes the last name of a path has.
-fn length_of_name(path: &[u8]) -> u64 {
-    let name = path.rsplit(|byte| *byte == b'/').next().unwrap_or(path);
-    name.len() as u64
+fn length_of_name(path: &[u8]) -> usize {
+    path.rsplit(|byte| *byte == b'/')
+        .next()
+        .unwrap_or(path)
+        .len()
 }
 
-// The first name or file of a folder that passes a limit.
-fn passed_limit_line(
+// Adds the first name or file of a folder that passes the limit of an image, for which this error comes.
+fn push_passed_limit(
     host: Host<'_>,
+    line: &Line<'_>,
     folder: &str,
-    limit: PassedLimit,
-) -> Result<Vec<u8>, ToolError> {
+    error: Error,
+    text: &mut Vec<u8>,
+) -> Result<(), ToolError> {
     let mut source = folder_of_line(host, folder, IMAGE_MAX)?;
-    let mut text = Vec::new(host.alloc());
-    for entry in read_folder(host, &mut source)? {
-        let (what, len, most) = match limit {
-            PassedLimit::Name(most) => ("name", length_of_name(&entry.path), most),
-            PassedLimit::File(most) => ("file", length_of_file(&entry, &source), most),
+    for entry in read_source_entries(host.alloc(), &mut source)? {
+        let (what, len, most) = if error == Error::NameTooLong {
+            ("name", length_of_name(&entry.path), line.profile.name_max)
+        } else {
+            (
+                "file",
+                length_of_file(&entry, &source),
+                line.profile.file_max,
+            )
         };
-        if len > u64::from(most) {
-            push_escaped_path(&mut text, folder.as_bytes())?;
-            push_escaped_path(&mut text, &entry.path)?;
-            let words = format!(in host.alloc();
-                ": a {what} of {len} bytes, and {most} are the most\n"
-            )?;
-            text.extend_from_slice(words.as_bytes())?;
-            return Ok(text);
+        if len > most as usize {
+            let alloc = host.alloc();
+            let words = format!(in alloc; "a {what} of {len} bytes, and {most} are the most")?;
+            let parts = [folder.as_bytes(), entry.path.as_slice()];
+            return Ok(push_path_line(text, &parts, words.as_bytes())?);
         }
     }
     text.extend_from_slice(b"no name and no file of the folder is too long by now\n")?;
-    Ok(text)
+    Ok(())
 }
 
-// How many blocks the image of a folder takes.
-fn needed_blocks_line(host: Host<'_>, line: &Line<'_>, folder: &str) -> Result<Vec<u8>, ToolError> {
+// How many blocks the image of a folder takes, as a line.
+fn needed_blocks_line(host: Host<'_>, line: &Line<'_>, folder: &str) -> Result<String, ToolError> {
     let blocks = geometry_of_line(line)?.block_count;
     let (entries, line) = read_line_folder(host, line, folder)?;
     let alloc = host.alloc();
     let text = match enough_blocks(host, &line, entries.as_slice(), blocks) {
         Ok(Some(count)) if count > blocks => {
-            format!(in alloc; "{blocks} blocks are too few, it takes {count}\n")?
+            format!(in alloc; "{blocks} blocks are too few, it takes {count}\n")
         }
         Ok(Some(_)) => {
-            format!(in alloc; "{blocks} blocks are enough for what the folder has by now\n")?
+            format!(in alloc; "{blocks} blocks are enough for what the folder has by now\n")
         }
-        Ok(None) => format!(in alloc; "{blocks} blocks are too few, and no image has enough\n")?,
-        Err(error) => {
-            format!(in alloc;
-                "{blocks} blocks were too few, how many it takes isn't known: {error}\n"
-            )?
-        }
+        Ok(None) => format!(in alloc; "{blocks} blocks are too few, and no image has enough\n"),
+        Err(error) => format!(in alloc;
+            "{blocks} blocks were too few, how many it takes isn't known: {error}\n"
+        ),
     };
-    Ok(text.into_bytes())
+    Ok(text?)
 }
 
-// The limit of attributes, where a time passes it.
-fn time_limit_line(host: Host<'_>, line: &Line<'_>) -> Result<Vec<u8>, ToolError> {
-    let text = format!(in host.alloc();
-        "a time takes an attribute of 4 bytes, and {} are the most\n",
-        line.profile.attr_max
-    )?;
-    Ok(text.into_bytes())
-}
-
-// The lines that say why no image of a folder was made.
-fn new_image_lines(
+// Adds the lines that say why no image of a folder was made.
+fn push_new_image(
     host: Host<'_>,
     line: &Line<'_>,
     folder: &str,
     error: Error,
-) -> Result<Vec<u8>, ToolError> {
-    match error {
-        Error::NoSpace => needed_blocks_line(host, line, folder),
-        Error::NameTooLong => {
-            passed_limit_line(host, folder, PassedLimit::Name(line.profile.name_max))
+    text: &mut Vec<u8>,
+) -> Result<(), ToolError> {
+    let attr_max = line.profile.attr_max;
+    let words = match error {
+        Error::NoSpace => needed_blocks_line(host, line, folder)?,
+        Error::TooBig if host.times && attr_max < 4 => format!(in host.alloc();
+            "a time takes an attribute of 4 bytes, and {attr_max} are the most\n"
+        )?,
+        Error::TooBig | Error::NameTooLong => {
+            return push_passed_limit(host, line, folder, error, text);
         }
-        Error::TooBig if host.times && line.profile.attr_max < 4 => time_limit_line(host, line),
-        Error::TooBig => passed_limit_line(host, folder, PassedLimit::File(line.profile.file_max)),
-        _ => Ok(Vec::new(host.alloc())),
-    }
+        _ => return Ok(()),
+    };
+    Ok(text.extend_from_slice(words.as_bytes())?)
 }
 
-// The lines that say why a line ended in this error.
-fn explanation_lines(
+// Adds the lines that say why a line ended in this error.
+fn push_explanation(
     host: Host<'_>,
     line: &Line<'_>,
     error: ToolError,
-) -> Result<Vec<u8>, ToolError> {
+    text: &mut Vec<u8>,
+) -> Result<(), ToolError> {
     match error {
-        ToolError::Input | ToolError::Output => path_fault_line(host),
-        ToolError::Fs(Error::Invalid) => size_rule_line(host, line),
-        ToolError::Fs(Error::Corrupt) => check_lines(host, line),
+        ToolError::Input | ToolError::Output => Ok(push_path_fault(host, text)?),
+        ToolError::Fs(Error::Invalid) => push_size_rule(host, line, text),
+        ToolError::Fs(Error::Corrupt) => push_check(host, line, text),
         ToolError::Fs(error) => match line.mode {
-            Mode::Create(folder) => new_image_lines(host, line, folder, error),
-            _ => path_in_image_line(host, line, error),
+            Mode::Create(folder) => push_new_image(host, line, folder, error, text),
+            _ => Ok(push_path_in_image(line, error, text)?),
         },
     }
 }
@@ -235,8 +225,9 @@ pub(crate) fn write_explanation<O: ToolOutput, E: ToolOutput>(
     out: &mut O,
     err: &mut E,
 ) {
-    match explanation_lines(host, line, error) {
-        Ok(text) => {
+    let mut text = Vec::new(host.alloc());
+    match push_explanation(host, line, error, &mut text) {
+        Ok(()) => {
             let _ = write_and_flush(err, text.as_slice());
         }
         Err(error) => {

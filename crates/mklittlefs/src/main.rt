@@ -9,10 +9,6 @@ mod json;
 mod leftovers;
 mod lists;
 mod parts;
-mod path_words;
-mod progress;
-#[cfg(test)]
-mod progress_tests;
 mod run;
 #[cfg(test)]
 mod run_tests;

@@ -4,8 +4,8 @@ use crate::files::{Host, OpenFile, open_file};
 use crate::run::layout_of_line;
 use lfs_device::Error;
 use lfs_tool::{ImageLayout, Line, ToolError, WatchedStream, image_superblock_at};
+use std::io;
 use std::io::{Chain, Cursor, ErrorKind, Read, Take};
-use std::{fmt, io};
 
 // As far as a superblock of block 0 or 1 is, with the largest blocks.
 const HEAD: u64 = 65_580;
@@ -28,8 +28,8 @@ fn tool_error_of_read(error: &io::Error) -> ToolError {
     }
 }
 
-// Reads so many bytes, or all where there are fewer, and counts them.
-fn skip_bytes<R: Read>(reader: &mut R, most: u64) -> Result<u64, ToolError> {
+/// Reads so many bytes, or all where there are fewer, and counts them.
+pub(crate) fn skip_bytes<R: Read>(reader: &mut R, most: u64) -> Result<u64, ToolError> {
     match io::copy(&mut reader.by_ref().take(most), &mut io::sink()) {
         Ok(count) => Ok(count),
         Err(error) => Err(tool_error_of_read(&error)),
@@ -58,24 +58,4 @@ pub(crate) fn open_part<'a>(host: Host<'a>, line: &Line<'a>) -> Result<ImagePart
     }
     let stream = WatchedStream::new(Cursor::new(head).chain(file).take(size));
     Ok(ImagePart { stream, layout })
-}
-
-/// How many bytes are behind an image, as a line.
-#[derive(Drop)]
-pub(crate) struct BytesBehind {
-    count: u64,
-}
-
-impl fmt::Display for BytesBehind {
-    fn fmt<W: fmt::Write>(&self, f: &mut fmt::Formatter<W>) -> fmt::Result {
-        write!(f, "behind {} bytes\n", self.count)
-    }
-}
-
-/// Counts the bytes behind an image.
-pub(crate) fn count_bytes_behind(image: OldImage<'_>) -> Result<BytesBehind, ToolError> {
-    let mut part = image.into_inner();
-    let _part = skip_bytes(&mut part, u64::MAX)?;
-    let count = skip_bytes(&mut part.into_inner(), u64::MAX)?;
-    Ok(BytesBehind { count })
 }

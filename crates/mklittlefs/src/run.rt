@@ -1,23 +1,22 @@
 // What a command line requests.
 
-use crate::blocks::{fit_size, image_of_entries, read_folder};
+use crate::blocks::{fit_size, image_of_entries};
 use crate::explain::write_explanation;
 use crate::files::{Host, NotedWriter};
 use crate::json::{check_as_json, json_of_list};
 use crate::lists::{accepted_lines, list_lines};
-use crate::parts::{ImagePart, count_bytes_behind, open_part};
-use crate::progress::progress_at_terminal;
+use crate::parts::{ImagePart, open_part, skip_bytes};
 use crate::session::{cat_file, change_image};
 use crate::times::set_times;
 use lfs_device::{Error, Geometry};
 use lfs_tool::{
-    Extras, Fault, ImageInput, ImageLayout, Line, LineError, Mode, Request, ToolError, ToolOutput,
-    WatchedStream, check, create, geometry_of_sizes, ram_device_of, read_image, read_request,
-    report, unpack, write_and_flush,
+    Extras, Fault, ImageInput, ImageLayout, Line, LineError, Mode, ProgressLine, Request,
+    ToolError, ToolOutput, WatchedStream, check, create, geometry_of_sizes, ram_device_of,
+    read_image, read_request, read_source_entries, report, unpack, write_and_flush,
 };
 use lfs_tool_folders::{Folder, FolderRules, Links, Target, TargetError, TargetFolder};
 use std::io;
-use std::io::ErrorKind;
+use std::io::{ErrorKind, IsTerminal, Stderr};
 
 /// The layout of a line's image.
 pub(crate) fn layout_of_line(line: &Line<'_>) -> ImageLayout {
@@ -49,6 +48,12 @@ pub(crate) fn refusing_file_limit(folder: &Folder<'_, HostRuntime>, size: u32, l
     }
 }
 
+// The line of a work that begins now, where standard error is a terminal.
+fn progress_at_terminal(rt: &HostRuntime) -> ProgressLine<Stderr, HostRuntime> {
+    let is_terminal = rt.stderr().is_terminal();
+    ProgressLine::new(rt.stderr(), *rt, is_terminal)
+}
+
 // Writes the image of a folder.
 fn write_image(
     host: Host<'_>,
@@ -59,7 +64,7 @@ fn write_image(
 ) -> Result<(), ToolError> {
     let mut progress = progress_at_terminal(host.rt);
     if host.times {
-        let entries = read_folder(host, source)?;
+        let entries = read_source_entries(host.alloc(), source)?;
         let made = image_of_entries(host, line, geometry, entries.as_slice(), &mut progress)?;
         return write_and_flush(image, made.bytes());
     }
@@ -136,10 +141,11 @@ pub(crate) fn check_image<W: ToolOutput>(
         None => check(host.alloc(), &mut stream, layout, out)?,
     };
     if line.is_auto {
-        let behind = count_bytes_behind(stream)?;
-        if out.show(&behind).is_err() {
-            return Err(ToolError::Output);
-        }
+        let mut part = stream.into_inner();
+        let _part = skip_bytes(&mut part, u64::MAX)?;
+        let count = skip_bytes(&mut part.into_inner(), u64::MAX)?;
+        let behind = format!(in host.alloc(); "behind {count} bytes\n")?;
+        write_and_flush(out, behind.as_bytes())?;
     }
     Ok(is_accepted)
 }
@@ -183,12 +189,10 @@ fn report_unwritten_lines<O: ToolOutput, E: ToolOutput>(
 
 // How the folder of an image that is made is read.
 fn folder_rules<'a>(extras: &'a Extras<'_>) -> FolderRules<'a> {
-    let links = if extras.follow_links {
-        Links::Follow
-    } else if extras.skip_links {
-        Links::Skip
-    } else {
-        Links::Refuse
+    let links = match (extras.follow_links, extras.skip_links) {
+        (true, _) => Links::Follow,
+        (_, true) => Links::Skip,
+        _ => Links::Refuse,
     };
     FolderRules {
         exclude: extras.exclude.as_slice(),

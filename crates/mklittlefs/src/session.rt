@@ -13,10 +13,7 @@ pub(crate) fn mount_image(
     host: Host<'_>,
     image: RamDevice,
 ) -> Result<Session<RamDevice>, ToolError> {
-    match mount(host.alloc(), image) {
-        Ok(session) => Ok(session),
-        Err((_device, error)) => Err(ToolError::Fs(error)),
-    }
+    mount(host.alloc(), image).map_err(|(_device, error)| ToolError::Fs(error))
 }
 
 // Mounts the image of a line, all of it in memory.

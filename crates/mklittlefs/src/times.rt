@@ -13,44 +13,34 @@ use std::{fs, io};
 // The type of the attribute. Its four bytes are the seconds since 1970, the lowest byte first.
 const TIME: u8 = b't';
 
-// Adds the paths of what is in a folder of an image, and those of the folders among them to `folders`.
-fn push_paths(
-    host: Host<'_>,
-    session: &mut Session<RamDevice>,
-    folder: &str,
-    paths: &mut Vec<String>,
-    folders: &mut Vec<String>,
-) -> Result<(), ToolError> {
-    let shown = if folder.is_empty() { "/" } else { folder };
-    for item in session.list(host.alloc(), shown.as_bytes())? {
-        let Ok(name) = str::from_utf8(item.name.as_slice()) else {
-            return Err(ToolError::Output);
-        };
-        if item.kind == Kind::Dir {
-            folders
-                .push(format!(in host.alloc(); "{folder}/{name}")?)
-                .map_err(AllocError::from)?;
-        }
-        paths
-            .push(format!(in host.alloc(); "{folder}/{name}")?)
-            .map_err(AllocError::from)?;
-    }
-    Ok(())
-}
-
 // Returns the paths of all that is in an image.
 fn paths_in_image(
     host: Host<'_>,
     session: &mut Session<RamDevice>,
 ) -> Result<Vec<String>, ToolError> {
-    let mut paths = Vec::new(host.alloc());
-    let mut folders = Vec::new(host.alloc());
-    push_paths(host, session, "", &mut paths, &mut folders)?;
+    let alloc = host.alloc();
+    let mut paths = Vec::new(alloc);
+    let mut folders = Vec::new(alloc);
+    folders.push(String::new(alloc)).map_err(AllocError::from)?;
     for _ in 0..u64::MAX {
         let Some(folder) = folders.pop() else {
             break;
         };
-        push_paths(host, session, folder.as_str(), &mut paths, &mut folders)?;
+        let shown = if folder.is_empty() {
+            "/"
+        } else {
+            folder.as_str()
+        };
+        for item in session.list(alloc, shown.as_bytes())? {
+            let Ok(name) = str::from_utf8(item.name.as_slice()) else {
+                return Err(ToolError::Output);
+            };
+            let path = format!(in alloc; "{folder}/{name}")?;
+            if item.kind == Kind::Dir {
+                folders.push(path.clone()?).map_err(AllocError::from)?;
+            }
+            paths.push(path).map_err(AllocError::from)?;
+        }
     }
     Ok(paths)
 }

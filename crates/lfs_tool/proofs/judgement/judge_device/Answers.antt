@@ -1,10 +1,12 @@
-use Rattle.std.proofs.Common.{subst, sym}
+use Rattle.std.proofs.Common.{subst, sym, ap}
+use Rattle.std.proofs.lemmas.Result.{IfOk-weaker}
 use Rattle.lfs_model.specs.format.Disk.{ordered_disk, Disk}
 use Rattle.lfs_model.specs.layers.BlockSets.{AreUsed}
 use Rattle.lfs_model.specs.tree.Shown.{used_blocks}
 use Rattle.lfs_model.specs.tree.View.{IsAccepted}
 use Rattle.lfs_model.specs.declared.order.NameOrder.TheVariants.{LongerFirst}
-use Rattle.lfs_tool.specs.Verdict.{IsSummarized}
+use Rattle.lfs_tool.specs.Verdict.{IsSummarized, BreaksInSome, IsDiskVerdict}
+use Rattle.lfs_thread.specs.MountErrors.{error_of_mount}
 use Rattle.lfs_tool.proofs.judgement.judge_device.Goals as goal
 
 pub judge_thread-requires-clause-used : goal.judge_thread-requires-clause-used
@@ -19,6 +21,13 @@ judge_thread-requires-clause-longer c = λ is (ps, a).
 pub returns-in-Ok-judge_thread-clause-verdict : goal.returns-in-Ok-judge_thread-clause-verdict
 returns-in-Ok-judge_thread-clause-verdict c = subst (λ (d : Disk). IsSummarized (ordered_disk LongerFirst d) c.in-Ok-judge_thread.summary c.in-Ok-judge_thread.orders) c.in-Ok.ensures.mounted.disk_is c.in-Ok-judge_thread.ensures
 
-pub judge_refused_image-requires-clause-refused : goal.judge_refused_image-requires-clause-refused
-judge_refused_image-requires-clause-refused c = λ is order ps a.
-    c.in-Err.ensures.corrupt is order ps (subst (λ (d : Disk). IsAccepted (ordered_disk order d) ps) c.in-Err.ensures.back.disk a)
+pub broken_rule_of-requires-clause-refused : goal.broken_rule_of-requires-clause-refused
+broken_rule_of-requires-clause-refused c = λ order ps a.
+    c.in-Err.ensures.corrupt (ap error_of_mount c.in-Corrupt.is) order ps (subst (λ (d : Disk). IsAccepted (ordered_disk order d) ps) c.in-Err.ensures.back.disk a)
+
+pub returns-in_ok-rule-in-Corrupt-clause-verdict : goal.returns-in_ok-rule-in-Corrupt-clause-verdict
+returns-in_ok-rule-in-Corrupt-clause-verdict c =
+    let rule = c.in_ok-rule-in-Corrupt in (
+      λ order ps a. c.in-Err.ensures.corrupt (ap error_of_mount c.in-Corrupt.is) order ps a,
+      subst (λ (d : Disk). BreaksInSome d rule.rule.violation) c.in-Err.ensures.back.disk rule.ensures.broken,
+    )

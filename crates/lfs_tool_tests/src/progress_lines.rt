@@ -1,7 +1,6 @@
 // The line that says how far a work is, at a terminal and a clock of the test's own.
 
-use crate::progress::Progress;
-use lfs_tool::{FilesAndBytes, FollowsProgress};
+use lfs_tool::{FilesAndBytes, FollowsProgress, ProgressLine};
 use std::cell::Cell;
 use std::fs::File;
 use std::io::{ErrorKind, Write};
@@ -80,15 +79,19 @@ const LINES: [(u64, usize, usize, &str); 8] = [
     (0, 3, 999, ""),
 ];
 
-// Does so many files, with a terminal at this file.
-fn write_progress_lines(rt: &HostRuntime, row: (u64, usize, usize)) -> io::Result<()> {
+// Does so many files, with a terminal at this file, or with what is none.
+fn write_progress_lines(
+    rt: &HostRuntime,
+    row: (u64, usize, usize),
+    is_terminal: bool,
+) -> io::Result<()> {
     let (step, files, room) = row;
     let file = File::create(rt, "shown")?;
     let clock = TickingClock {
         now: Cell::new(0),
         step,
     };
-    let mut progress = Progress::new(LimitedTerminal { file, room }, clock);
+    let mut progress = ProgressLine::new(LimitedTerminal { file, room }, clock, is_terminal);
     progress.begin(FilesAndBytes {
         files,
         bytes: files.saturating_mul(4),
@@ -102,13 +105,15 @@ fn write_progress_lines(rt: &HostRuntime, row: (u64, usize, usize)) -> io::Resul
 #[test]
 fn progress_lines_are_shown_when_due(rt: HostRuntime) -> Result<(), Fail> {
     for (step, files, room, text) in LINES {
-        write_progress_lines(&rt, (step, files, room))?;
+        write_progress_lines(&rt, (step, files, room), true)?;
         let shown = fs::read(&rt, "shown")?;
         assert!(rt;
             shown.as_slice() == text.as_bytes(),
             "{step} {files} {room}"
         );
     }
+    write_progress_lines(&rt, (2000, 3, 999), false)?;
+    assert!(rt; fs::read(&rt, "shown")?.is_empty());
     fs::remove_file(&rt, "shown")?;
     Ok(())
 }

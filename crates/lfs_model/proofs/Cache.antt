@@ -1,6 +1,5 @@
 -- Laws of the cached blocks.
-use Rattle.std.proofs.Common.{ℕ, zero, suc, ◌≡◌, ◌≢◌, ◌≤◌, Bool, true, false, cond, not, nat_eq, List, [], ◌∷◌, take, Some, None, refl, sym, ap, ◌∙◌, eqb-true, eq-eqb}
-use Rattle.std.specs.List.{filter}
+use Rattle.std.proofs.Common.{ℕ, zero, suc, ◌≡◌, ◌≢◌, Bool, true, false, cond, not, nat_eq, List, [], ◌∷◌, take, Some, None, refl, sym, ap, ◌∙◌, eqb-true, eq-eqb}
 use Rattle.std.proofs.lemmas.Map.Entries.{lookup-filter-keys}
 use Rattle.lfs_model.specs.layers.Cache.{CachedBlocks, cache_limit, cached_bytes, cache_with_block, cache_without_block}
 

@@ -1,5 +1,5 @@
 -- The checksum is the remainder, and the only one.
-use Rattle.std.proofs.Common.{◌≡◌, ℕ, zero, suc, ◌+◌, ◌-◌, ◌*◌, ◌/◌, ◌%◌, ◌^◌, ◌<◌, ◌≤◌, Bool, true, false, cond, eqb, List, [], ◌∷◌, ◌++◌, length, get_or, refl, sym, ap, ◌∙◌, arith, inl, inr, add-one, length-append, lit<, drop, drop-cons}
+use Rattle.std.proofs.Common.{◌≡◌, ℕ, zero, suc, ◌+◌, ◌*◌, ◌/◌, ◌%◌, ◌^◌, ◌<◌, ◌≤◌, Bool, true, false, cond, eqb, List, [], ◌∷◌, ◌++◌, length, get_or, refl, sym, ap, ◌∙◌, arith, inl, inr, add-one, length-append, lit<, drop, drop-cons}
 use Rattle.std.proofs.Math.Nat.{pow-suc, mul_assoc, mul_comm}
 use Rattle.std.specs.Int.Bits.{bit_xor, xor_assoc, xor_self, xor_zero_l, xor_zero_r, xor_shifted}
 use Rattle.std.specs.List.{flat_map}
@@ -344,8 +344,3 @@ crc-append start (x ∷ xs) ys = crc-append (next_bits 8 (bit_xor start x)) xs y
 pub crc-drop : (x i : ℕ) (bytes : List ℕ) → i < length bytes → crc_of x (drop i bytes) ≡ crc_of (next_bits 8 (bit_xor x (get_or bytes i 0))) (drop (i + 1) bytes)
 unfolding crc_of
 crc-drop x i bytes lt = rw (add-one, drop-cons bytes i 0) refl
-
--- one more bit of those that are left
-pub next_bits-drop : (n i x : ℕ) → i < n → next_bits (n - i) x ≡ next_bits (n - (i + 1)) (crc_after_bit x)
-unfolding next_bits
-next_bits-drop n i x lt = let e : n - i ≡ suc (n - (i + 1)) = omega arith in rw e refl

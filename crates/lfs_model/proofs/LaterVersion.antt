@@ -1,17 +1,16 @@
 -- An image that is accepted with some versions, and with others.
-use Rattle.std.proofs.Common.{ℕ, zero, suc, ◌≡◌, ◌==◌, ◌+◌, ◌∙◌, true, List, [], ◌∷◌, ◌++◌, take, drop, refl, sym, ap, subst, arith, flat_map, eq-eqb}
-use Rattle.std.specs.Prelude.{All, nat_eq}
+use Rattle.std.proofs.Common.{ℕ, ◌≡◌, ◌==◌, true, List, [], ◌∷◌, ◌++◌, refl, ap, subst, flat_map}
+use Rattle.std.specs.Prelude.{nat_eq}
 use Rattle.std.specs.List.{IsDistinct}
 use Rattle.std.proofs.lemmas.Bool.{or_left}
-use Rattle.std.proofs.lemmas.List.Elements.{All-head, All-tail, All-weaker}
+use Rattle.std.proofs.lemmas.List.Elements.{All-weaker}
 use Rattle.lfs_model.specs.declared.limits.AcceptedVersions.{AcceptedVersions}
 use Rattle.lfs_model.specs.declared.limits.AcceptedVersions.TheVariants.{OnlyTwoZero, AlsoTwoOne}
 use Rattle.lfs_model.specs.format.Disk.{Disk}
 use Rattle.lfs_model.specs.format.EntryTypes.{superblock_fields}
 use Rattle.lfs_model.specs.format.Slots.{Slot, Struct, Inline, Ctz, Branch}
-use Rattle.lfs_model.specs.format.Thread.{Pair, blocks_of_pairs, pair_count_before_root, starts_superblock}
-use Rattle.lfs_model.specs.tree.View.{IsAccepted, IsSuperblock, IsWellFormedCtz, BeginsWithSuperblock, first_slots, accepts_version, chain_pairs}
-use Rattle.lfs_model.specs.tree.Profile.{IsWritableSlot, IsWritable}
+use Rattle.lfs_model.specs.format.Thread.{Pair, blocks_of_pairs}
+use Rattle.lfs_model.specs.tree.View.{IsAccepted, IsWellFormedCtz, BeginsWithSuperblock, accepts_version, chain_pairs}
 use Rattle.lfs_model.specs.tree.Shown.{all_slots_not_moved, struct_blocks, used_blocks}
 use Rattle.lfs_model.specs.examples.Images.{disk_with_versions}
 

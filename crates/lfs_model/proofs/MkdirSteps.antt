@@ -1,14 +1,14 @@
--- A directory is made by the steps themselves: one commit to the last pair of its parent, or one to it and one to the pair where the name belongs.
+-- A directory is made by the steps themselves: one commit to the last pair of its parent, and one to the pair where the name belongs.
 use Rattle.std.proofs.Common.{ℕ, ◌≡◌, true, List, [], ◌∷◌, ◌++◌, refl, sym, ap, subst, ◌∙◌, append_assoc, append-nil, subst₂}
 use Rattle.lfs_model.specs.format.Disk.{Disk}
 use Rattle.lfs_model.specs.format.Names.{Name}
 use Rattle.lfs_model.specs.format.Slots.{Slot, zero_gstate, same_pair, FitsInPair}
 use Rattle.lfs_model.specs.format.Thread.{Pair, first_address, pairs_gstate, pair_count_before_root}
-use Rattle.lfs_model.specs.tree.Tree.{Path, DirectoryNode, address_from_slot}
+use Rattle.lfs_model.specs.tree.Tree.{Path, DirectoryNode}
 use Rattle.lfs_model.specs.tree.View.{IsAccepted}
 use Rattle.lfs_model.specs.tree.Profile.{IsWritable}
 use Rattle.lfs_model.specs.tree.Shown.{LeadsTo, all_entries, tree_on_disk}
-use Rattle.lfs_model.specs.session.TreeEdits.{tree_creating, tree_with_subtree}
+use Rattle.lfs_model.specs.session.TreeEdits.{tree_creating}
 use Rattle.lfs_model.specs.session.Operations as ops
 use Rattle.lfs_model.specs.session.Session.{Session}
 use Rattle.lfs_model.specs.session.Refusals.{path_or_root}
@@ -17,7 +17,7 @@ use Rattle.lfs_model.specs.session.Layout.{FitsPair}
 use Rattle.lfs_model.proofs.Names.{IsPlace}
 use Rattle.lfs_model.proofs.Sites.{Site, thread_at, begin_of}
 use Rattle.lfs_model.proofs.Moves.{IsStep, place_at}
-use Rattle.lfs_model.proofs.Beside.{last_site, IsStepBeside, directory_comes_beside, threaded}
+use Rattle.lfs_model.proofs.Beside.{last_site, IsStepBeside, threaded}
 use Rattle.lfs_model.proofs.Alike.{SameSlots, alike_itself, alike_append}
 use Rattle.lfs_model.proofs.Committed.{IsCompletion, recovered_from}
 use Rattle.lfs_model.proofs.MadeDirectory.{Cut, IsMkdir, mkdir_completed, none_there}
@@ -26,49 +26,6 @@ use Rattle.lfs_model.proofs.Became.{Became}
 use Rattle.lfs_model.proofs.Profiles.{step_writable}
 use Rattle.lfs_model.proofs.Chained.{InTwo, mkdir_in_two}
 use Rattle.lfs_model.proofs.StepsTaken.{IsWritableChange, IsPut, IsPutBeside, beside_taken, put_within, put_filled}
-
--- ---- in one commit
-
-module _ (disk new : Disk) (chain before left after : List Pair) (p q : Pair) (more : List Pair) (f : Pair) (extra : List ℕ) (l r : List Slot) (P : Path) (name : Name)
-    (step : IsStepBeside disk new chain before left after p [] q more f extra [] l [] (directory_slot name f.at ∷ []) r)
-    (put : IsPutBeside disk (last_site chain before left after) p q more f l [] (directory_slot name f.at ∷ []) r)
-    (a : ℕ × ℕ) (leads : LeadsTo (thread_at (last_site chain before left after) (p ∷ [])) P a) (same : same_pair (begin_of (last_site chain before left after) (p ∷ [])) a ≡ true)
-    (place : IsPlace disk.order (all_entries (thread_at (last_site chain before left after) (p ∷ [])) a) (place_at (last_site chain before left after) l) name)
-    (settled : pairs_gstate (thread_at (last_site chain before left after) (p ∷ [])) ≡ zero_gstate)
-    (still : pairs_gstate (thread_at (last_site chain before left after) (q ∷ (more ++ f ∷ []))) ≡ zero_gstate) where
-  abbrev w : Site
-  w = last_site chain before left after
-
-  taken : IsWritableChange disk (thread_at (last_site chain before left after) (p ∷ [])) new (thread_at (last_site chain before left after) (q ∷ (more ++ f ∷ []))) (tree_creating (P ++ name ∷ []) (DirectoryNode [] []))
-      (tree_with_subtree (P ++ name ∷ []) (address_from_slot (all_entries (thread_at (last_site chain before left after) (p ∷ []))) (directory_slot name f.at)))
-  taken = beside_taken disk new chain before left after p q more f l [] (directory_slot name f.at ∷ []) r put extra [] _ _ step P a leads same
-      (directory_comes_beside disk new chain before left after p [] q more f extra l r (directory_slot name f.at) step P a leads same place refl (λ e. (recovered_from disk (thread_at (last_site chain before left after) (p ∷ [])) step.accepted settled).reached))
-
-  placed : thread_at (last_site chain before left after) (q ∷ (more ++ f ∷ [])) ≡ (chain ++ ((before ++ left) ++ (q ∷ more))) ++ (f ∷ after)
-  placed = ap (λ z. chain ++ ((before ++ left) ++ q ∷ z)) (append_assoc more (f ∷ []) after)
-      ∙ ap (λ z. chain ++ z) (sym (append_assoc (before ++ left) (q ∷ more) (f ∷ after))) ∙ sym (append_assoc chain ((before ++ left) ++ (q ∷ more)) (f ∷ after))
-
-  made : IsMkdir disk new (thread_at (last_site chain before left after) (q ∷ (more ++ f ∷ []))) chain (before ++ left) after p q more (chain ++ ((before ++ left) ++ (q ∷ more))) after f l r P name
-  made = record {
-    is_chain = step.site.chain;
-    accepted = step.accepted;
-    writable = put.writable;
-    settled = settled;
-    still = still;
-    walk = _;
-    follows = taken.follows;
-    still_writable = taken.writable;
-    absent = none_there disk (thread_at (last_site chain before left after) (p ∷ [])) P a (place_at (last_site chain before left after) l) name leads place;
-    was = put.was;
-    at = step.shape.at;
-    is = put.is;
-    cut = put.cut;
-    empty = put.empty;
-    placed = placed;
-    alike = subst (SameSlots (chain ++ ((before ++ left) ++ ((q ∷ more) ++ after))))
-        (ap (λ z. chain ++ z) (sym (append_assoc (before ++ left) (q ∷ more) after)) ∙ sym (append_assoc chain ((before ++ left) ++ (q ∷ more)) after))
-        (alike_itself (chain ++ ((before ++ left) ++ ((q ∷ more) ++ after))));
-  }
 
 -- ---- in two: the fresh pair is threaded behind the last pair of the parent, with the sync bit set; then the entry comes into a pair in front of that
 
@@ -84,14 +41,8 @@ module _ (disk middle new : Disk) (chain before front mid after : List Pair) (x 
     (sync : (pairs_gstate (thread_at (last_site chain before (front ++ p ∷ mid) after) (y ∷ ([] ++ f ∷ [])))).sync ≡ true)
     (settled : pairs_gstate (thread_at (last_site chain before (front ++ p ∷ mid) after) (x ∷ [])) ≡ zero_gstate)
     (still : pairs_gstate (thread_at (record { chain = chain; before = before; left = front; right = mid ++ y ∷ []; after = f ∷ after }) (q ∷ more)) ≡ zero_gstate) where
-  abbrev here : Site
-  here = last_site chain before (front ++ p ∷ mid) after
-
   abbrev there : Site
   there = record { chain = chain; before = before; left = front; right = mid ++ y ∷ []; after = f ∷ after }
-
-  abbrev ps : List Pair
-  ps = thread_at here (x ∷ [])
 
   abbrev rs : List Pair
   rs = thread_at there (q ∷ more)
@@ -130,9 +81,6 @@ module _ (disk middle new : Disk) (chain before front mid after : List Pair) (x 
   -- where the pairs are before and after
   were : thread_at (last_site chain before (front ++ p ∷ mid) after) (x ∷ []) ≡ chain ++ ((before ++ front) ++ (p ∷ [] ++ (mid ++ x ∷ after)))
   were = ap (λ z. chain ++ z) (turned (p ∷ []) (x ∷ after))
-
-  ahead : List Pair
-  ahead = chain ++ ((before ++ front) ++ ((q ∷ more) ++ (mid ++ y ∷ [])))
 
   parted : (zs : List Pair) → chain ++ ((before ++ front) ++ ((q ∷ more) ++ ((mid ++ y ∷ []) ++ zs))) ≡ (chain ++ ((before ++ front) ++ ((q ∷ more) ++ (mid ++ y ∷ [])))) ++ zs
   parted zs = ap (λ z. chain ++ ((before ++ front) ++ z)) (sym (append_assoc (q ∷ more) (mid ++ y ∷ []) zs)) ∙ ap (λ z. chain ++ z) (sym (append_assoc (before ++ front) ((q ∷ more) ++ (mid ++ y ∷ [])) zs))

@@ -52,9 +52,6 @@ module _ (disk middle new : Disk) (w : Site) (p : Pair) (mids : List Pair) (q : 
   abbrev ps : List Pair
   ps = thread_at w (p ∷ mids)
 
-  abbrev path : Path
-  path = P ++ u.name ∷ []
-
   first : IsWritableChange disk (thread_at w (p ∷ mids)) middle (thread_at w (q ∷ [])) (tree_removing (P ++ u.name ∷ [])) (tree_with_subtree (P ++ u.name ∷ []) (λ t. None))
   first = record { follows = directory_goes disk middle w p mids q [] [] [] l r u step other P a leads same d branch empty sync; writable = writable }
 

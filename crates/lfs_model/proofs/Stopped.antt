@@ -1,13 +1,11 @@
--- What a stop leaves: the disk before the call always, what a whole call makes, and a commit that was torn.
+-- What a stop leaves: the disk before the call always, and what a whole call makes.
 use Rattle.std.specs.Prelude.{ℕ, ◌≡◌, ◌+◌, ◌≤◌, ◌<◌, take, drop}
-use Rattle.std.proofs.Common.{List, [], ◌∷◌, ◌++◌, length, inl, inr, refl, ap, ◌∙◌, arith, replicate, length-append}
+use Rattle.std.proofs.Common.{List, [], ◌++◌, length, inl, inr, refl, ap, ◌∙◌, arith, length-append}
 use Rattle.std.proofs.lemmas.List.{length-set, length-take-le, length-drop, get_or-set_same, get_or-set_other}
 use Rattle.lfs_model.specs.format.Blocks.{Blocks, block_bytes, overwritten_at, programmed, SameExcept}
-use Rattle.lfs_model.specs.format.Crc.{crc_of, next_bits}
-use Rattle.lfs_model.specs.format.Log.{block_log, chain_of, chain_within, commit_within, entry_at, closes}
+use Rattle.lfs_model.specs.format.Log.{block_log}
 use Rattle.lfs_model.specs.session.History.{DeviceCall, Read, Program, Erase, Blank}
 use Rattle.lfs_model.specs.crash.Stops.{may_stop_leave}
-use Rattle.lfs_model.specs.examples.Images.{small_commit}
 
 same_but_nothing : (b : ℕ) (blocks : Blocks) → SameExcept b blocks blocks
 same_but_nothing b blocks = record { count = refl; size = refl; others = λ other d. refl }
@@ -38,21 +36,3 @@ stops_whole b off bytes before below fits = (
 
     is : block_bytes (programmed before b off bytes) b ≡ written
     is = get_or-set_same before b written [] below
-
--- ---- a program that was torn: the first 10 bytes of a second commit are there
-
--- an empty file comes
-abbrev second : List ℕ
-second =
-    0x10 ∷ 0x1f ∷ 0xf8 ∷ 0x50 ∷ 0x40 ∷ 0x0 ∷ 0x0 ∷ 0x1 ∷ 0x62 ∷ 0x20 ∷ 0x0 ∷ 0x0 ∷ 0x1 ∷ 0x70 ∷ 0x1f ∷ 0xf8 ∷ 0x6f
-    ∷ 0x6a ∷ 0xa8 ∷ 0x34 ∷ 0x70 ∷ replicate 107 0xff
-
-abbrev first : List ℕ
-first = small_commit ++ replicate 896 0xff
-
-abbrev torn : List ℕ
-torn = small_commit ++ take 10 second ++ replicate 886 0xff
-
-torn_log : block_log torn ≡ block_log first
-unfolding chain_of chain_within commit_within entry_at closes crc_of next_bits
-torn_log = refl

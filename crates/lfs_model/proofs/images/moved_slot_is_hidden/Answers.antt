@@ -1,6 +1,5 @@
 use Rattle.std.proofs.Common.{[], ◌∷◌, None, false, refl}
 use Rattle.std.specs.Prelude.{codes}
-use Rattle.lfs_model.specs.format.Names.{same_name}
 use Rattle.lfs_model.specs.format.Disk.{default_profile}
 use Rattle.lfs_model.specs.format.Crc.{crc_of, next_bits}
 use Rattle.lfs_model.specs.format.Log.{chain_of, chain_within, commit_within, entry_at, closes}

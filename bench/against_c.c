@@ -89,9 +89,8 @@ static int sure_at(int code, const char *what, int line) {
 
 enum { NEW = LFS_O_WRONLY | LFS_O_CREAT, REWRITE = NEW | LFS_O_TRUNC, APPEND = NEW | LFS_O_APPEND };
 
-static uint8_t bytes[BLOCK];
+static uint8_t bytes[BLOCK]; // that rows write and read
 
-static void fill(char byte) { memset(bytes, byte, sizeof bytes); }
 static void open_file(const char *path, int flags) { SURE(lfs_file_open(&fs, &file, path, flags)); }
 static void write_bytes(uint32_t size) { SURE(lfs_file_write(&fs, &file, bytes, size)); }
 static void close_file(void) { SURE(lfs_file_close(&fs, &file)); }
@@ -123,7 +122,6 @@ static void make_folders(uint32_t folders) {
 }
 
 static void make_files(uint32_t count, uint32_t folders) {
-    fill('x');
     for (uint32_t k = 0; k < count; k++) put(path_of(k, folders), NEW, 100);
 }
 
@@ -137,7 +135,6 @@ static void remove_files(uint32_t count, uint32_t folders) {
 }
 
 static void write_blocks(const char *path, uint32_t count) {
-    fill('z');
     open_file(path, NEW);
     for (uint32_t k = 0; k < count; k++) write_bytes(BLOCK);
     close_file();
@@ -169,7 +166,6 @@ static void read_anywhere(uint32_t count) {
 }
 
 static void overwrite(uint32_t count) {
-    fill('w');
     for (uint32_t k = 0; k < count; k++) {
         open_file("/big", LFS_O_WRONLY);
         SURE(lfs_file_seek(&fs, &file, 10, LFS_SEEK_SET));
@@ -183,7 +179,6 @@ static void rename_often(uint32_t count, const char *other) {
 }
 
 static void set_often(uint32_t count) {
-    fill('a');
     for (uint32_t k = 0; k < count; k++) {
         bytes[0] = (uint8_t)k;
         SURE(lfs_setattr(&fs, "/file", 0x41, bytes, 16));
@@ -191,7 +186,6 @@ static void set_often(uint32_t count) {
 }
 
 static void rewrite_small(uint32_t count) {
-    fill('a');
     for (uint32_t k = 0; k < count; k++) {
         bytes[0] = (uint8_t)k;
         put("/f90000", REWRITE, 4);
@@ -199,7 +193,6 @@ static void rewrite_small(uint32_t count) {
 }
 
 static void append_synced(uint32_t count) {
-    fill('y');
     open_file("/log", APPEND);
     for (uint32_t k = 0; k < count; k++) {
         write_bytes(100);
@@ -209,7 +202,6 @@ static void append_synced(uint32_t count) {
 }
 
 static void append_opened(uint32_t count) {
-    fill('y');
     for (uint32_t k = 0; k < count; k++) put("/log", APPEND, 100);
 }
 
@@ -245,7 +237,6 @@ static void append_log(uint32_t size) {
 static void wear(uint32_t count) {
     uint32_t state = 1;
     make_folders(3);
-    fill('x');
     for (uint32_t k = 0; k < count; k++) {
         state = state * 1103515245u + 12345;
         uint32_t kind = (state >> 16) % 10, number = (state >> 8) % 12;
@@ -257,7 +248,6 @@ static void wear(uint32_t count) {
 }
 
 static void boots(uint32_t count, int is_log) {
-    fill('x');
     if (!is_log) memcpy(bytes, "1234", 4);
     for (uint32_t k = 0; k < count; k++) {
         mount_anew();
@@ -268,52 +258,72 @@ static void boots(uint32_t count, int is_log) {
 
 // ---- rows
 
-static int is(const char *row, const char *name) { return !strcmp(row, name); }
+#define ROWS(ROW) \
+    ROW(create1) ROW(create50) ROW(stat1) ROW(stat50) ROW(list1) ROW(appendsync) ROW(appendopen) ROW(appendlong) ROW(appendlongs) \
+    ROW(write) ROW(readall) ROW(readrandom) ROW(readsmall) ROW(overwrite) ROW(rename_same) ROW(rename_across) ROW(delete1) \
+    ROW(delete50) ROW(setattr) ROW(nearfull) ROW(notfull) ROW(statdeep) ROW(tinywrite) ROW(mount) ROW(wear) ROW(bootlog) ROW(bootcount)
+#define CASE_OF(name) row_##name,
+#define NAME_OF(name) #name,
 
-static void prepare(const char *row, uint32_t count) {
-    fill('x');
-    if (is(row, "create50")) make_folders(50);
-    else if (is(row, "stat1") || is(row, "delete1") || is(row, "list1") || is(row, "mount")) make_files(count, 0);
-    else if (is(row, "stat50") || is(row, "delete50")) make_folders(50), make_files(count, 50);
-    else if (is(row, "readall") || is(row, "readrandom") || is(row, "overwrite")) write_blocks("/big", 256);
-    else if (is(row, "appendlong")) write_blocks("/log", 2048);
-    else if (is(row, "rename_same") || is(row, "rename_across")) make_folders(2), put("/d000/here", NEW, 5);
-    else if (is(row, "setattr")) put("/file", NEW, 5);
-    else if (is(row, "readsmall")) make_files(1000, 0), write_blocks("/zbig", 25);
-    else if (is(row, "notfull")) put("/f90000", NEW, 4);
-    else if (is(row, "statdeep")) make_deep();
-    else if (is(row, "nearfull")) {
+typedef enum { ROWS(CASE_OF) no_row } Row;
+
+static const char *const names[] = {ROWS(NAME_OF)};
+
+static Row row_of_name(const char *name) {
+    int row = 0;
+    while (row < no_row && strcmp(names[row], name)) row++;
+    return (Row)row;
+}
+
+static void prepare(Row row, uint32_t count) {
+    switch (row) {
+    case row_create50: make_folders(50); break;
+    case row_stat1: case row_delete1: case row_list1: case row_mount: make_files(count, 0); break;
+    case row_stat50: case row_delete50: make_folders(50), make_files(count, 50); break;
+    case row_readall: case row_readrandom: case row_overwrite: write_blocks("/big", 256); break;
+    case row_appendlong: case row_appendlongs: write_blocks("/log", 2048); break;
+    case row_rename_same: case row_rename_across: make_folders(2), put("/d000/here", NEW, 5); break;
+    case row_setattr: put("/file", NEW, 5); break;
+    case row_readsmall: make_files(1000, 0), write_blocks("/zbig", 25); break;
+    case row_notfull: put("/f90000", NEW, 4); break;
+    case row_statdeep: make_deep(); break;
+    case row_nearfull:
         put("/f90000", NEW, 4);
         for (uint32_t k = 0; k < 7; k++) put(path_of(k, 0), NEW, 512);
+        break;
+    default: break;
     }
 }
 
-static void carry_out(const char *row, uint32_t count) {
-    if (is(row, "create1")) make_files(count, 0);
-    else if (is(row, "create50")) make_files(count, 50);
-    else if (is(row, "stat1")) stat_files(count, 0);
-    else if (is(row, "stat50")) stat_files(count, 50);
-    else if (is(row, "list1")) list_root();
-    else if (is(row, "delete1")) remove_files(count, 0);
-    else if (is(row, "delete50")) remove_files(count, 50);
-    else if (is(row, "appendsync") || is(row, "appendlong")) append_synced(count);
-    else if (is(row, "appendopen")) append_opened(count);
-    else if (is(row, "write")) write_blocks("/big", count);
-    else if (is(row, "readall")) read_file("/big", count, BLOCK);
-    else if (is(row, "readrandom")) read_anywhere(count);
-    else if (is(row, "overwrite")) overwrite(count);
-    else if (is(row, "rename_same")) rename_often(count, "/d000/other");
-    else if (is(row, "rename_across")) rename_often(count, "/d001/other");
-    else if (is(row, "setattr")) set_often(count);
-    else if (is(row, "readsmall")) read_file("/zbig", count, 100);
-    else if (is(row, "nearfull") || is(row, "notfull")) rewrite_small(count);
-    else if (is(row, "statdeep")) stat_deep(count);
-    else if (is(row, "tinywrite")) write_tiny(count);
-    else if (is(row, "mount")) mount_anew();
-    else if (is(row, "wear")) wear(count);
-    else if (is(row, "bootlog")) boots(count, 1);
-    else if (is(row, "bootcount")) boots(count, 0);
-    else SURE(-1);
+// The operations of a row, which alone are timed.
+static void carry_out(Row row, uint32_t count) {
+    switch (row) {
+    case row_create1: make_files(count, 0); break;
+    case row_create50: make_files(count, 50); break;
+    case row_stat1: stat_files(count, 0); break;
+    case row_stat50: stat_files(count, 50); break;
+    case row_list1: list_root(); break;
+    case row_delete1: remove_files(count, 0); break;
+    case row_delete50: remove_files(count, 50); break;
+    case row_appendsync: case row_appendlong: case row_appendlongs: append_synced(count); break;
+    case row_appendopen: append_opened(count); break;
+    case row_write: write_blocks("/big", count); break;
+    case row_readall: read_file("/big", count, BLOCK); break;
+    case row_readrandom: read_anywhere(count); break;
+    case row_overwrite: overwrite(count); break;
+    case row_rename_same: rename_often(count, "/d000/other"); break;
+    case row_rename_across: rename_often(count, "/d001/other"); break;
+    case row_setattr: set_often(count); break;
+    case row_readsmall: read_file("/zbig", count, 100); break;
+    case row_nearfull: case row_notfull: rewrite_small(count); break;
+    case row_statdeep: stat_deep(count); break;
+    case row_tinywrite: write_tiny(count); break;
+    case row_mount: mount_anew(); break;
+    case row_wear: wear(count); break;
+    case row_bootlog: boots(count, 1); break;
+    case row_bootcount: boots(count, 0); break;
+    case no_row: SURE(-1);
+    }
 }
 
 static void configure(uint32_t blocks, uint32_t cache, int32_t cycles) {
@@ -333,15 +343,16 @@ static void configure(uint32_t blocks, uint32_t cache, int32_t cycles) {
 
 int main(int count, char **words) {
     if (count != 6) return 2;
-    const char *row = words[1];
+    Row row = row_of_name(words[1]);
     uint32_t blocks = (uint32_t)atoi(words[2]), times = (uint32_t)atoi(words[3]);
     configure(blocks, (uint32_t)atoi(words[4]), atoi(words[5]));
     device = malloc((size_t)blocks * BLOCK);
     memset(device, 0xff, (size_t)blocks * BLOCK);
     erased = calloc(blocks, sizeof *erased);
+    memset(bytes, 'x', sizeof bytes);
     SURE(lfs_format(&fs, &config));
     SURE(lfs_mount(&fs, &config));
-    if (is(row, "wear") || is(row, "bootlog") || is(row, "bootcount")) {
+    if (row == row_wear || row == row_bootlog || row == row_bootcount) {
         carry_out(row, times);
         for (uint32_t k = 0; k < blocks; k++) printf("%u\n", (unsigned)erased[k]);
         return 0;
@@ -353,7 +364,7 @@ int main(int count, char **words) {
     clock_gettime(CLOCK_MONOTONIC, &start);
     carry_out(row, times);
     clock_gettime(CLOCK_MONOTONIC, &end);
-    printf("%s %llu %llu %llu %llu %llu %lld %zu\n", row, counts.reads - before.reads, counts.read_bytes - before.read_bytes,
+    printf("%s %llu %llu %llu %llu %llu %lld %zu\n", words[1], counts.reads - before.reads, counts.read_bytes - before.read_bytes,
            counts.programs - before.programs, counts.program_bytes - before.program_bytes, counts.erases - before.erases,
            (end.tv_sec - start.tv_sec) * 1000000000ll + end.tv_nsec - start.tv_nsec, peak + sizeof fs);
     return 0;

@@ -41,6 +41,7 @@ ROWS = [
     ("statdeep", 256, 1000),
     ("tinywrite", 256, 20000),
     ("appendlong", 8192, 1),
+    ("appendlongs", 8192, 1000),
     ("mount", 4096, 1000),
     ("mount", 16384, 10000),
 ]

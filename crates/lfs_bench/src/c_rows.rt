@@ -11,6 +11,72 @@ use std::time::Instant;
 
 const BLOCK: u32 = 4096;
 
+// The bytes that rows write and read.
+type Buffer = [u8; BLOCK as usize];
+
+// A row, by its operations. It is found by its name before its time is taken.
+#[derive(Clone, Copy)]
+enum Row {
+    Create1,
+    Create50,
+    Stat1,
+    Stat50,
+    List1,
+    AppendSync,
+    AppendOpen,
+    AppendLong,
+    Write,
+    ReadAll,
+    ReadRandom,
+    ReadSmall,
+    Overwrite,
+    RenameSame,
+    RenameAcross,
+    Delete1,
+    Delete50,
+    SetAttr,
+    NearFull,
+    NotFull,
+    StatDeep,
+    TinyWrite,
+    Mount,
+    Wear,
+    BootLog,
+    BootCount,
+}
+
+fn row_of_name(name: &str) -> Option<Row> {
+    Some(match name {
+        "create1" => Row::Create1,
+        "create50" => Row::Create50,
+        "stat1" => Row::Stat1,
+        "stat50" => Row::Stat50,
+        "list1" => Row::List1,
+        "appendsync" => Row::AppendSync,
+        "appendopen" => Row::AppendOpen,
+        "appendlong" | "appendlongs" => Row::AppendLong,
+        "write" => Row::Write,
+        "readall" => Row::ReadAll,
+        "readrandom" => Row::ReadRandom,
+        "readsmall" => Row::ReadSmall,
+        "overwrite" => Row::Overwrite,
+        "rename_same" => Row::RenameSame,
+        "rename_across" => Row::RenameAcross,
+        "delete1" => Row::Delete1,
+        "delete50" => Row::Delete50,
+        "setattr" => Row::SetAttr,
+        "nearfull" => Row::NearFull,
+        "notfull" => Row::NotFull,
+        "statdeep" => Row::StatDeep,
+        "tinywrite" => Row::TinyWrite,
+        "mount" => Row::Mount,
+        "wear" => Row::Wear,
+        "bootlog" => Row::BootLog,
+        "bootcount" => Row::BootCount,
+        _ => return None,
+    })
+}
+
 // Makes an empty file system on a device in memory, which may say which bytes are blank.
 fn formatted_session(alloc: Global, blocks: u32, checks_blanks: bool) -> Result<Measured, Error> {
     let mut device = RamDevice::blank(alloc, Geometry::new(BLOCK, 256, blocks)?)?;
@@ -29,82 +95,81 @@ fn formatted_session(alloc: Global, blocks: u32, checks_blanks: bool) -> Result<
 fn make_files_for_benchmark_row(
     alloc: Global,
     session: &mut Measured,
-    row: &str,
+    row: Row,
+    bytes: &Buffer,
     count: u32,
 ) -> Result<(), Error> {
     match row {
-        "create50" => files::make_directories(alloc, session, 50),
-        "stat1" | "delete1" | "list1" | "mount" => files::make_files(alloc, session, count, 0),
-        "stat50" | "delete50" => {
+        Row::Create50 => files::make_directories(alloc, session, 50),
+        Row::Stat1 | Row::Delete1 | Row::List1 | Row::Mount => {
+            files::make_files(alloc, session, &bytes[..100], count, 0)
+        }
+        Row::Stat50 | Row::Delete50 => {
             files::make_directories(alloc, session, 50)?;
-            files::make_files(alloc, session, count, 50)
+            files::make_files(alloc, session, &bytes[..100], count, 50)
         }
-        "readall" | "readrandom" | "overwrite" => {
-            contents::write_file_in_pieces(alloc, session, b"/big", 256)
+        Row::ReadAll | Row::ReadRandom | Row::Overwrite => {
+            contents::write_file_in_pieces(alloc, session, b"/big", bytes, 256)
         }
-        "appendlong" => contents::write_file_in_pieces(alloc, session, b"/log", 2048),
-        "rename_same" | "rename_across" => {
+        Row::AppendLong => contents::write_file_in_pieces(alloc, session, b"/log", bytes, 2048),
+        Row::RenameSame | Row::RenameAcross => {
             files::make_directories(alloc, session, 2)?;
             write_new_file(alloc, session, b"/d000/here", b"hello")
         }
-        "readsmall" => {
-            files::make_files(alloc, session, 1000, 0)?;
-            contents::write_file_in_pieces(alloc, session, b"/zbig", 25)
+        Row::ReadSmall => {
+            files::make_files(alloc, session, &bytes[..100], 1000, 0)?;
+            contents::write_file_in_pieces(alloc, session, b"/zbig", bytes, 25)
         }
-        "nearfull" => contents::fill_root_pair_nearly(alloc, session),
-        "notfull" => write_new_file(alloc, session, b"/f90000", b"hell"),
-        "statdeep" => files::make_deeply_nested_file(alloc, session),
-        "setattr" => write_new_file(alloc, session, b"/file", b"hello"),
+        Row::NearFull => contents::fill_root_pair_nearly(alloc, session),
+        Row::NotFull => write_new_file(alloc, session, b"/f90000", b"hell"),
+        Row::StatDeep => files::make_deeply_nested_file(alloc, session),
+        Row::SetAttr => write_new_file(alloc, session, b"/file", b"hello"),
         _ => Ok(()),
     }
 }
 
-// The rows about files and directories. None where the row is another one.
-fn perform_file_benchmark_row(
+// Performs the operations of a row, which alone are timed.
+fn perform_benchmark_row(
     alloc: Global,
     session: &mut Measured,
-    row: &str,
+    row: Row,
+    bytes: &mut Buffer,
     count: u32,
-) -> Option<Result<(), Error>> {
-    Some(match row {
-        "create1" => files::make_files(alloc, session, count, 0),
-        "create50" => files::make_files(alloc, session, count, 50),
-        "stat1" => files::stat_files(alloc, session, count, 0),
-        "stat50" => files::stat_files(alloc, session, count, 50),
-        "list1" => files::list_root(alloc, session),
-        "delete1" => files::remove_files(alloc, session, count, 0),
-        "delete50" => files::remove_files(alloc, session, count, 50),
-        "rename_same" => files::rename_often(alloc, session, count, b"/d000/other"),
-        "rename_across" => files::rename_often(alloc, session, count, b"/d001/other"),
-        "setattr" => files::set_attribute_repeatedly(alloc, session, count),
-        "statdeep" => files::stat_deeply_nested_file(alloc, session, count),
-        "mount" => session.remount(alloc),
-        _ => return None,
-    })
-}
-
-// The rows about contents of files, and about wear. None where there is no such row.
-fn perform_content_benchmark_row(
-    alloc: Global,
-    session: &mut Measured,
-    row: &str,
-    count: u32,
-) -> Option<Result<(), Error>> {
-    Some(match row {
-        "appendsync" | "appendlong" => contents::append_and_sync(alloc, session, count),
-        "appendopen" => contents::open_and_append(alloc, session, count),
-        "write" => contents::write_file_in_pieces(alloc, session, b"/big", count),
-        "readall" => contents::read_file_in_pieces(alloc, session, b"/big", count, BLOCK),
-        "readsmall" => contents::read_file_in_pieces(alloc, session, b"/zbig", count, 100),
-        "readrandom" => contents::read_at_random_positions(alloc, session, count),
-        "overwrite" => contents::overwrite_bytes_repeatedly(alloc, session, count),
-        "nearfull" | "notfull" => contents::replace_small_file_repeatedly(alloc, session, count),
-        "tinywrite" => contents::write_ten_bytes_repeatedly(alloc, session, count),
-        "wear" => wear::perform_pseudorandom_operations(alloc, session, count),
-        "bootlog" => wear::append_log_after_each_mount(alloc, session, count),
-        "bootcount" => wear::write_counter_after_each_mount(alloc, session, count),
-        _ => return None,
-    })
+) -> Result<(), Error> {
+    match row {
+        Row::Create1 => files::make_files(alloc, session, &bytes[..100], count, 0),
+        Row::Create50 => files::make_files(alloc, session, &bytes[..100], count, 50),
+        Row::Stat1 => files::stat_files(alloc, session, count, 0),
+        Row::Stat50 => files::stat_files(alloc, session, count, 50),
+        Row::List1 => files::list_root(alloc, session),
+        Row::AppendSync | Row::AppendLong => {
+            contents::append_and_sync(alloc, session, &bytes[..100], count)
+        }
+        Row::AppendOpen => contents::open_and_append(alloc, session, &bytes[..100], count),
+        Row::Write => contents::write_file_in_pieces(alloc, session, b"/big", bytes, count),
+        Row::ReadAll => contents::read_file_in_pieces(alloc, session, b"/big", bytes, count),
+        Row::ReadRandom => {
+            contents::read_at_random_positions(alloc, session, &mut bytes[..100], count)
+        }
+        Row::ReadSmall => {
+            contents::read_file_in_pieces(alloc, session, b"/zbig", &mut bytes[..100], count)
+        }
+        Row::Overwrite => contents::overwrite_bytes_repeatedly(alloc, session, count),
+        Row::RenameSame => files::rename_often(alloc, session, count, b"/d000/other"),
+        Row::RenameAcross => files::rename_often(alloc, session, count, b"/d001/other"),
+        Row::Delete1 => files::remove_files(alloc, session, count, 0),
+        Row::Delete50 => files::remove_files(alloc, session, count, 50),
+        Row::SetAttr => files::set_attribute_repeatedly(alloc, session, count),
+        Row::NearFull | Row::NotFull => {
+            contents::replace_small_file_repeatedly(alloc, session, count)
+        }
+        Row::StatDeep => files::stat_deeply_nested_file(alloc, session, count),
+        Row::TinyWrite => contents::write_ten_bytes_repeatedly(alloc, session, count),
+        Row::Mount => session.remount(alloc),
+        Row::Wear => wear::perform_pseudorandom_operations(alloc, session, count),
+        Row::BootLog => wear::append_log_after_each_mount(alloc, session, count),
+        Row::BootCount => wear::write_counter_after_each_mount(alloc, session, count),
+    }
 }
 
 fn print_device_call_counts(
@@ -133,31 +198,27 @@ fn show_erases(rt: &HostRuntime, session: &Measured) -> io::Result<()> {
     Ok(())
 }
 
-// Prepares a session, performs the row, and prints its costs.
+// Prepares a session, performs the row, and prints its costs after its name.
 fn measure_benchmark_row(
     rt: &HostRuntime,
     session: &mut Measured,
-    row: &str,
+    row: Row,
+    name: &str,
     count: u32,
 ) -> io::Result<()> {
-    if let Err(error) = make_files_for_benchmark_row(rt.alloc(), session, row, count) {
+    let mut bytes = [b'x'; BLOCK as usize];
+    if let Err(error) = make_files_for_benchmark_row(rt.alloc(), session, row, &bytes, count) {
         return println!(rt; "{error:?}");
     }
     let before = session.device().counts();
     let start = Instant::now(rt)?;
-    let outcome = match perform_file_benchmark_row(rt.alloc(), session, row, count) {
-        Some(outcome) => Some(outcome),
-        None => perform_content_benchmark_row(rt.alloc(), session, row, count),
-    };
+    let outcome = perform_benchmark_row(rt.alloc(), session, row, &mut bytes, count);
     let time = start.elapsed(rt)?;
-    let Some(outcome) = outcome else {
-        return eprintln!(rt; "there is no such row");
-    };
     if let Err(error) = outcome {
         return println!(rt; "{error:?}");
     }
     let counts = session.device().counts().since(&before);
-    print_device_call_counts(rt, row, &counts, time.as_nanos())
+    print_device_call_counts(rt, name, &counts, time.as_nanos())
 }
 
 /// Performs a row on a device of so many blocks of 4,096 bytes, with so many operations. Prints the
@@ -165,18 +226,21 @@ fn measure_benchmark_row(
 /// wear it also prints how often each block was erased.
 pub fn run_benchmark_row(
     rt: &HostRuntime,
-    row: &str,
+    name: &str,
     blocks: u32,
     count: u32,
     checks_blanks: bool,
 ) -> io::Result<()> {
+    let Some(row) = row_of_name(name) else {
+        return eprintln!(rt; "there is no such row");
+    };
     let mut session = match formatted_session(rt.alloc(), blocks, checks_blanks) {
         Ok(session) => session,
         Err(error) => return println!(rt; "{error:?}"),
     };
-    measure_benchmark_row(rt, &mut session, row, count)?;
+    measure_benchmark_row(rt, &mut session, row, name, count)?;
     match row {
-        "wear" | "bootlog" | "bootcount" => show_erases(rt, &session),
+        Row::Wear | Row::BootLog | Row::BootCount => show_erases(rt, &session),
         _ => Ok(()),
     }
 }

@@ -37,68 +37,77 @@ pub fn replace_file_contents(
     session.close(alloc, fd)
 }
 
-/// Appends 100 bytes to an open file and syncs it, so often.
-pub fn append_and_sync(alloc: Global, session: &mut Measured, count: u32) -> Result<(), Error> {
+/// Appends bytes to an open file and syncs it, so often.
+pub fn append_and_sync(
+    alloc: Global,
+    session: &mut Measured,
+    bytes: &[u8],
+    count: u32,
+) -> Result<(), Error> {
     let fd = session.open(alloc, b"/log", append_open_flags())?;
     for _ in 0..count {
-        session.write(alloc, fd, &[b'y'; 100])?;
+        session.write(alloc, fd, bytes)?;
         session.sync(alloc, fd)?;
     }
     session.close(alloc, fd)
 }
 
-/// Opens a file, appends 100 bytes and closes it, so often.
-pub fn open_and_append(alloc: Global, session: &mut Measured, count: u32) -> Result<(), Error> {
+/// Opens a file, appends bytes and closes it, so often.
+pub fn open_and_append(
+    alloc: Global,
+    session: &mut Measured,
+    bytes: &[u8],
+    count: u32,
+) -> Result<(), Error> {
     for _ in 0..count {
-        append_bytes_to_file(alloc, session, b"/log", &[b'y'; 100])?;
+        append_bytes_to_file(alloc, session, b"/log", bytes)?;
     }
     Ok(())
 }
 
-/// Writes a file of so many pieces of 4,096 bytes.
+/// Writes a file of so many times the same piece.
 pub fn write_file_in_pieces(
     alloc: Global,
     session: &mut Measured,
     path: &[u8],
+    piece: &[u8],
     count: u32,
 ) -> Result<(), Error> {
-    let bytes = [b'z'; 4096];
     let fd = session.open(alloc, path, OpenFlags::WRITE | OpenFlags::CREATE)?;
     for _ in 0..count {
-        session.write(alloc, fd, &bytes)?;
+        session.write(alloc, fd, piece)?;
     }
     session.close(alloc, fd)
 }
 
-/// Reads so many pieces of a file.
+/// Reads so many pieces of a file, each as long as the one that it is read into.
 pub fn read_file_in_pieces(
     alloc: Global,
     session: &mut Measured,
     path: &[u8],
+    piece: &mut [u8],
     count: u32,
-    size: u32,
 ) -> Result<(), Error> {
-    let mut piece = Vec::from_elem(alloc, 0u8, size as usize)?;
     let fd = session.open(alloc, path, OpenFlags::READ)?;
     for _ in 0..count {
-        session.read_into(fd, &mut piece)?;
+        session.read_into(fd, piece)?;
     }
     session.close(alloc, fd)
 }
 
-/// Reads 100 bytes at places of a file of 1 MiB that a generator picks, so often.
+/// Reads a piece at places of a file of 1 MiB that a generator picks, so often.
 pub fn read_at_random_positions(
     alloc: Global,
     session: &mut Measured,
+    piece: &mut [u8],
     count: u32,
 ) -> Result<(), Error> {
     let fd = session.open(alloc, b"/big", OpenFlags::READ)?;
-    let mut piece = [0; 100];
     let mut state = 1u32;
     for _ in 0..count {
         state = state.wrapping_mul(1_103_515_245).wrapping_add(12345);
         session.seek(fd, (state >> 8) % 1_048_000)?;
-        session.read_into(fd, &mut piece)?;
+        session.read_into(fd, piece)?;
     }
     session.close(alloc, fd)
 }

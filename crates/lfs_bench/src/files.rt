@@ -70,17 +70,17 @@ pub fn make_directories(alloc: Global, session: &mut Measured, count: u32) -> Re
     Ok(())
 }
 
-/// Makes files 0 to `count - 1` of 100 bytes.
+/// Makes files 0 to `count - 1` of the same bytes.
 pub fn make_files(
     alloc: Global,
     session: &mut Measured,
+    bytes: &[u8],
     count: u32,
     directories: u32,
 ) -> Result<(), Error> {
-    let bytes = [b'x'; 100];
     for number in 0..count {
         let path = file_path(alloc, number, directories)?;
-        write_new_file(alloc, session, path.as_slice(), &bytes)?;
+        write_new_file(alloc, session, path.as_slice(), bytes)?;
     }
     Ok(())
 }

@@ -1,6 +1,7 @@
 -- A worn pair behind a hard tail is at two other blocks: the image shows the same tree, also at a stop.
-use Rattle.std.proofs.Common.{ℕ, suc, ◌≡◌, ◌+◌, ◌-◌, ◌<◌, ◌≤◌, ◌⊎◌, inl, inr, true, cond, nat_eq, List, [], ◌∷◌, ◌++◌, length, Some, refl, sym, ap, ap₂, subst, subst₂, ◌∙◌, arith, append_assoc, length-append, set, take, drop, ◌&&◌}
+use Rattle.std.proofs.Common.{ℕ, suc, ◌≡◌, ◌+◌, ◌-◌, ◌%◌, ◌^◌, ◌<◌, ◌≤◌, ◌⊎◌, inl, inr, true, cond, nat_eq, List, [], ◌∷◌, ◌++◌, length, Some, refl, sym, ap, ap₂, subst, subst₂, ◌∙◌, arith, append_assoc, length-append, set, take, drop, ◌&&◌}
 use Rattle.std.specs.Prelude.{All}
+use Rattle.std.specs.Option.{option_map}
 use Rattle.std.proofs.lemmas.Bool.{cases_eq}
 use Rattle.std.proofs.lemmas.List.{length-take-le}
 use Rattle.lfs_operations.proofs.Common.{All-from_recursion, IsDistinct, recursion_from_All, take-append-drop, once_from_distinct, Blocks, SameExceptThese, AreUsed, BlockStates, content_at, current_block, Disk, HasEither, with_blocks, FitsInPair, Slot, Pair, pairs_gstate, is_hard_tail, address_blocks, addresses_blocks, first_address, first_slots, has_superblock, pair_count_before_root, pairs_from_root, starts_superblock, BeginsWith, superblock_entry, IsAccepted, IsWritable, all_slots_not_moved, tree_on_disk, used_blocks, Each, each_right, HasNoMove, zero_gstate, no_move_from, IsChain, pairs_behind, Site, IsDevice, KeepsOutsideBoth, KeptThread, SameGeometryAs, HasOldPair, ChangesThreadBlocks, map_freeing, map_using, thread_pair_at}
@@ -14,7 +15,7 @@ use Rattle.lfs_model.proofs.MovedBlocks.{relocated_blocks, relocated_length}
 use Rattle.lfs_model.proofs.Relocated.{IsRelocated, relocate, relocated_gstate}
 use Rattle.lfs_model.proofs.RootSteps.{IsSameWritable, relocate_root}
 use Rattle.lfs_model.proofs.Superblocks.{FromSlots, InFront, Behind, from_front}
-use Rattle.lfs_thread.specs.Moves.{BeginsWithAnySuperblock, CanMoveNext, IsNextMoved, LossLeavesNextMoved, NextMovedOnDisk}
+use Rattle.lfs_thread.specs.Moves.{BeginsWithAnySuperblock, CanMoveNext, IsNextMoved, LossLeavesNextMoved, NextMovedOnDisk, pair_revision}
 use Rattle.lfs_thread.specs.ThreadSteps.{KeepsSuperblockFirst}
 use Rattle.lfs_operations.specs.Changing.{AreTwoFree, map_taking_two}
 use Rattle.lfs_operations.specs.Dropping.{SameInFlight}
@@ -341,6 +342,7 @@ module _ (t : KeptThread) (index : ℕ) (can : CanMovePair t index) (at : TwoAt 
         lists = subst (λ z. All (λ s. SameFileBlocks t.disk new.disk s.struct) (all_slots_not_moved z)) (sym at.is) (relocated new.disk there).device.files;
         flying = flying;
       };
+      revision = is.revision ∙ ap (λ (z : Pair). option_map (λ r. (r + 1) % 2 ^ 32) (pair_revision t.disk z.at)) next_there;
       as_many = ap (λ z. length (used_blocks new.disk z)) pairs ∙ relocated_length t.disk new.disk at.ahead p x q y at.back no_move (relocated new.disk there)
           ∙ ap (λ z. length (used_blocks t.disk z)) (sym at.is);
       root = ap pair_count_before_root pairs ∙ count_same p x fresh at.back hard at.ahead ∙ ap pair_count_before_root (sym at.is);

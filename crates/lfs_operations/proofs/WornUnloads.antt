@@ -1,5 +1,5 @@
 -- A worn pair gives its slots to a fresh pair behind it, and keeps its first ones: the image shows the same tree, also at a stop.
-use Rattle.std.proofs.Common.{ℕ, ◌≡◌, ◌≢◌, ◌+◌, ◌-◌, ◌<◌, ◌≤◌, ◌⊎◌, inl, inr, Bool, true, false, cond, List, [], ◌∷◌, ◌++◌, length, Some, refl, sym, ap, ap₂, subst, subst₂, ◌∙◌, arith, append_assoc, length-append, slice_get, take, drop}
+use Rattle.std.proofs.Common.{ℕ, ◌≡◌, ◌≢◌, ◌+◌, ◌-◌, ◌%◌, ◌^◌, ◌<◌, ◌≤◌, ◌⊎◌, inl, inr, Bool, true, false, cond, List, [], ◌∷◌, ◌++◌, length, Some, refl, sym, ap, ap₂, subst, subst₂, ◌∙◌, arith, append_assoc, length-append, slice_get, take, drop}
 use Rattle.std.specs.Prelude.{All}
 use Rattle.std.specs.Option.{option_map}
 use Rattle.std.proofs.lemmas.Bool.{and_from}
@@ -18,6 +18,7 @@ use Rattle.lfs_model.proofs.RootSteps.{IsSameWritable, expand}
 use Rattle.lfs_model.proofs.Superblocks.{StructMark, hold_each, hold_from_rules, meets_starting, starts, starts_not}
 use Rattle.lfs_model.proofs.Unloaded.{unload}
 use Rattle.lfs_model.proofs.Unthreaded.{Unthreads}
+use Rattle.lfs_thread.specs.Moves.{pair_revision}
 use Rattle.lfs_thread.specs.ThreadSteps.{KeepsSuperblockFirst, pairs_with_split}
 use Rattle.lfs_thread.specs.Unloads.{CanUnload, IsUnloaded, LossLeavesUnloaded, UnloadedOnDisk}
 use Rattle.lfs_operations.specs.Changing.{AreTwoFree, map_taking_two}
@@ -148,6 +149,9 @@ module _ (t : KeptThread) (ready : IsReadyImage t) (index : ℕ) (ahead : List P
         let c = writes.shape.count in
         let l = two_more in
         omega arith
+
+    pub revision_now : pair_revision new.disk fresh ≡ option_map (λ r. (r + 1) % 2 ^ 32) (pair_revision t.disk x.at)
+    revision_now = done.revision ∙ ap (λ (z : Pair). option_map (λ r. (r + 1) % 2 ^ 32) (pair_revision t.disk z.at)) there
 
     pub root_now : pair_count_before_root new.pairs ≡ root
     root_now = ap pair_count_before_root pairs ∙ (law.taken new.disk (unloaded new.disk there_now)).1
@@ -307,6 +311,7 @@ module _ (t : KeptThread) (index : ℕ) (can : CanUnloadPair t index) (at : TwoA
       };
       number = let n = at.number in let c = can.root in omega arith;
       files = files t can.ready index pairs_ahead at.other at.back pairs_are number_is 0 fresh two (pair_count_before_root t.pairs) pair_law new done writes;
+      revision = revision_now t can.ready index pairs_ahead at.other at.back pairs_are number_is 0 fresh two (pair_count_before_root t.pairs) pair_law new done writes;
       two_more = two_more t can.ready index pairs_ahead at.other at.back pairs_are number_is 0 fresh two (pair_count_before_root t.pairs) pair_law new done writes;
       root = root_now t can.ready index pairs_ahead at.other at.back pairs_are number_is 0 fresh two (pair_count_before_root t.pairs) pair_law new done writes;
     }
@@ -396,6 +401,7 @@ module _ (t : KeptThread) (can : CanExpandRoot t) (at : HasFirstPair t.pairs) (f
         due = ap (is_worn t.disk) (sym (beside.pair_there t can.ready 0 [] at.first at.others at.is refl fresh two)) ∙ can.worn;
       };
       files = files t can.ready 0 [] at.first at.others at.is refl 1 fresh two 1 root_law new done writes;
+      revision = revision_now t can.ready 0 [] at.first at.others at.is refl 1 fresh two 1 root_law new done writes;
       two_more = two_more t can.ready 0 [] at.first at.others at.is refl 1 fresh two 1 root_law new done writes;
       root = root_now t can.ready 0 [] at.first at.others at.is refl 1 fresh two 1 root_law new done writes;
     }

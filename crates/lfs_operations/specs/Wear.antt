@@ -1,5 +1,6 @@
 -- Worn pairs that move, in an image that may be written.
-use Rattle.std.specs.Prelude.{ℕ, ◌≡◌, ◌≤◌, ◌<◌, ◌+◌, ◌-◌, ◌*◌, true, false, length, All}
+use Rattle.std.specs.Prelude.{ℕ, ◌≡◌, ◌≤◌, ◌<◌, ◌+◌, ◌-◌, ◌*◌, ◌%◌, ◌^◌, true, false, option_map, length, All}
+use Rattle.lfs_model.specs.format.Disk.{Disk}
 use Rattle.lfs_model.specs.format.Thread.{has_slots, is_hard_tail, pair_count_before_root}
 use Rattle.lfs_model.specs.layers.BlockSets.{BlockStates, used_count}
 use Rattle.lfs_model.specs.layers.Steps.{KeepsStruct, SameFileBlocks}
@@ -8,6 +9,7 @@ use Rattle.lfs_model.specs.session.SlotEdits.{slot_of}
 use Rattle.lfs_model.specs.tree.Shown.{all_slots_not_moved, tree_on_disk, used_blocks}
 use Rattle.lfs_model.specs.tree.Tree.{Path}
 use Rattle.lfs_thread.specs.Kept.{KeptThread}
+use Rattle.lfs_thread.specs.Moves.{pair_revision}
 use Rattle.lfs_thread.specs.ThreadSteps.{thread_pair_at}
 use Rattle.lfs_operations.specs.Dropping.{SameInFlight}
 use Rattle.lfs_operations.specs.Making.{HasFreeBlocks}
@@ -35,6 +37,10 @@ pub record IsFirstWorn (t : KeptThread) (from index : ℕ) : Type 0 where
 abbrev pub HasNoWorn : KeptThread → ℕ → Type 0
 HasNoWorn t from = (i : ℕ) → from ≤ i → i < length t.pairs → is_worn t.disk (thread_pair_at t i) ≡ false
 
+-- the pair at the new address goes on with the next revision
+abbrev pub RevisionGoesOn : Disk → ℕ × ℕ → Disk → ℕ × ℕ → Type 0
+RevisionGoesOn old from new to = pair_revision new to ≡ option_map (λ r. (r + 1) % 2 ^ 32) (pair_revision old from)
+
 -- ---- a pair moves whole
 
 -- The image may be changed. The pair is worn, and follows a hard tail. It isn't one of the superblock's pairs before the root
@@ -53,6 +59,7 @@ pub record IsMovedAt (old : KeptThread) (index : ℕ) (new : KeptThread) : Type 
   pub moved : IsPairMoved old.disk old.pairs new.pairs
   pub number : length moved.front + 1 ≡ index
   pub files : ShowsSameFiles old new
+  pub revision : RevisionGoesOn old.disk moved.worn.at new.disk moved.to
   pub as_many : length (used_blocks new.disk new.pairs) ≡ length (used_blocks old.disk old.pairs)
   pub root : KeepsRootBeginning old new
 
@@ -78,6 +85,7 @@ pub record IsUnloadedAt (old : KeptThread) (index : ℕ) (new : KeptThread) : Ty
   pub unloaded : IsPairUnloaded old.disk old.pairs new.disk new.pairs
   pub number : length unloaded.front + 1 ≡ index
   pub files : ShowsSameFiles old new
+  pub revision : RevisionGoesOn old.disk unloaded.worn.at new.disk unloaded.to
   pub two_more : length (used_blocks new.disk new.pairs) ≡ length (used_blocks old.disk old.pairs) + 2
   pub root : KeepsRootBeginning old new
 
@@ -92,5 +100,6 @@ pub record CanExpandRoot (t : KeptThread) : Type 0 where
 pub record IsRootExpanded (old new : KeptThread) : Type 0 where
   pub unloaded : IsRootUnloaded old.disk old.pairs new.disk new.pairs
   pub files : ShowsSameFiles old new
+  pub revision : RevisionGoesOn old.disk unloaded.worn.at new.disk unloaded.to
   pub two_more : length (used_blocks new.disk new.pairs) ≡ length (used_blocks old.disk old.pairs) + 2
   pub root : pair_count_before_root new.pairs ≡ 1

@@ -90,4 +90,7 @@ pub mod AlteredAcross
 pub mod AlteredLater
 pub mod AlteredOnto
 pub mod AlteredLast
+pub mod FreshBeside
+pub mod WornPair
 pub mod WornMoves
+pub mod WornUnloads

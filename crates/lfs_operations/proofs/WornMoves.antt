@@ -1,31 +1,33 @@
 -- A worn pair behind a hard tail is at two other blocks: the image shows the same tree, also at a stop.
-use Rattle.std.proofs.Common.{ℕ, suc, ◌≡◌, ◌+◌, ◌-◌, ◌<◌, ◌≤◌, ◌⊎◌, inl, inr, true, cond, nat_eq, List, [], ◌∷◌, ◌++◌, length, Some, refl, sym, ap, ap₂, subst, subst₂, ◌∙◌, arith, append_assoc, length-append, set, take, drop, ◌&&◌}
-use Rattle.std.specs.Prelude.{All, Contains}
+use Rattle.std.proofs.Common.{ℕ, suc, ◌≡◌, ◌+◌, ◌-◌, ◌%◌, ◌^◌, ◌<◌, ◌≤◌, ◌⊎◌, inl, inr, true, cond, nat_eq, List, [], ◌∷◌, ◌++◌, length, Some, refl, sym, ap, ap₂, subst, subst₂, ◌∙◌, arith, append_assoc, length-append, set, take, drop, ◌&&◌}
+use Rattle.std.specs.Prelude.{All}
+use Rattle.std.specs.Option.{option_map}
 use Rattle.std.proofs.lemmas.Bool.{cases_eq}
 use Rattle.std.proofs.lemmas.List.{length-take-le}
-use Rattle.lfs_operations.proofs.Common.{All-from_recursion, IsDistinct, recursion_from_All, take-append-drop, number_count-Contains, once_from_distinct, Blocks, SameExceptThese, AreUsed, BlockStates, IsFree, IsInFlight, content_at, current_block, Disk, disk_block, HasEither, with_blocks, FitsInPair, Slot, Pair, blocks_of_pairs, pairs_gstate, is_hard_tail, address_blocks, addresses_blocks, first_address, first_slots, has_superblock, pair_count_before_root, pairs_from_root, starts_superblock, BeginsWith, superblock_entry, IsAccepted, IsWritable, all_slots_not_moved, tree_on_disk, used_blocks, Each, each_right, number_count, count_append, count_here, current_of_two, flat_map, struct_blocks, no_move_from, IsChain, pairs_behind, Site, IsDevice, KeepsOutsideBoth, KeptThread, SameGeometryAs, HasOldPair, ChangesThreadBlocks, map_freeing, map_using, thread_pair_at}
+use Rattle.lfs_operations.proofs.Common.{All-from_recursion, IsDistinct, recursion_from_All, take-append-drop, once_from_distinct, Blocks, SameExceptThese, AreUsed, BlockStates, content_at, current_block, Disk, HasEither, with_blocks, FitsInPair, Slot, Pair, pairs_gstate, is_hard_tail, address_blocks, addresses_blocks, first_address, first_slots, has_superblock, pair_count_before_root, pairs_from_root, starts_superblock, BeginsWith, superblock_entry, IsAccepted, IsWritable, all_slots_not_moved, tree_on_disk, used_blocks, Each, each_right, HasNoMove, zero_gstate, no_move_from, IsChain, pairs_behind, Site, IsDevice, KeepsOutsideBoth, KeptThread, SameGeometryAs, HasOldPair, ChangesThreadBlocks, map_freeing, map_using, thread_pair_at}
 use Rattle.lfs_model.specs.format.Thread.{from_first_slots, has_slots, has_no_entry, starts_or}
 use Rattle.lfs_model.specs.layers.Steps.{KeepsStruct, SameFileBlocks}
 use Rattle.lfs_model.specs.session.SlotEdits.{slot_of}
-use Rattle.lfs_model.specs.session.Moved.{AreUnused, is_worn, pair_joined_to}
+use Rattle.lfs_model.specs.session.Moved.{is_worn, pair_joined_to}
 use Rattle.lfs_model.specs.tree.View.{first_slot_name}
-use Rattle.lfs_model.proofs.Devices.{content_same, device_from}
+use Rattle.lfs_model.proofs.Devices.{device_from}
 use Rattle.lfs_model.proofs.MovedBlocks.{relocated_blocks, relocated_length}
 use Rattle.lfs_model.proofs.Relocated.{IsRelocated, relocate, relocated_gstate}
 use Rattle.lfs_model.proofs.RootSteps.{IsSameWritable, relocate_root}
 use Rattle.lfs_model.proofs.Superblocks.{FromSlots, InFront, Behind, from_front}
-use Rattle.lfs_thread.specs.Moves.{BeginsWithAnySuperblock, CanMoveNext, IsNextMoved, LossLeavesNextMoved, NextMovedOnDisk}
+use Rattle.lfs_thread.specs.Moves.{BeginsWithAnySuperblock, CanMoveNext, IsNextMoved, LossLeavesNextMoved, NextMovedOnDisk, pair_revision}
 use Rattle.lfs_thread.specs.ThreadSteps.{KeepsSuperblockFirst}
 use Rattle.lfs_operations.specs.Changing.{AreTwoFree, map_taking_two}
 use Rattle.lfs_operations.specs.Dropping.{SameInFlight}
 use Rattle.lfs_operations.specs.Wear.{CanMovePair, IsMovedAt}
 use Rattle.lfs_operations.proofs.Dropped.{HasMapWithout, map_without}
-use Rattle.lfs_operations.proofs.DroppedTails.{TwoAt, front_is, gone_is, two_at}
-use Rattle.lfs_operations.proofs.Owning.{count_pairs, length_now, none_comes_now, not_used, stay_taken, used_more}
+use Rattle.lfs_operations.proofs.DroppedTails.{TwoAt, gone_is, two_at}
+use Rattle.lfs_operations.proofs.Owning.{length_now, used_more}
+use Rattle.lfs_operations.proofs.FreshBeside as beside
 use Rattle.lfs_operations.proofs.Placing as placing
 use Rattle.lfs_operations.proofs.Placing.{IsPlaced, all_apart, left_still}
 use Rattle.lfs_operations.proofs.Putting.{held, with_map}
-use Rattle.lfs_operations.proofs.Threads.{at_is, fresh_distinct, fresh_range, placed_still, same_four, set_at, shape_same}
+use Rattle.lfs_operations.proofs.Threads.{fresh_range, set_at}
 
 -- ---- lists
 
@@ -37,17 +39,11 @@ set_next (z ∷ xs) q x ys y =
 
 -- as many pairs come before the root directory's first one
 module _ (p x : Pair) (to : ℕ × ℕ) (back : List Pair) (hard : is_hard_tail p.content.tail ≡ true) where
-  abbrev q : Pair
-  q = pair_joined_to to p.content.slots p
-
-  abbrev y : Pair
-  y = record x { at = to }
-
-  superblock_same : (ahead : List Pair) → has_superblock (ahead ++ q ∷ y ∷ back) ≡ has_superblock (ahead ++ p ∷ x ∷ back)
+  superblock_same : (ahead : List Pair) → has_superblock (ahead ++ pair_joined_to to p.content.slots p ∷ record x { at = to } ∷ back) ≡ has_superblock (ahead ++ p ∷ x ∷ back)
   superblock_same [] = ap (λ b. starts_or p.content.slots (b && has_superblock (x ∷ back))) (sym hard)
   superblock_same (z ∷ ahead) = ap (λ b. starts_or z.content.slots (is_hard_tail z.content.tail && b)) (superblock_same ahead)
 
-  pub count_same : (ahead : List Pair) → pair_count_before_root (ahead ++ q ∷ y ∷ back) ≡ pair_count_before_root (ahead ++ p ∷ x ∷ back)
+  pub count_same : (ahead : List Pair) → pair_count_before_root (ahead ++ pair_joined_to to p.content.slots p ∷ record x { at = to } ∷ back) ≡ pair_count_before_root (ahead ++ p ∷ x ∷ back)
   count_same [] = ap (λ b. cond (has_superblock (x ∷ back) && (has_no_entry p.content.slots && b)) (1 + pair_count_before_root (x ∷ back)) 0) (sym hard)
   count_same (z ∷ ahead) = ap₂ (λ b n. cond (b && (has_no_entry z.content.slots && is_hard_tail z.content.tail)) (1 + n) 0) (superblock_same ahead) (count_same ahead)
 
@@ -66,23 +62,23 @@ module _ (t : KeptThread) (index : ℕ) (can : CanMovePair t index) (at : TwoAt 
   abbrev front : ℕ
   front = index - 1
 
-  abbrev p_1 : Pair
-  p_1 = at.one
+  abbrev p : Pair
+  p = at.one
 
-  abbrev x_1 : Pair
-  x_1 = at.other
+  abbrev x : Pair
+  x = at.other
 
-  abbrev q_1 : Pair
-  q_1 = pair_joined_to fresh at.one.content.slots at.one
+  abbrev q : Pair
+  q = pair_joined_to fresh at.one.content.slots at.one
 
-  abbrev y_1 : Pair
-  y_1 = record at.other { at = fresh }
+  abbrev y : Pair
+  y = record at.other { at = fresh }
 
   abbrev ps : List Pair
   ps = at.ahead ++ at.one ∷ at.other ∷ at.back
 
   abbrev qs : List Pair
-  qs = at.ahead ++ q_1 ∷ y_1 ∷ at.back
+  qs = at.ahead ++ q ∷ y ∷ at.back
 
   abbrev own : List ℕ
   own = fresh.0 ∷ fresh.1 ∷ []
@@ -95,10 +91,10 @@ module _ (t : KeptThread) (index : ℕ) (can : CanMovePair t index) (at : TwoAt 
   place = let n = at.number in omega arith
 
   front_there : thread_pair_at t (index - 1) ≡ at.one
-  front_there = front_is t front at.ahead p_1 x_1 at.back at.is at.number
+  front_there = beside.pair_there t can.ready front at.ahead p (x ∷ at.back) at.is place fresh two
 
   next_there : thread_pair_at t (index - 1 + 1) ≡ at.other
-  next_there = gone_is t front at.ahead p_1 x_1 at.back at.is at.number
+  next_there = gone_is t front at.ahead p x at.back at.is at.number
 
   worn_there : thread_pair_at t index ≡ at.other
   worn_there = ap (thread_pair_at t) (let a = can.above in omega arith) ∙ next_there
@@ -107,17 +103,22 @@ module _ (t : KeptThread) (index : ℕ) (can : CanMovePair t index) (at : TwoAt 
   hard = ap (λ (z : Pair). is_hard_tail z.content.tail) (sym front_there) ∙ can.joined
 
   accepted : IsAccepted t.disk ps
-  accepted = subst (IsAccepted t.disk) at.is can.ready.accepted
+  accepted = beside.accepted t can.ready front at.ahead p (x ∷ at.back) at.is place fresh two
 
   writable : IsWritable t.disk ps
-  writable = subst (IsWritable t.disk) at.is can.ready.writable
+  writable = beside.writable t can.ready front at.ahead p (x ∷ at.back) at.is place fresh two
 
-  settled : pairs_gstate ps ≡ pairs_gstate t.pairs
-  settled = ap pairs_gstate (sym at.is)
+  settled : pairs_gstate ps ≡ zero_gstate
+  settled = beside.settled t can.ready front at.ahead p (x ∷ at.back) at.is place fresh two
+
+  no_move : HasNoMove (pairs_gstate ps)
+  no_move = no_move_from ps settled
+
+  distinct : IsDistinct nat_eq (fresh.0 ∷ fresh.1 ∷ used_blocks t.disk ps)
+  distinct = beside.distinct t can.ready front at.ahead p (x ∷ at.back) at.is place fresh two
 
   fit : Each (λ (z : Pair). FitsInPair t.disk.block_size t.disk.page z.content) (at.one ∷ at.other ∷ at.back)
-  fit = each_right (λ (z : Pair). FitsInPair t.disk.block_size t.disk.page z.content) at.ahead (p_1 ∷ x_1 ∷ at.back)
-      (recursion_from_All (λ (z : Pair). FitsInPair t.disk.block_size t.disk.page z.content) ps writable.pairs)
+  fit = beside.fit t can.ready front at.ahead p (x ∷ at.back) at.is place fresh two
 
   pub can_move : CanMoveNext (with_map t (map_taking_two t.map fresh)) (index - 1) fresh
   can_move = record {
@@ -128,33 +129,24 @@ module _ (t : KeptThread) (index : ℕ) (can : CanMovePair t index) (at : TwoAt 
     held = held t.map fresh two;
   }
 
-  distinct : IsDistinct nat_eq (fresh.0 ∷ fresh.1 ∷ used_blocks t.disk ps)
-  distinct = fresh_distinct t front w p_1 at.is place can.ready.used can.ready.accepted.owned_once fresh two
-
   -- ---- the pair is there
 
   module _ (disk : Disk) (is : IsThere t (index - 1) at.one at.other fresh disk) where
-    placed : IsPlaced t.disk disk p_1 q_1 [] own
-    placed = record {
-      geometry = shape_same t front w p_1 at.is place is.shape;
-      same = same_four t front w p_1 at.is place disk fresh is.others;
-      contents = (is.leads, tt);
-      first = λ h b. subst (λ a. BeginsWith (current_block disk a) superblock_entry) (at_is t front w p_1 at.is place)
-          (is.first (subst (λ a. BeginsWith (current_block t.disk a) superblock_entry) (sym (at_is t front w p_1 at.is place)) b) (h.kind, h.name));
-    }
+    placed : IsPlaced t.disk disk p q [] own
+    placed = beside.placed t can.ready front at.ahead p (x ∷ at.back) at.is place fresh two disk q.content [] is.shape is.others is.leads tt is.first (λ h. (h.kind, h.name))
 
     old_first : BeginsWith (current_block disk (first_address (from_first_slots ps))) superblock_entry
-    old_first = (placing.device t.disk disk w p_1 q_1 [] own accepted distinct placed).first
+    old_first = (placing.device t.disk disk w p q [] own accepted distinct placed).first
 
     device : IsDevice t.disk disk ps qs
-    device = device_from t.disk disk at.ahead [] p_1 (x_1 ∷ []) q_1 (y_1 ∷ []) at.back own accepted distinct
+    device = device_from t.disk disk at.ahead [] p (x ∷ []) q (y ∷ []) at.back own accepted distinct
         (record { geometry = placed.geometry; same = λ b none. placed.same b (omega arith) }) old_first
-        (All-from_recursion (λ r. content_at disk r.at ≡ Some r.content) (q_1 ∷ y_1 ∷ []) (is.leads, (is.moved, tt)))
+        (All-from_recursion (λ r. content_at disk r.at ≡ Some r.content) (q ∷ y ∷ []) (is.leads, (is.moved, tt)))
 
     pub relocated : IsRelocated t.disk disk at.ahead at.one at.other (pair_joined_to fresh at.one.content.slots at.one) (record at.other { at = fresh }) at.back
     relocated = record {
       device = device;
-      free = record { distinct = distinct; in_range = All-from_recursion (λ b. b < length t.disk.blocks) own (fresh_range t front w p_1 at.is place can.ready.size fresh two) };
+      free = record { distinct = distinct; in_range = All-from_recursion (λ b. b < length t.disk.blocks) own (fresh_range t front w p at.is place can.ready.size fresh two) };
       hard = hard;
       at = refl;
       slots = refl;
@@ -168,18 +160,18 @@ module _ (t : KeptThread) (index : ℕ) (can : CanMovePair t index) (at : TwoAt 
     behind : (chain rest : List Pair) → at.ahead ≡ chain ++ rest → pair_count_before_root ps ≡ length chain → IsSameWritable t.disk ps disk qs
     behind chain rest e count =
         let there : (zs : List Pair) → at.ahead ++ zs ≡ chain ++ (rest ++ zs) = λ zs. ap (λ z. z ++ zs) e ∙ append_assoc chain rest zs in
-        let taken = relocate t.disk disk chain rest p_1 x_1 q_1 y_1 at.back (record {
-          accepted = subst (IsAccepted t.disk) (there (p_1 ∷ x_1 ∷ at.back)) accepted;
-          writable = subst (IsWritable t.disk) (there (p_1 ∷ x_1 ∷ at.back)) writable;
-          no_move = no_move_from (chain ++ (rest ++ p_1 ∷ x_1 ∷ at.back)) (ap pairs_gstate (sym (there (p_1 ∷ x_1 ∷ at.back))) ∙ settled ∙ can.ready.settled);
-          is_chain = ap pair_count_before_root (sym (there (p_1 ∷ x_1 ∷ at.back))) ∙ count;
-        }) (subst (λ z. IsRelocated t.disk disk z p_1 x_1 q_1 y_1 at.back) e relocated) in
-        subst (λ z. IsSameWritable t.disk z disk qs) (sym (there (p_1 ∷ x_1 ∷ at.back))) (subst (IsSameWritable t.disk (chain ++ (rest ++ p_1 ∷ x_1 ∷ at.back)) disk) (sym (there (q_1 ∷ y_1 ∷ at.back))) (record {
+        let taken = relocate t.disk disk chain rest p x q y at.back (record {
+          accepted = subst (IsAccepted t.disk) (there (p ∷ x ∷ at.back)) accepted;
+          writable = subst (IsWritable t.disk) (there (p ∷ x ∷ at.back)) writable;
+          no_move = no_move_from (chain ++ (rest ++ p ∷ x ∷ at.back)) (ap pairs_gstate (sym (there (p ∷ x ∷ at.back))) ∙ settled);
+          is_chain = ap pair_count_before_root (sym (there (p ∷ x ∷ at.back))) ∙ count;
+        }) (subst (λ z. IsRelocated t.disk disk z p x q y at.back) e relocated) in
+        subst (λ z. IsSameWritable t.disk z disk qs) (sym (there (p ∷ x ∷ at.back))) (subst (IsSameWritable t.disk (chain ++ (rest ++ p ∷ x ∷ at.back)) disk) (sym (there (q ∷ y ∷ at.back))) (record {
           same = record {
             accepted = taken.taken.follows.accepted;
             shows = taken.taken.follows.shows;
             stays = λ path. taken.taken.follows.stays path (λ tree attributes bytes k. (attributes, k));
-            gstate = ap pairs_gstate (sym (there (q_1 ∷ y_1 ∷ at.back))) ∙ relocated_gstate at.ahead p_1 x_1 q_1 y_1 at.back refl refl ∙ ap pairs_gstate (there (p_1 ∷ x_1 ∷ at.back));
+            gstate = ap pairs_gstate (sym (there (q ∷ y ∷ at.back))) ∙ relocated_gstate at.ahead p x q y at.back refl refl ∙ ap pairs_gstate (there (p ∷ x ∷ at.back));
           };
           writable = taken.taken.writable;
         }))
@@ -188,43 +180,43 @@ module _ (t : KeptThread) (index : ℕ) (can : CanMovePair t index) (at : TwoAt 
 
     module _ (number : pair_count_before_root (at.ahead ++ at.one ∷ at.other ∷ at.back) ≡ length at.ahead + 1) where
       grouped : at.ahead ++ at.one ∷ at.other ∷ at.back ≡ (at.ahead ++ at.one ∷ []) ++ at.other ∷ at.back
-      grouped = sym (append_assoc at.ahead (p_1 ∷ []) (x_1 ∷ at.back))
+      grouped = sym (append_assoc at.ahead (p ∷ []) (x ∷ at.back))
 
       is_chain : IsChain (at.ahead ++ at.one ∷ []) (at.other ∷ at.back)
-      is_chain = ap pair_count_before_root (sym grouped) ∙ number ∙ sym (length-append at.ahead (p_1 ∷ []))
+      is_chain = ap pair_count_before_root (sym grouped) ∙ number ∙ sym (length-append at.ahead (p ∷ []))
 
       root_starts : starts_superblock at.other.content.slots ≡ true
-      root_starts = ap (λ z. starts_superblock (first_slots z)) (sym (ap pairs_from_root grouped ∙ pairs_behind (at.ahead ++ p_1 ∷ []) (x_1 ∷ at.back) is_chain)) ∙ accepted.root
+      root_starts = ap (λ z. starts_superblock (first_slots z)) (sym (ap pairs_from_root grouped ∙ pairs_behind (at.ahead ++ p ∷ []) (x ∷ at.back) is_chain)) ∙ accepted.root
 
       abbrev Begins : List Pair → Type 0
       Begins zs = BeginsWith (current_block disk (first_address (from_first_slots zs))) superblock_entry
 
       -- the log that comes first begins with the superblock's entry
-      new_first : BeginsWith (current_block disk (first_address (from_first_slots (at.ahead ++ q_1 ∷ y_1 ∷ at.back)))) superblock_entry
+      new_first : BeginsWith (current_block disk (first_address (from_first_slots (at.ahead ++ q ∷ y ∷ at.back)))) superblock_entry
       new_first = go (from_front at.ahead)
         where
           at_same : (c : Pair) → first_address (from_first_slots ps) ≡ c.at → first_address (from_first_slots qs) ≡ c.at → Begins qs
           at_same c e f = subst (λ a. BeginsWith (current_block disk a) superblock_entry) (e ∙ sym f) old_first
 
-          at_root : (slots : List Slot) → at.other.content.slots ≡ slots → from_first_slots ps ≡ from_first_slots (x_1 ∷ at.back) → from_first_slots qs ≡ from_first_slots (y_1 ∷ at.back) → Begins qs
+          at_root : (slots : List Slot) → at.other.content.slots ≡ slots → from_first_slots ps ≡ from_first_slots (x ∷ at.back) → from_first_slots qs ≡ from_first_slots (y ∷ at.back) → Begins qs
           at_root [] e f g = absurd (let k = ap starts_superblock (sym e) ∙ root_starts in cc)
           at_root (s ∷ slots) e f g =
-              let here : from_first_slots ps ≡ x_1 ∷ at.back = f ∙ ap (λ z. cond (has_slots z) (x_1 ∷ at.back) (from_first_slots at.back)) e in
-              let there : from_first_slots qs ≡ y_1 ∷ at.back = g ∙ ap (λ z. cond (has_slots z) (y_1 ∷ at.back) (from_first_slots at.back)) e in
+              let here : from_first_slots ps ≡ x ∷ at.back = f ∙ ap (λ z. cond (has_slots z) (x ∷ at.back) (from_first_slots at.back)) e in
+              let there : from_first_slots qs ≡ y ∷ at.back = g ∙ ap (λ z. cond (has_slots z) (y ∷ at.back) (from_first_slots at.back)) e in
               subst (λ z. BeginsWith (current_block disk (first_address z)) superblock_entry) (sym there) (is.anew (root_starts, ap first_slot_name (sym here) ∙ accepted.named))
 
-          at_pair : (slots : List Slot) → at.one.content.slots ≡ slots → from_first_slots ps ≡ from_first_slots (p_1 ∷ x_1 ∷ at.back) → from_first_slots qs ≡ from_first_slots (q_1 ∷ y_1 ∷ at.back) → Begins qs
-          at_pair (s ∷ slots) e f g = at_same p_1 (ap first_address (f ∙ ap (λ z. cond (has_slots z) (p_1 ∷ x_1 ∷ at.back) (from_first_slots (x_1 ∷ at.back))) e))
-              (ap first_address (g ∙ ap (λ z. cond (has_slots z) (q_1 ∷ y_1 ∷ at.back) (from_first_slots (y_1 ∷ at.back))) e))
-          at_pair [] e f g = at_root at.other.content.slots refl (f ∙ ap (λ z. cond (has_slots z) (p_1 ∷ x_1 ∷ at.back) (from_first_slots (x_1 ∷ at.back))) e)
-              (g ∙ ap (λ z. cond (has_slots z) (q_1 ∷ y_1 ∷ at.back) (from_first_slots (y_1 ∷ at.back))) e)
+          at_pair : (slots : List Slot) → at.one.content.slots ≡ slots → from_first_slots ps ≡ from_first_slots (p ∷ x ∷ at.back) → from_first_slots qs ≡ from_first_slots (q ∷ y ∷ at.back) → Begins qs
+          at_pair (s ∷ slots) e f g = at_same p (ap first_address (f ∙ ap (λ z. cond (has_slots z) (p ∷ x ∷ at.back) (from_first_slots (x ∷ at.back))) e))
+              (ap first_address (g ∙ ap (λ z. cond (has_slots z) (q ∷ y ∷ at.back) (from_first_slots (y ∷ at.back))) e))
+          at_pair [] e f g = at_root at.other.content.slots refl (f ∙ ap (λ z. cond (has_slots z) (p ∷ x ∷ at.back) (from_first_slots (x ∷ at.back))) e)
+              (g ∙ ap (λ z. cond (has_slots z) (q ∷ y ∷ at.back) (from_first_slots (y ∷ at.back))) e)
 
           go : FromSlots at.ahead → Begins qs
-          go (InFront c rest e all) = at_same c (ap first_address (all (p_1 ∷ x_1 ∷ at.back))) (ap first_address (all (q_1 ∷ y_1 ∷ at.back)))
-          go (Behind none all) = at_pair at.one.content.slots refl (all (p_1 ∷ x_1 ∷ at.back)) (all (q_1 ∷ y_1 ∷ at.back))
+          go (InFront c rest e all) = at_same c (ap first_address (all (p ∷ x ∷ at.back))) (ap first_address (all (q ∷ y ∷ at.back)))
+          go (Behind none all) = at_pair at.one.content.slots refl (all (p ∷ x ∷ at.back)) (all (q ∷ y ∷ at.back))
 
       root_moves : IsSameWritable t.disk ps disk qs
-      root_moves = relocate_root t.disk disk at.ahead p_1 x_1 q_1 y_1 at.back accepted writable (no_move_from ps (settled ∙ can.ready.settled)) number relocated new_first
+      root_moves = relocate_root t.disk disk at.ahead p x q y at.back accepted writable no_move number relocated new_first
 
     -- ---- either
 
@@ -255,9 +247,6 @@ module _ (t : KeptThread) (index : ℕ) (can : CanMovePair t index) (at : TwoAt 
       let s = same_writable disk is in
       record { pairs = qs; accepted = s.same.accepted; writable = s.writable; tree = inl (s.same.shows ∙ ap (tree_on_disk t.disk) (sym at.is)) }
 
-  still_shows : (left : Blocks) → IsPlaced t.disk (with_blocks left t.disk) p_1 p_1 [] own → HasEither (with_blocks left t.disk) (tree_on_disk t.disk t.pairs) (tree_on_disk t.disk t.pairs)
-  still_shows left still = left_still t.disk left ps accepted writable (placing.device t.disk (with_blocks left t.disk) w p_1 p_1 [] own accepted distinct still) (inl (ap (tree_on_disk t.disk) (sym at.is)))
-
   pub left_moved : (left : Blocks) → LossLeavesNextMoved (with_map t (map_taking_two t.map fresh)) (index - 1) fresh left → HasEither (with_blocks left t.disk) (tree_on_disk t.disk t.pairs) (tree_on_disk t.disk t.pairs)
   left_moved left l = go l.content
     where
@@ -266,7 +255,7 @@ module _ (t : KeptThread) (index : ℕ) (can : CanMovePair t index) (at : TwoAt 
 
       go : HasOldPair (with_map t (map_taking_two t.map fresh)) (index - 1) (with_blocks left t.disk) ⊎ NextMovedOnDisk (with_map t (map_taking_two t.map fresh)) (index - 1) fresh (with_blocks left t.disk)
           → HasEither (with_blocks left t.disk) (tree_on_disk t.disk t.pairs) (tree_on_disk t.disk t.pairs)
-      go (inl b) = still_shows left (placed_still t front w p_1 at.is place (with_blocks left t.disk) fresh shape l.others (record { holds = b.holds; first = b.first }))
+      go (inl b) = beside.left_old t can.ready front at.ahead p (x ∷ at.back) at.is place fresh two left l.others b
       go (inr n) = shows_same (with_blocks left t.disk) (record {
         shape = shape;
         others = l.others;
@@ -276,38 +265,9 @@ module _ (t : KeptThread) (index : ℕ) (can : CanMovePair t index) (at : TwoAt 
         anew = subst (λ (z : Pair). BeginsWithAnySuperblock (record z { at = fresh }) (with_blocks left t.disk)) next_there n.anew;
       })
 
-  -- only the two blocks may differ
-  left_beside : (left : Blocks) → SameExceptThese (address_blocks fresh) t.disk.blocks left → HasEither (with_blocks left t.disk) (tree_on_disk t.disk t.pairs) (tree_on_disk t.disk t.pairs)
-  left_beside left others = still_shows left (record {
-    geometry = record { block_size = refl; page = refl; order = refl; profile = refl; count = others.count };
-    same = λ b none. others.others b (all_apart own b (omega arith));
-    contents = (content_same t.disk (with_blocks left t.disk) p_1.at first_same second_same ∙ held_there.0, tt);
-    first = λ h b. subst (λ o. BeginsWith o superblock_entry) (sym (ap₂ current_of_two first_same second_same)) b;
-  })
-    where
-      held_there : Each (λ (z : Pair). content_at t.disk z.at ≡ Some z.content) (at.one ∷ at.other ∷ at.back)
-      held_there = each_right (λ (z : Pair). content_at t.disk z.at ≡ Some z.content) at.ahead (p_1 ∷ x_1 ∷ at.back)
-          (recursion_from_All (λ (z : Pair). content_at t.disk z.at ≡ Some z.content) ps accepted.thread.contents)
-
-      same_used : (b : ℕ) → 1 ≤ number_count b (blocks_of_pairs (at.one ∷ [])) → disk_block (with_blocks left t.disk) b ≡ disk_block t.disk b
-      same_used b some = others.others b (all_apart own b (
-          let n = once_from_distinct (fresh.0 ∷ fresh.1 ∷ used_blocks t.disk ps) distinct b in
-          let k = count_append b (blocks_of_pairs ps) (flat_map (λ (s : Slot). struct_blocks t.disk s.struct) (all_slots_not_moved ps)) in
-          let i = count_pairs b w (p_1 ∷ []) in
-          omega arith))
-
-      first_same : disk_block (with_blocks left t.disk) at.one.at.0 ≡ disk_block t.disk at.one.at.0
-      first_same = same_used at.one.at.0 (let h = count_here at.one.at.0 (at.one.at.1 ∷ []) in omega arith)
-
-      second_same : disk_block (with_blocks left t.disk) at.one.at.1 ≡ disk_block t.disk at.one.at.1
-      second_same = same_used at.one.at.1 (let h = count_here at.one.at.1 [] in omega arith)
-
   pub left_beside_on : (new : KeptThread) → ChangesThreadBlocks (addresses_blocks (thread_pair_at t (index - 1)).at fresh) (with_map t (map_taking_two t.map fresh)) new → SameExceptThese (address_blocks fresh) t.disk.blocks new.disk.blocks
       → HasEither new.disk (tree_on_disk t.disk t.pairs) (tree_on_disk t.disk t.pairs)
-  left_beside_on new writes others = subst (λ (d : Disk). HasEither d (tree_on_disk t.disk t.pairs) (tree_on_disk t.disk t.pairs)) same_disk (left_beside new.disk.blocks others)
-    where
-      same_disk : with_blocks new.disk.blocks t.disk ≡ new.disk
-      same_disk = λ j. record { block_size = sym writes.shape.block_size j; page = sym writes.shape.page j; order = sym writes.shape.order j; profile = sym writes.shape.profile j; blocks = new.disk.blocks }
+  left_beside_on new writes others = beside.left_beside_on t can.ready front at.ahead p (x ∷ at.back) at.is place fresh two new writes others
 
   -- ---- it was done
 
@@ -315,11 +275,11 @@ module _ (t : KeptThread) (index : ℕ) (can : CanMovePair t index) (at : TwoAt 
       (writes : ChangesThreadBlocks (addresses_blocks (thread_pair_at t (index - 1)).at fresh) (with_map t (map_taking_two t.map fresh)) new) where
     pairs : new.pairs ≡ qs
     pairs = is.pairs ∙ ap₂ (λ (a b : Pair). set (set t.pairs front (pair_joined_to fresh a.content.slots a)) (front + 1) (record b { at = fresh })) front_there next_there
-        ∙ ap₂ (λ (z : List Pair) (i : ℕ). set (set z i q_1) (i + 1) y_1) at.is (sym at.number)
-        ∙ ap (λ z. set z (length at.ahead + 1) y_1) (set_at at.ahead p_1 (x_1 ∷ at.back) q_1) ∙ set_next at.ahead q_1 x_1 at.back y_1
+        ∙ ap₂ (λ (z : List Pair) (i : ℕ). set (set z i q) (i + 1) y) at.is (sym at.number)
+        ∙ ap (λ z. set z (length at.ahead + 1) y) (set_at at.ahead p (x ∷ at.back) q) ∙ set_next at.ahead q x at.back y
 
-    contents : Each (λ (z : Pair). content_at new.disk z.at ≡ Some z.content) (q_1 ∷ y_1 ∷ at.back)
-    contents = each_right (λ (z : Pair). content_at new.disk z.at ≡ Some z.content) at.ahead (q_1 ∷ y_1 ∷ at.back)
+    contents : Each (λ (z : Pair). content_at new.disk z.at ≡ Some z.content) (q ∷ y ∷ at.back)
+    contents = each_right (λ (z : Pair). content_at new.disk z.at ≡ Some z.content) at.ahead (q ∷ y ∷ at.back)
         (recursion_from_All (λ (z : Pair). content_at new.disk z.at ≡ Some z.content) qs (subst (All (λ (z : Pair). content_at new.disk z.at ≡ Some z.content)) pairs is.thread.contents))
 
     there : IsThere t (index - 1) at.one at.other fresh new.disk
@@ -347,20 +307,11 @@ module _ (t : KeptThread) (index : ℕ) (can : CanMovePair t index) (at : TwoAt 
     now = map_without using at.other.at us (used_blocks new.disk qs)
         (used_more t.map fresh two (used_blocks t.disk ps) us (λ b. omega arith) (subst (λ z. AreUsed t.map (used_blocks t.disk z)) at.is can.ready.used))
         (λ b. once_from_distinct us distinct b)
-        (λ b. let e = relocated_blocks t.disk new.disk at.ahead p_1 x_1 q_1 y_1 at.back (no_move_from ps (settled ∙ can.ready.settled)) (relocated new.disk there) b in omega arith)
+        (λ b. let e = relocated_blocks t.disk new.disk at.ahead p x q y at.back no_move (relocated new.disk there) b in omega arith)
         new.map (is.map ∙ ap (λ (z : Pair). map_freeing using z.at) next_there)
 
     flying : SameInFlight t.map new.map
-    flying b = ((λ h. none_comes_now t.map fresh two b ((now.flying b).0 h)), (λ h. (now.flying b).1 (stay_taken t.map fresh two b (λ free. absurd (not_free free h)) ∙ h)))
-      where
-        not_free : IsFree t.map b → IsInFlight t.map b → ⊥
-        not_free free h = absurd (let e = sym free ∙ h in cc)
-
-    unused : AreUnused t.disk t.pairs fresh
-    unused = All-from_recursion (λ b. Contains (used_blocks t.disk t.pairs) b → ⊥) own (none fresh.0 two.first, (none fresh.1 two.second, tt))
-      where
-        none : (b : ℕ) → IsFree t.map b → Contains (used_blocks t.disk t.pairs) b → ⊥
-        none b free h = let n = not_used t.map (used_blocks t.disk t.pairs) can.ready.used b free in let k = number_count-Contains (used_blocks t.disk t.pairs) b h in absurd (omega arith)
+    flying b = let f = beside.flying t can.ready front at.ahead p (x ∷ at.back) at.is place fresh two b in ((λ h. f.0 ((now.flying b).0 h)), (λ h. (now.flying b).1 (f.1 h)))
 
     pub moved_at : IsMovedAt t index new
     moved_at = record {
@@ -373,7 +324,7 @@ module _ (t : KeptThread) (index : ℕ) (can : CanMovePair t index) (at : TwoAt 
         was = at.is;
         joined = hard;
         is = pairs;
-        unused = unused;
+        unused = beside.unused t can.ready front at.ahead p (x ∷ at.back) at.is place fresh two;
         due = ap (is_worn t.disk) (sym worn_there) ∙ can.worn;
       };
       number = let n = at.number in let a = can.above in omega arith;
@@ -381,7 +332,7 @@ module _ (t : KeptThread) (index : ℕ) (can : CanMovePair t index) (at : TwoAt 
         ready = record {
           accepted = subst (IsAccepted new.disk) (sym pairs) same.same.accepted;
           writable = subst (IsWritable new.disk) (sym pairs) same.writable;
-          settled = ap pairs_gstate pairs ∙ same.same.gstate ∙ settled ∙ can.ready.settled;
+          settled = ap pairs_gstate pairs ∙ same.same.gstate ∙ settled;
           used = subst (λ z. AreUsed new.map (used_blocks new.disk z)) (sym pairs) now.used;
           size = now.size ∙ length_now t.map fresh two ∙ can.ready.size ∙ sym writes.shape.count;
           large = subst (λ n. 1024 ≤ n) (sym writes.shape.block_size) can.ready.large;
@@ -391,9 +342,10 @@ module _ (t : KeptThread) (index : ℕ) (can : CanMovePair t index) (at : TwoAt 
         lists = subst (λ z. All (λ s. SameFileBlocks t.disk new.disk s.struct) (all_slots_not_moved z)) (sym at.is) (relocated new.disk there).device.files;
         flying = flying;
       };
-      as_many = ap (λ z. length (used_blocks new.disk z)) pairs ∙ relocated_length t.disk new.disk at.ahead p_1 x_1 q_1 y_1 at.back (no_move_from ps (settled ∙ can.ready.settled)) (relocated new.disk there)
+      revision = is.revision ∙ ap (λ (z : Pair). option_map (λ r. (r + 1) % 2 ^ 32) (pair_revision t.disk z.at)) next_there;
+      as_many = ap (λ z. length (used_blocks new.disk z)) pairs ∙ relocated_length t.disk new.disk at.ahead p x q y at.back no_move (relocated new.disk there)
           ∙ ap (λ z. length (used_blocks t.disk z)) (sym at.is);
-      root = ap pair_count_before_root pairs ∙ count_same p_1 x_1 fresh at.back hard at.ahead ∙ ap pair_count_before_root (sym at.is);
+      root = ap pair_count_before_root pairs ∙ count_same p x fresh at.back hard at.ahead ∙ ap pair_count_before_root (sym at.is);
     }
 
 -- ---- in the operation's words

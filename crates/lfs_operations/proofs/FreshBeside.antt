@@ -1,0 +1,114 @@
+-- A step that writes one pair and two free blocks: what is on the device then, and that the image stays where the pair does.
+use Rattle.std.proofs.Common.{ℕ, ◌≡◌, ◌+◌, ◌≤◌, nat_eq, List, [], ◌∷◌, ◌++◌, length, Some, inl, refl, sym, ap, ap₂, subst, ◌∙◌, arith, flat_map}
+use Rattle.std.specs.Prelude.{Contains}
+use Rattle.lfs_operations.proofs.Common.{All-from_recursion, Each, IsDistinct, recursion_from_All, number_count-Contains, once_from_distinct, Blocks, SameExceptThese, IsFree, IsInFlight, content_at, current_block, current_of_two, Disk, disk_block, HasEither, with_blocks, PairContent, FitsInPair, Slot, Pair, blocks_of_pairs, pairs_gstate, zero_gstate, address_blocks, addresses_blocks, BeginsWith, superblock_entry, IsAccepted, IsWritable, all_slots_not_moved, struct_blocks, tree_on_disk, used_blocks, each_right, number_count, count_append, count_here, HasNoMove, no_move_from, Site, HasFirst, KeepsOutsideBoth, KeptThread, SameGeometryAs, HasOldPair, ChangesThreadBlocks, BeginWithSuperblock, map_using, thread_pair_at}
+use Rattle.lfs_model.specs.session.Moved.{AreUnused}
+use Rattle.lfs_model.proofs.Devices.{content_same}
+use Rattle.lfs_thread.specs.ThreadSteps.{KeepsSuperblockFirst}
+use Rattle.lfs_operations.specs.Changing.{AreTwoFree, map_taking_two}
+use Rattle.lfs_operations.specs.Dropping.{SameInFlight}
+use Rattle.lfs_operations.specs.Ready.{IsReadyImage}
+use Rattle.lfs_operations.proofs.Owning.{count_pairs, none_comes_now, not_used, stay_taken}
+use Rattle.lfs_operations.proofs.Placing.{IsPlaced, all_apart, device, left_still}
+use Rattle.lfs_operations.proofs.Putting.{with_map}
+use Rattle.lfs_operations.proofs.Threads as threads
+
+module _ (t : KeptThread) (ready : IsReadyImage t) (index : ℕ) (ahead : List Pair) (p : Pair) (back : List Pair) (is : t.pairs ≡ ahead ++ p ∷ back) (place : index ≡ length ahead + 0) (fresh : ℕ × ℕ) (two : AreTwoFree t.map fresh) where
+  abbrev ps : List Pair
+  ps = ahead ++ p ∷ back
+
+  abbrev own : List ℕ
+  own = fresh.0 ∷ fresh.1 ∷ []
+
+  -- where the pair stands
+  abbrev pub pair_site : Site
+  pair_site = record { chain = ahead; before = []; left = []; right = []; after = back }
+
+  pub pair_there : thread_pair_at t index ≡ p
+  pair_there = threads.pair_is t index pair_site p is place
+
+  pub accepted : IsAccepted t.disk (ahead ++ p ∷ back)
+  accepted = subst (IsAccepted t.disk) is ready.accepted
+
+  pub writable : IsWritable t.disk (ahead ++ p ∷ back)
+  writable = subst (IsWritable t.disk) is ready.writable
+
+  pub settled : pairs_gstate (ahead ++ p ∷ back) ≡ zero_gstate
+  settled = ap pairs_gstate (sym is) ∙ ready.settled
+
+  pub no_move : HasNoMove (pairs_gstate (ahead ++ p ∷ back))
+  no_move = no_move_from ps settled
+
+  pub fit : Each (λ (z : Pair). FitsInPair t.disk.block_size t.disk.page z.content) (p ∷ back)
+  fit = each_right (λ (z : Pair). FitsInPair t.disk.block_size t.disk.page z.content) ahead (p ∷ back)
+      (recursion_from_All (λ (z : Pair). FitsInPair t.disk.block_size t.disk.page z.content) ps writable.pairs)
+
+  pub distinct : IsDistinct nat_eq (fresh.0 ∷ fresh.1 ∷ used_blocks t.disk (ahead ++ p ∷ back))
+  distinct = threads.fresh_distinct t index pair_site p is place ready.used ready.accepted.owned_once fresh two
+
+  pub unused : AreUnused t.disk t.pairs fresh
+  unused = All-from_recursion (λ b. Contains (used_blocks t.disk t.pairs) b → ⊥) own (none fresh.0 two.first, (none fresh.1 two.second, tt))
+    where
+      none : (b : ℕ) → IsFree t.map b → Contains (used_blocks t.disk t.pairs) b → ⊥
+      none b free h = let n = not_used t.map (used_blocks t.disk t.pairs) ready.used b free in let k = number_count-Contains (used_blocks t.disk t.pairs) b h in absurd (omega arith)
+
+  pub flying : SameInFlight t.map (map_using (map_taking_two t.map fresh) fresh)
+  flying b = (none_comes_now t.map fresh two b, λ h. stay_taken t.map fresh two b (λ free. absurd (not_free free h)) ∙ h)
+    where
+      not_free : IsFree t.map b → IsInFlight t.map b → ⊥
+      not_free free h = absurd (let e = sym free ∙ h in cc)
+
+  -- the pair has another content, and more pairs have theirs
+  pub placed : (disk : Disk) (c : PairContent) (more : List Pair) → SameGeometryAs t.disk disk → KeepsOutsideBoth (thread_pair_at t index).at fresh t.disk.blocks disk.blocks → content_at disk p.at ≡ Some c
+      → Each (λ x. content_at disk x.at ≡ Some x.content) more → KeepsSuperblockFirst t.disk (thread_pair_at t index).at c disk → (HasFirst p.content.slots → BeginWithSuperblock c.slots)
+      → IsPlaced t.disk disk p (record { at = p.at; content = c }) more (fresh.0 ∷ fresh.1 ∷ [])
+  placed disk c more shape others here behind first marked = record {
+    geometry = threads.shape_same t index pair_site p is place shape;
+    same = threads.same_four t index pair_site p is place disk fresh others;
+    contents = (here, behind);
+    first = λ h b. subst (λ a. BeginsWith (current_block disk a) superblock_entry) (threads.at_is t index pair_site p is place)
+        (first (subst (λ a. BeginsWith (current_block t.disk a) superblock_entry) (sym (threads.at_is t index pair_site p is place)) b) (marked h));
+  }
+
+  -- ---- the pair stays
+
+  still_shows : (left : Blocks) → IsPlaced t.disk (with_blocks left t.disk) p p [] own → HasEither (with_blocks left t.disk) (tree_on_disk t.disk t.pairs) (tree_on_disk t.disk t.pairs)
+  still_shows left still = left_still t.disk left ps accepted writable (device t.disk (with_blocks left t.disk) pair_site p p [] own accepted distinct still) (inl (ap (tree_on_disk t.disk) (sym is)))
+
+  pub left_old : (left : Blocks) → KeepsOutsideBoth (thread_pair_at t index).at fresh t.disk.blocks left → HasOldPair (with_map t (map_taking_two t.map fresh)) index (with_blocks left t.disk)
+      → HasEither (with_blocks left t.disk) (tree_on_disk t.disk t.pairs) (tree_on_disk t.disk t.pairs)
+  left_old left others b = still_shows left (threads.placed_still t index pair_site p is place (with_blocks left t.disk) fresh
+      (record { block_size = refl; page = refl; order = refl; profile = refl; count = others.count }) others (record { holds = b.holds; first = b.first }))
+
+  -- only the two blocks may differ
+  left_beside : (left : Blocks) → SameExceptThese (address_blocks fresh) t.disk.blocks left → HasEither (with_blocks left t.disk) (tree_on_disk t.disk t.pairs) (tree_on_disk t.disk t.pairs)
+  left_beside left others = still_shows left (record {
+    geometry = record { block_size = refl; page = refl; order = refl; profile = refl; count = others.count };
+    same = λ b none. others.others b (all_apart own b (omega arith));
+    contents = (content_same t.disk (with_blocks left t.disk) p.at first_same second_same ∙ held_there.0, tt);
+    first = λ h b. subst (λ o. BeginsWith o superblock_entry) (sym (ap₂ current_of_two first_same second_same)) b;
+  })
+    where
+      held_there : Each (λ (z : Pair). content_at t.disk z.at ≡ Some z.content) (p ∷ back)
+      held_there = each_right (λ (z : Pair). content_at t.disk z.at ≡ Some z.content) ahead (p ∷ back)
+          (recursion_from_All (λ (z : Pair). content_at t.disk z.at ≡ Some z.content) ps accepted.thread.contents)
+
+      same_used : (b : ℕ) → 1 ≤ number_count b (blocks_of_pairs (p ∷ [])) → disk_block (with_blocks left t.disk) b ≡ disk_block t.disk b
+      same_used b some = others.others b (all_apart own b (
+          let n = once_from_distinct (fresh.0 ∷ fresh.1 ∷ used_blocks t.disk ps) distinct b in
+          let k = count_append b (blocks_of_pairs ps) (flat_map (λ (s : Slot). struct_blocks t.disk s.struct) (all_slots_not_moved ps)) in
+          let i = count_pairs b pair_site (p ∷ []) in
+          omega arith))
+
+      first_same : disk_block (with_blocks left t.disk) p.at.0 ≡ disk_block t.disk p.at.0
+      first_same = same_used p.at.0 (let h = count_here p.at.0 (p.at.1 ∷ []) in omega arith)
+
+      second_same : disk_block (with_blocks left t.disk) p.at.1 ≡ disk_block t.disk p.at.1
+      second_same = same_used p.at.1 (let h = count_here p.at.1 [] in omega arith)
+
+  pub left_beside_on : (new : KeptThread) → ChangesThreadBlocks (addresses_blocks (thread_pair_at t index).at fresh) (with_map t (map_taking_two t.map fresh)) new → SameExceptThese (address_blocks fresh) t.disk.blocks new.disk.blocks
+      → HasEither new.disk (tree_on_disk t.disk t.pairs) (tree_on_disk t.disk t.pairs)
+  left_beside_on new writes others = subst (λ (d : Disk). HasEither d (tree_on_disk t.disk t.pairs) (tree_on_disk t.disk t.pairs)) same_disk (left_beside new.disk.blocks others)
+    where
+      same_disk : with_blocks new.disk.blocks t.disk ≡ new.disk
+      same_disk = λ j. record { block_size = sym writes.shape.block_size j; page = sym writes.shape.page j; order = sym writes.shape.order j; profile = sym writes.shape.profile j; blocks = new.disk.blocks }

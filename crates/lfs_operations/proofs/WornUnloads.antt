@@ -14,7 +14,7 @@ use Rattle.lfs_model.specs.tree.View.{HasStruct, first_slot_name, IsSuperblockFi
 use Rattle.lfs_model.proofs.BlockSets.{used_count-AreUsed}
 use Rattle.lfs_model.proofs.MovedBlocks.{unloaded_blocks, unloaded_length}
 use Rattle.lfs_model.proofs.Relocated as laws
-use Rattle.lfs_model.proofs.RootSteps.{IsSameWritable, expand}
+use Rattle.lfs_model.proofs.RootSteps.{IsSameWritable, root_unloads}
 use Rattle.lfs_model.proofs.Superblocks.{StructMark, hold_each, hold_from_rules, meets_starting, starts, starts_not}
 use Rattle.lfs_model.proofs.Unloaded.{unload}
 use Rattle.lfs_model.proofs.Unthreaded.{Unthreads}
@@ -364,7 +364,7 @@ module _ (t : KeptThread) (can : CanExpandRoot t) (at : HasFirstPair t.pairs) (f
     bare = take_blocks t.disk.profile.versions root_accepted.superblock.0 at.first.content.slots root_held;
     kept = take_few at.first.content.slots root_starts;
     taken = λ disk c. (
-      expand t.disk disk at.first (pair_joined_to fresh (take 1 at.first.content.slots) at.first) (pair_behind fresh at.first) at.others root_accepted (subst (IsWritable t.disk) at.is can.ready.writable)
+      root_unloads t.disk disk at.first (pair_joined_to fresh (take 1 at.first.content.slots) at.first) (pair_behind fresh at.first) at.others root_accepted (subst (IsWritable t.disk) at.is can.ready.writable)
           (no_move_from (at.first ∷ at.others) (ap pairs_gstate (sym at.is) ∙ can.ready.settled)) root_number c,
       root_next,
     );

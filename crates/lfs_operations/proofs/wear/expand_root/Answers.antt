@@ -5,8 +5,7 @@ use Rattle.lfs_operations.specs.Changing.{map_taking_two}
 use Rattle.lfs_operations.specs.Making.{ReportsErrorsOfMakingDirectory}
 use Rattle.lfs_operations.proofs.MakingCounts.{no_room}
 use Rattle.lfs_operations.proofs.MakingReported.{reports_first}
-use Rattle.lfs_operations.proofs.MakingWrites.{survives_by}
-use Rattle.lfs_operations.proofs.Putting.{with_map, writes_in}
+use Rattle.lfs_operations.proofs.Putting.{survives_step, with_map, writes_in}
 use Rattle.lfs_operations.proofs.WornUnloads.{root_begins, root_beside, root_can, root_expanded, root_left}
 use Rattle.lfs_operations.proofs.wear.expand_root.Goals as goal
 
@@ -55,7 +54,7 @@ pub returns-in_err-unload-clause-survives : goal.returns-in_err-unload-clause-su
 returns-in_err-unload-clause-survives g c =
     let t = c.args.thread.now.kept in
     let fresh = array_address c.in-Some.fresh in
-    survives_by t.disk t.history c.unload.new.self.kept.history (tree_on_disk t.disk t.pairs) (tree_on_disk t.disk t.pairs) (LossLeavesUnloaded (with_map t (map_taking_two t.map fresh)) 0 fresh 1)
+    survives_step t.disk
     (root_left t c.requires.can (root_begins t c.requires.can) fresh c.in-Some.ensures.were_free)
     (subst (λ (s : ThreadView). LossLeavesCleanly s.kept.history c.unload.new.self.kept.history (LossLeavesUnloaded s.kept 0 fresh 1)) c.in-Some.ensures.taken c.unload.ensures.stops)
 
@@ -72,6 +71,6 @@ pub returns-clause-survives : goal.returns-clause-survives
 returns-clause-survives g c =
     let t = c.args.thread.now.kept in
     let fresh = array_address c.in-Some.fresh in
-    survives_by t.disk t.history c.unload.new.self.kept.history (tree_on_disk t.disk t.pairs) (tree_on_disk t.disk t.pairs) (LossLeavesUnloaded (with_map t (map_taking_two t.map fresh)) 0 fresh 1)
+    survives_step t.disk
     (root_left t c.requires.can (root_begins t c.requires.can) fresh c.in-Some.ensures.were_free)
     (subst (λ (s : ThreadView). LossLeavesCleanly s.kept.history c.unload.new.self.kept.history (LossLeavesUnloaded s.kept 0 fresh 1)) c.in-Some.ensures.taken c.unload.ensures.stops)

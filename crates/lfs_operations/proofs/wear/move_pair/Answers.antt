@@ -5,8 +5,7 @@ use Rattle.lfs_operations.specs.Changing.{map_taking_two}
 use Rattle.lfs_operations.specs.Making.{ReportsErrorsOfMakingDirectory}
 use Rattle.lfs_operations.proofs.MakingCounts.{no_room}
 use Rattle.lfs_operations.proofs.MakingReported.{reports_first}
-use Rattle.lfs_operations.proofs.MakingWrites.{survives_by}
-use Rattle.lfs_operations.proofs.Putting.{with_map}
+use Rattle.lfs_operations.proofs.Putting.{survives_step, with_map}
 use Rattle.lfs_operations.proofs.WornMoves.{can_move, left_beside_on, left_moved, moved_at, pair_before}
 use Rattle.lfs_operations.proofs.wear.move_pair.Goals as goal
 
@@ -49,7 +48,7 @@ pub returns-in_err-move_next-clause-survives : goal.returns-in_err-move_next-cla
 returns-in_err-move_next-clause-survives g c =
     let t = c.args.thread.now.kept in
     let fresh = array_address c.in-Some.fresh in
-    survives_by t.disk t.history c.move_next.new.self.kept.history (tree_on_disk t.disk t.pairs) (tree_on_disk t.disk t.pairs) (LossLeavesNextMoved (with_map t (map_taking_two t.map fresh)) (c.args.index - 1) fresh)
+    survives_step t.disk
     (left_moved t c.args.index c.requires.can (pair_before t c.args.index c.requires.can) fresh c.in-Some.ensures.were_free)
     (subst (λ (s : ThreadView). LossLeavesCleanly s.kept.history c.move_next.new.self.kept.history (LossLeavesNextMoved s.kept (c.args.index - 1) fresh)) c.in-Some.ensures.taken c.move_next.ensures.stops)
 
@@ -66,6 +65,6 @@ pub returns-clause-survives : goal.returns-clause-survives
 returns-clause-survives g c =
     let t = c.args.thread.now.kept in
     let fresh = array_address c.in-Some.fresh in
-    survives_by t.disk t.history c.move_next.new.self.kept.history (tree_on_disk t.disk t.pairs) (tree_on_disk t.disk t.pairs) (LossLeavesNextMoved (with_map t (map_taking_two t.map fresh)) (c.args.index - 1) fresh)
+    survives_step t.disk
     (left_moved t c.args.index c.requires.can (pair_before t c.args.index c.requires.can) fresh c.in-Some.ensures.were_free)
     (subst (λ (s : ThreadView). LossLeavesCleanly s.kept.history c.move_next.new.self.kept.history (LossLeavesNextMoved s.kept (c.args.index - 1) fresh)) c.in-Some.ensures.taken c.move_next.ensures.stops)

@@ -43,20 +43,20 @@ module _ (p x : Pair) (to : ℕ × ℕ) (back : List Pair) (hard : is_hard_tail 
   superblock_same [] = ap (λ b. starts_or p.content.slots (b && has_superblock (x ∷ back))) (sym hard)
   superblock_same (z ∷ ahead) = ap (λ b. starts_or z.content.slots (is_hard_tail z.content.tail && b)) (superblock_same ahead)
 
-  pub count_same : (ahead : List Pair) → pair_count_before_root (ahead ++ pair_joined_to to p.content.slots p ∷ record x { at = to } ∷ back) ≡ pair_count_before_root (ahead ++ p ∷ x ∷ back)
+  count_same : (ahead : List Pair) → pair_count_before_root (ahead ++ pair_joined_to to p.content.slots p ∷ record x { at = to } ∷ back) ≡ pair_count_before_root (ahead ++ p ∷ x ∷ back)
   count_same [] = ap (λ b. cond (has_superblock (x ∷ back) && (has_no_entry p.content.slots && b)) (1 + pair_count_before_root (x ∷ back)) 0) (sym hard)
   count_same (z ∷ ahead) = ap₂ (λ b n. cond (b && (has_no_entry z.content.slots && is_hard_tail z.content.tail)) (1 + n) 0) (superblock_same ahead) (count_same ahead)
 
 -- ---- on a disk
 
 -- the pair before leads to the two blocks, and they have what the worn pair had
-pub record IsThere (t : KeptThread) (front : ℕ) (p x : Pair) (fresh : ℕ × ℕ) (disk : Disk) : Type 0 where
-  pub shape : SameGeometryAs t.disk disk
-  pub others : KeepsOutsideBoth (thread_pair_at t front).at fresh t.disk.blocks disk.blocks
-  pub leads : content_at disk p.at ≡ Some (pair_joined_to fresh p.content.slots p).content
-  pub moved : content_at disk fresh ≡ Some x.content
-  pub first : KeepsSuperblockFirst t.disk (thread_pair_at t front).at (pair_joined_to fresh p.content.slots p).content disk
-  pub anew : BeginsWithAnySuperblock (record x { at = fresh }) disk
+record IsThere (t : KeptThread) (front : ℕ) (p x : Pair) (fresh : ℕ × ℕ) (disk : Disk) : Type 0 where
+  shape : SameGeometryAs t.disk disk
+  others : KeepsOutsideBoth (thread_pair_at t front).at fresh t.disk.blocks disk.blocks
+  leads : content_at disk p.at ≡ Some (pair_joined_to fresh p.content.slots p).content
+  moved : content_at disk fresh ≡ Some x.content
+  first : KeepsSuperblockFirst t.disk (thread_pair_at t front).at (pair_joined_to fresh p.content.slots p).content disk
+  anew : BeginsWithAnySuperblock (record x { at = fresh }) disk
 
 module _ (t : KeptThread) (index : ℕ) (can : CanMovePair t index) (at : TwoAt t.pairs (index - 1)) (fresh : ℕ × ℕ) (two : AreTwoFree t.map fresh) where
   abbrev front : ℕ
@@ -143,7 +143,7 @@ module _ (t : KeptThread) (index : ℕ) (can : CanMovePair t index) (at : TwoAt 
         (record { geometry = placed.geometry; same = λ b none. placed.same b (omega arith) }) old_first
         (All-from_recursion (λ r. content_at disk r.at ≡ Some r.content) (q ∷ y ∷ []) (is.leads, (is.moved, tt)))
 
-    pub relocated : IsRelocated t.disk disk at.ahead at.one at.other (pair_joined_to fresh at.one.content.slots at.one) (record at.other { at = fresh }) at.back
+    relocated : IsRelocated t.disk disk at.ahead at.one at.other (pair_joined_to fresh at.one.content.slots at.one) (record at.other { at = fresh }) at.back
     relocated = record {
       device = device;
       free = record { distinct = distinct; in_range = All-from_recursion (λ b. b < length t.disk.blocks) own (fresh_range t front w p at.is place can.ready.size fresh two) };
@@ -220,7 +220,7 @@ module _ (t : KeptThread) (index : ℕ) (can : CanMovePair t index) (at : TwoAt 
 
     -- ---- either
 
-    pub same_writable : IsSameWritable t.disk (at.ahead ++ at.one ∷ at.other ∷ at.back) disk (at.ahead ++ pair_joined_to fresh at.one.content.slots at.one ∷ record at.other { at = fresh } ∷ at.back)
+    same_writable : IsSameWritable t.disk (at.ahead ++ at.one ∷ at.other ∷ at.back) disk (at.ahead ++ pair_joined_to fresh at.one.content.slots at.one ∷ record at.other { at = fresh } ∷ at.back)
     same_writable = go (cases_eq (pair_count_before_root ps) index)
       where
         count_is : pair_count_before_root ps ≡ pair_count_before_root t.pairs

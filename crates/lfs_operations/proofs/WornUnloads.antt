@@ -33,21 +33,21 @@ use Rattle.lfs_operations.proofs.Putting.{held, with_map}
 use Rattle.lfs_operations.proofs.Threads.{fresh_range, two_now}
 
 -- What the law of a move says of a pair that keeps so many slots.
-pub record IsLaw (t : KeptThread) (ahead : List Pair) (x : Pair) (back : List Pair) (keep : ℕ) (fresh : ℕ × ℕ) (root : ℕ) : Type 0 where
-  pub marked : HasFirst x.content.slots → BeginWithSuperblock (take keep x.content.slots)
-  pub bare : (disk : Disk) → file_blocks disk (take keep x.content.slots) ≡ []
-  pub kept : keep ≤ length x.content.slots
-  pub taken : (disk : Disk) → laws.IsUnloaded t.disk disk ahead x (pair_joined_to fresh (take keep x.content.slots) x) (pair_behind fresh x) back (take keep x.content.slots)
+record IsLaw (t : KeptThread) (ahead : List Pair) (x : Pair) (back : List Pair) (keep : ℕ) (fresh : ℕ × ℕ) (root : ℕ) : Type 0 where
+  marked : HasFirst x.content.slots → BeginWithSuperblock (take keep x.content.slots)
+  bare : (disk : Disk) → file_blocks disk (take keep x.content.slots) ≡ []
+  kept : keep ≤ length x.content.slots
+  taken : (disk : Disk) → laws.IsUnloaded t.disk disk ahead x (pair_joined_to fresh (take keep x.content.slots) x) (pair_behind fresh x) back (take keep x.content.slots)
       → IsSameWritable t.disk (ahead ++ x ∷ back) disk (ahead ++ pair_joined_to fresh (take keep x.content.slots) x ∷ pair_behind fresh x ∷ back)
       × (pair_count_before_root (ahead ++ pair_joined_to fresh (take keep x.content.slots) x ∷ pair_behind fresh x ∷ back) ≡ root)
 
 -- the pair has its first slots, and the two blocks have all
-pub record IsThere (t : KeptThread) (index : ℕ) (x : Pair) (keep : ℕ) (fresh : ℕ × ℕ) (disk : Disk) : Type 0 where
-  pub shape : SameGeometryAs t.disk disk
-  pub others : KeepsOutsideBoth (thread_pair_at t index).at fresh t.disk.blocks disk.blocks
-  pub keeps : content_at disk x.at ≡ Some (pair_joined_to fresh (take keep x.content.slots) x).content
-  pub behind : content_at disk fresh ≡ Some (pair_behind fresh x).content
-  pub first : KeepsSuperblockFirst t.disk (thread_pair_at t index).at (pair_joined_to fresh (take keep x.content.slots) x).content disk
+record IsThere (t : KeptThread) (index : ℕ) (x : Pair) (keep : ℕ) (fresh : ℕ × ℕ) (disk : Disk) : Type 0 where
+  shape : SameGeometryAs t.disk disk
+  others : KeepsOutsideBoth (thread_pair_at t index).at fresh t.disk.blocks disk.blocks
+  keeps : content_at disk x.at ≡ Some (pair_joined_to fresh (take keep x.content.slots) x).content
+  behind : content_at disk fresh ≡ Some (pair_behind fresh x).content
+  first : KeepsSuperblockFirst t.disk (thread_pair_at t index).at (pair_joined_to fresh (take keep x.content.slots) x).content disk
 
 module _ (t : KeptThread) (ready : IsReadyImage t) (index : ℕ) (ahead : List Pair) (x : Pair) (back : List Pair) (is : t.pairs ≡ ahead ++ x ∷ back) (place : index ≡ length ahead + 0)
     (keep : ℕ) (fresh : ℕ × ℕ) (two : AreTwoFree t.map fresh) (root : ℕ) (law : IsLaw t ahead x back keep fresh root) where
@@ -66,7 +66,7 @@ module _ (t : KeptThread) (ready : IsReadyImage t) (index : ℕ) (ahead : List P
   there : thread_pair_at t index ≡ x
   there = beside.pair_there t ready index ahead x back is place fresh two
 
-  pub can_unload : CanUnload (with_map t (map_taking_two t.map fresh)) index fresh keep
+  can_unload : CanUnload (with_map t (map_taking_two t.map fresh)) index fresh keep
   can_unload = record {
     below = let l = ap length is in let a = length-append ahead (x ∷ back) in omega arith;
     slots = subst (λ (z : Pair). keep ≤ length z.content.slots) (sym there) law.kept;
@@ -96,7 +96,7 @@ module _ (t : KeptThread) (ready : IsReadyImage t) (index : ℕ) (ahead : List P
     same_writable : IsSameWritable t.disk ps disk qs
     same_writable = (law.taken disk unloaded).0
 
-  pub left_unloaded : (left : Blocks) → LossLeavesUnloaded (with_map t (map_taking_two t.map fresh)) index fresh keep left → HasEither (with_blocks left t.disk) (tree_on_disk t.disk t.pairs) (tree_on_disk t.disk t.pairs)
+  left_unloaded : (left : Blocks) → LossLeavesUnloaded (with_map t (map_taking_two t.map fresh)) index fresh keep left → HasEither (with_blocks left t.disk) (tree_on_disk t.disk t.pairs) (tree_on_disk t.disk t.pairs)
   left_unloaded left l = go l.content
     where
       go : HasOldPair (with_map t (map_taking_two t.map fresh)) index (with_blocks left t.disk) ⊎ UnloadedOnDisk (with_map t (map_taking_two t.map fresh)) index fresh keep (with_blocks left t.disk)
@@ -116,7 +116,7 @@ module _ (t : KeptThread) (ready : IsReadyImage t) (index : ℕ) (ahead : List P
 
   module _ (new : KeptThread) (done : IsUnloaded (with_map t (map_taking_two t.map fresh)) index fresh keep new)
       (writes : ChangesThreadBlocks (addresses_blocks (thread_pair_at t index).at fresh) (with_map t (map_taking_two t.map fresh)) new) where
-    pub pairs : new.pairs ≡ ahead ++ pair_joined_to fresh (take keep x.content.slots) x ∷ pair_behind fresh x ∷ back
+    pairs : new.pairs ≡ ahead ++ pair_joined_to fresh (take keep x.content.slots) x ∷ pair_behind fresh x ∷ back
     pairs = done.pairs ∙ ap (λ (z : Pair). pairs_with_split t.pairs index (pair_joined_to fresh (take keep z.content.slots) z) (pair_behind fresh z)) there
         ∙ two_now t index (beside.pair_site t ready index ahead x back is place fresh two) x is place q y
 
@@ -136,12 +136,12 @@ module _ (t : KeptThread) (ready : IsReadyImage t) (index : ℕ) (ahead : List P
     same : IsSameWritable t.disk ps new.disk qs
     same = same_writable new.disk there_now
 
-    pub two_more : length (used_blocks new.disk new.pairs) ≡ length (used_blocks t.disk t.pairs) + 2
+    two_more : length (used_blocks new.disk new.pairs) ≡ length (used_blocks t.disk t.pairs) + 2
     two_more =
         let l = unloaded_length t.disk new.disk ahead x q y back (take keep x.content.slots) (beside.no_move t ready index ahead x back is place fresh two) (unloaded new.disk there_now) (law.bare new.disk) in
         ap (λ z. length (used_blocks new.disk z)) pairs ∙ (let e = ap (λ z. length (used_blocks t.disk z)) is in omega arith)
 
-    pub eighth : HasRoomToUnload t.map → LeavesEighth new.disk new.pairs
+    eighth : HasRoomToUnload t.map → LeavesEighth new.disk new.pairs
     eighth room =
         let e = used_count-AreUsed t.map (used_blocks t.disk t.pairs) ready.accepted.owned_once ready.used in
         let r = room.eighth in
@@ -150,13 +150,13 @@ module _ (t : KeptThread) (ready : IsReadyImage t) (index : ℕ) (ahead : List P
         let l = two_more in
         omega arith
 
-    pub revision_now : pair_revision new.disk fresh ≡ option_map (λ r. (r + 1) % 2 ^ 32) (pair_revision t.disk x.at)
+    revision_now : pair_revision new.disk fresh ≡ option_map (λ r. (r + 1) % 2 ^ 32) (pair_revision t.disk x.at)
     revision_now = done.revision ∙ ap (λ (z : Pair). option_map (λ r. (r + 1) % 2 ^ 32) (pair_revision t.disk z.at)) there
 
-    pub root_now : pair_count_before_root new.pairs ≡ root
+    root_now : pair_count_before_root new.pairs ≡ root
     root_now = ap pair_count_before_root pairs ∙ (law.taken new.disk (unloaded new.disk there_now)).1
 
-    pub files : ShowsSameFiles t new
+    files : ShowsSameFiles t new
     files = record {
       ready = record {
         accepted = subst (IsAccepted new.disk) (sym pairs) same.same.accepted;
@@ -186,12 +186,12 @@ some_slots [] e k = absurd (cc)
 some_slots (s ∷ slots) e k = absurd (cc)
 
 -- the pairs in front of one that stands behind the root directory's first
-pub record HasRoot (ahead : List Pair) (n : ℕ) : Type 0 where
-  pub chain : List Pair
-  pub first : Pair
-  pub rest : List Pair
-  pub is : ahead ≡ chain ++ first ∷ rest
-  pub count : length chain ≡ n
+record HasRoot (ahead : List Pair) (n : ℕ) : Type 0 where
+  chain : List Pair
+  first : Pair
+  rest : List Pair
+  is : ahead ≡ chain ++ first ∷ rest
+  count : length chain ≡ n
 
 has_root : (ahead : List Pair) (n : ℕ) → n < length ahead → HasRoot ahead n
 has_root ahead n few = go (drop n ahead) refl
@@ -201,25 +201,25 @@ has_root ahead n few = go (drop n ahead) refl
     go (f ∷ rest) e = record { chain = take n ahead; first = f; rest = rest; is = sym (take-append-drop n ahead) ∙ ap (λ z. take n ahead ++ z) e; count = length-take-le n ahead (omega arith) }
 
 module _ (t : KeptThread) (index : ℕ) (can : CanUnloadPair t index) (at : TwoAt t.pairs (index - 1)) (fresh : ℕ × ℕ) (two : AreTwoFree t.map fresh) where
-  abbrev pub pairs_ahead : List Pair
+  abbrev pairs_ahead : List Pair
   pairs_ahead = at.ahead ++ at.one ∷ []
 
-  pub pairs_are : t.pairs ≡ (at.ahead ++ at.one ∷ []) ++ at.other ∷ at.back
+  pairs_are : t.pairs ≡ (at.ahead ++ at.one ∷ []) ++ at.other ∷ at.back
   pairs_are = at.is ∙ sym (append_assoc at.ahead (at.one ∷ []) (at.other ∷ at.back))
 
-  pub number_is : index ≡ length (at.ahead ++ at.one ∷ []) + 0
+  number_is : index ≡ length (at.ahead ++ at.one ∷ []) + 0
   number_is = let l = length-append at.ahead (at.one ∷ []) in let n = at.number in let r = can.root in omega arith
 
   one_there : thread_pair_at t (index - 1) ≡ at.one
   one_there = front_is t (index - 1) at.ahead at.one at.other at.back at.is at.number
 
-  pub worn_there : thread_pair_at t index ≡ at.other
+  worn_there : thread_pair_at t index ≡ at.other
   worn_there = beside.pair_there t can.ready index pairs_ahead at.other at.back pairs_are number_is fresh two
 
-  pub soft : is_hard_tail at.one.content.tail ≡ false
+  soft : is_hard_tail at.one.content.tail ≡ false
   soft = ap (λ (z : Pair). is_hard_tail z.content.tail) (sym one_there) ∙ can.first
 
-  pub some : has_slots at.other.content.slots ≡ true
+  some : has_slots at.other.content.slots ≡ true
   some = ap (λ (z : Pair). has_slots z.content.slots) (sym worn_there) ∙ can.some
 
   r : HasRoot (at.ahead ++ at.one ∷ []) (pair_count_before_root t.pairs)

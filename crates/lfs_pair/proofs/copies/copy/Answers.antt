@@ -1,4 +1,4 @@
-use Rattle.std.proofs.Common.{arith, ◌∙◌, subst}
+use Rattle.std.proofs.Common.{rules, arith, ◌∙◌, subst}
 use Rattle.lfs_device.specs.DeviceDisk.{disk_of_blocks}
 use Rattle.lfs_model.specs.format.Content.{RawContent}
 use Rattle.lfs_model.specs.layers.LoggedContent.{AreNamed}
@@ -22,12 +22,18 @@ returns-in_err-content-clause-device g c = reading_by_read c.in_ok-block.ensures
 pub returns-in_err-buf-clause-device : goal.returns-in_err-buf-clause-device
 returns-in_err-buf-clause-device g c = reading_by_read c.in_ok-block.ensures.device (few_by_read c.in_ok-block.ensures.once.ok) (omega arith)
 
-pub write_fresh_pair-requires-clause-names : goal.write_fresh_pair-requires-clause-names
-write_fresh_pair-requires-clause-names g c =
+pub write_fresh_pair-requires : goal.write_fresh_pair-requires
+write_fresh_pair-requires g c =
     let old = disk_of_blocks (g.D.BlockDevice.geometry c.args.dev.now) (g.D.BlockDevice.blocks c.args.dev.now) in
     let can = c.requires.commit in
     let same = content_made_here old _ c.args.pair.now can.held can.new _ (changes_view c.args.changes.now) (content_view c.in_ok-content.content) can.is_pair (c.deref.ensures.value ∙ c.in_ok-block.ensures.bytes) can.changed c.in_ok-content.ensures.content in
-    subst (λ (new : RawContent). AreNamed new.slots) same can.names
+    record {
+      address = search rules;
+      buf = search rules;
+      logged = search rules;
+      names = subst (λ (new : RawContent). AreNamed new.slots) same can.names;
+      fits = search rules;
+    }
 
 pub returns-in_err-copy-clause-device : goal.returns-in_err-copy-clause-device
 returns-in_err-copy-clause-device g c =

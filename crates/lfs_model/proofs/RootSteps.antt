@@ -1,24 +1,25 @@
 -- The steps by which the root directory begins at another pair, for the functions that move a worn one: its first pair moves behind
 -- the superblock's, or leaves the superblock's pair.
-use Rattle.std.proofs.Common.{ℕ, ◌≡◌, ◌+◌, ◌≤◌, true, false, cond, ◌&&◌, List, [], ◌∷◌, ◌++◌, length, take, slice_get, option_map, Some, refl, sym, ap, ap₂, subst, ◌∙◌, arith, append_assoc, length-append}
+use Rattle.std.proofs.Common.{ℕ, ◌≡◌, ◌+◌, ◌≤◌, true, false, cond, ◌&&◌, List, [], ◌∷◌, ◌++◌, length, take, drop, slice_get, zero, suc, ◌<◌, ◌-◌, take-append-drop, length-take, length-drop, option_map, Some, refl, sym, ap, ap₂, subst, ◌∙◌, arith, append_assoc, length-append}
 use Rattle.std.specs.Prelude.{All, sum_by}
 use Rattle.std.proofs.lemmas.Bool.{and_from}
+use Rattle.std.proofs.Math.Seq.{drop-append-add}
 use Rattle.std.proofs.lemmas.List.Sums.{sum_by-cons}
 use Rattle.std.proofs.lemmas.List.Elements.{All-from_recursion, recursion_from_All}
 use Rattle.lfs_model.specs.declared.limits.Profile.{Profile}
 use Rattle.lfs_model.specs.format.Disk.{Disk, SameGeometry, pair_capacity, slots_limit}
 use Rattle.lfs_model.specs.format.Slots.{Slot, PairContent, slot_size, FitsInPair}
 use Rattle.lfs_model.specs.format.Content.{content_at, current_block}
-use Rattle.lfs_model.specs.format.Thread.{Pair, anchor_address, AreLinked, address_blocks, from_first_slots, first_address, has_slots, is_hard_tail, starts_superblock, starts_or, has_no_entry, may_continue, has_superblock, pair_count_before_root, pairs_gstate, pairs_from_root}
-use Rattle.lfs_model.specs.tree.View.{BeginsWith, superblock_entry, IsSuperblockFirst, SuperblockFirstIfAny, HasStruct, IsTreeEntry, first_slot_name, IsAccepted}
+use Rattle.lfs_model.specs.format.Thread.{Pair, blocks_of_pairs, anchor_address, AreLinked, address_blocks, from_first_slots, first_address, has_slots, is_hard_tail, starts_superblock, starts_or, has_no_entry, may_continue, has_superblock, pair_count_before_root, pairs_gstate, pairs_from_root}
+use Rattle.lfs_model.specs.tree.View.{BeginsWith, superblock_entry, IsSuperblockFirst, SuperblockFirstIfAny, HasStruct, IsTreeEntry, first_slot_name, first_slots, IsAccepted}
 use Rattle.lfs_model.specs.tree.Profile.{IsWritableSlot, HasNoEmpties, IsWritable}
 use Rattle.lfs_model.specs.layers.Steps.{SameFileBlocks}
-use Rattle.lfs_model.specs.tree.Shown.{all_slots_not_moved}
-use Rattle.lfs_model.proofs.Counts.{Each}
+use Rattle.lfs_model.specs.tree.Shown.{struct_blocks, all_slots_not_moved}
+use Rattle.lfs_model.proofs.Counts.{number_count, Each}
 use Rattle.lfs_model.proofs.Global.{HasNoMove}
 use Rattle.lfs_model.proofs.Superblocks.{Mark, StructMark, HasMark, IsChain, pairs_behind, hold_from_rules, meets_starting, starts, from_held}
 use Rattle.lfs_model.proofs.Changes.{links_changed}
-use Rattle.lfs_model.proofs.Splices.{AreFree, IsShape, split_shape, move_shape}
+use Rattle.lfs_model.proofs.Splices.{file_blocks, AreFree, IsShape, split_shape, move_shape}
 use Rattle.lfs_model.proofs.Writable.{IsWithin}
 use Rattle.lfs_model.proofs.Relocated.{IsRelocated, IsUnloaded, relocated_gstate, unloaded_gstate, each_within, within_same}
 use Rattle.lfs_model.proofs.RootMoved.{pairs_count, IsRootMoved, IsSameImage, root_moved}
@@ -110,66 +111,135 @@ within_alike disk [] (q ∷ qs) h k = absurd h
 within_alike disk (p ∷ ps) [] h k = absurd h
 within_alike disk (p ∷ ps) (q ∷ qs) h k = (within_same disk p q h.0 k.0, within_alike disk ps qs h.2 k.1)
 
--- ---- the root's first pair moves behind the superblock's
+outlines_front : (xs ys us vs : List Pair) → length ys ≡ length xs → SameOutlines (xs ++ us) (ys ++ vs) → SameOutlines xs ys
+outlines_front [] [] us vs e h = tt
+outlines_front [] (y ∷ ys) us vs e h = absurd (omega arith)
+outlines_front (x ∷ xs) [] us vs e h = absurd (omega arith)
+outlines_front (x ∷ xs) (y ∷ ys) us vs e h = (h.0, h.1, outlines_front xs ys us vs (omega arith) h.2)
+
+-- ---- the root's first pair moves behind the superblock's, or a pair of the superblock's does
+
+-- The pairs before the root's first one, that one and the others, before and after. As many are before it.
+record AreParted (old qs : List Pair) : Type 0 where
+  chain : List Pair
+  r : Pair
+  rest : List Pair
+  now : List Pair
+  s : Pair
+  was : old ≡ chain ++ r ∷ rest
+  is : qs ≡ now ++ s ∷ rest
+  alike : length now ≡ length chain
+  number : pair_count_before_root old ≡ length chain
+  slots : s.content.slots ≡ r.content.slots
+  tail : s.content.tail ≡ r.content.tail
+
+-- there is such a pair
+record HasPair (ps : List Pair) : Type 0 where
+  first : Pair
+  others : List Pair
+  is : ps ≡ first ∷ others
+
+has_pair : (ps : List Pair) → starts_superblock (first_slots ps) ≡ true → HasPair ps
+has_pair [] e = absurd (cc)
+has_pair (p ∷ ps) e = record { first = p; others = ps; is = refl }
 
 module _ (disk new : Disk) (front : List Pair) (p x q y : Pair) (back : List Pair) (ok : IsAccepted disk (front ++ p ∷ x ∷ back)) (fits : IsWritable disk (front ++ p ∷ x ∷ back))
-    (none : HasNoMove (pairs_gstate (front ++ p ∷ x ∷ back))) (number : pair_count_before_root (front ++ p ∷ x ∷ back) ≡ length front + 1) (c : IsRelocated disk new front p x q y back)
+    (none : HasNoMove (pairs_gstate (front ++ p ∷ x ∷ back))) (many : length front < pair_count_before_root (front ++ p ∷ x ∷ back)) (c : IsRelocated disk new front p x q y back)
     (first : BeginsWith (current_block new (first_address (from_first_slots (front ++ q ∷ y ∷ back)))) superblock_entry) where
-  abbrev chain : List Pair
-  chain = front ++ p ∷ []
+  abbrev old : List Pair
+  old = front ++ p ∷ x ∷ back
 
-  abbrev now : List Pair
-  now = front ++ q ∷ []
-
-  old_is : front ++ p ∷ x ∷ back ≡ chain ++ x ∷ back
-  old_is = sym (append_assoc front (p ∷ []) (x ∷ back))
-
-  new_is : front ++ q ∷ y ∷ back ≡ now ++ y ∷ back
-  new_is = sym (append_assoc front (q ∷ []) (y ∷ back))
+  abbrev qs : List Pair
+  qs = front ++ q ∷ y ∷ back
 
   hard_same : is_hard_tail q.content.tail ≡ is_hard_tail p.content.tail
   hard_same = ap is_hard_tail c.tail ∙ sym c.hard
 
-  outlines : SameOutlines (front ++ p ∷ x ∷ back) (front ++ q ∷ y ∷ back)
+  outlines : SameOutlines old qs
   outlines = outlines_behind front (p ∷ x ∷ back) (q ∷ y ∷ back)
       (c.slots, hard_same, (ap (λ (z : PairContent). z.slots) c.same, ap (λ (z : PairContent). is_hard_tail z.tail) c.same, outlines_itself back))
 
-  outlines_chain : SameOutlines chain now
-  outlines_chain = outlines_behind front (p ∷ []) (q ∷ []) (c.slots, hard_same, tt)
+  parted : AreParted old qs
+  parted = go (pair_count_before_root old - (length front + 1)) (omega arith)
+    where
+      go : (k : ℕ) → pair_count_before_root old ≡ length front + (1 + k) → AreParted old qs
+      go zero e = record {
+        chain = front ++ p ∷ [];
+        r = x;
+        rest = back;
+        now = front ++ q ∷ [];
+        s = y;
+        was = sym (append_assoc front (p ∷ []) (x ∷ back));
+        is = sym (append_assoc front (q ∷ []) (y ∷ back));
+        alike = length-append front (q ∷ []) ∙ sym (length-append front (p ∷ []));
+        number = e ∙ sym (length-append front (p ∷ []));
+        slots = ap (λ (z : PairContent). z.slots) c.same;
+        tail = ap (λ (z : PairContent). z.tail) c.same;
+      }
+      go (suc j) e =
+          let count : pair_count_before_root old ≡ length front + suc (suc j) = omega (arith, e) in
+          let there : pairs_from_root old ≡ drop j back = ap (λ n. drop n old) count ∙ drop-append-add front (p ∷ x ∷ back) (suc (suc j)) in
+          let more = has_pair (drop j back) (ap (λ z. starts_superblock (first_slots z)) (sym there) ∙ ok.root) in
+          let all : back ≡ take j back ++ more.first ∷ more.others = sym (take-append-drop j back) ∙ ap (λ z. take j back ++ z) more.is in
+          record {
+            chain = front ++ p ∷ x ∷ take j back;
+            r = more.first;
+            rest = more.others;
+            now = front ++ q ∷ y ∷ take j back;
+            s = more.first;
+            was = ap (λ z. front ++ p ∷ x ∷ z) all ∙ sym (append_assoc front (p ∷ x ∷ take j back) (more.first ∷ more.others));
+            is = ap (λ z. front ++ q ∷ y ∷ z) all ∙ sym (append_assoc front (q ∷ y ∷ take j back) (more.first ∷ more.others));
+            alike = length-append front (q ∷ y ∷ take j back) ∙ sym (length-append front (p ∷ x ∷ take j back));
+            number = omega (arith, e, length-append front (p ∷ x ∷ take j back), length-take j back, length-drop j back, ap length more.is);
+            slots = refl;
+            tail = refl;
+          }
 
-  was_chain : IsChain chain (x ∷ back)
-  was_chain = ap pair_count_before_root (sym old_is) ∙ number ∙ sym (length-append front (p ∷ []))
+  outlines_parted : SameOutlines (parted.chain ++ parted.r ∷ parted.rest) (parted.now ++ parted.s ∷ parted.rest)
+  outlines_parted = subst (λ z. SameOutlines z (parted.now ++ parted.s ∷ parted.rest)) parted.was (subst (SameOutlines old) parted.is outlines)
 
-  is_chain : IsChain now (y ∷ back)
-  is_chain = ap pair_count_before_root (sym new_is) ∙ count_alike (front ++ p ∷ x ∷ back) (front ++ q ∷ y ∷ back) outlines ∙ number ∙ sym (length-append front (q ∷ []))
+  outlines_chain : SameOutlines parted.chain parted.now
+  outlines_chain = outlines_front parted.chain parted.now (parted.r ∷ parted.rest) (parted.s ∷ parted.rest) parted.alike outlines_parted
+
+  was_chain : IsChain parted.chain (parted.r ∷ parted.rest)
+  was_chain = ap pair_count_before_root (sym parted.was) ∙ parted.number
+
+  is_chain : IsChain parted.now (parted.s ∷ parted.rest)
+  is_chain = count_alike (parted.chain ++ parted.r ∷ parted.rest) (parted.now ++ parted.s ∷ parted.rest) outlines_parted ∙ was_chain ∙ sym parted.alike
 
   shape : IsShape p (x ∷ []) q (y ∷ []) (y.at.0 ∷ y.at.1 ∷ [])
   shape = move_shape p x q y c.at c.tail (ap (λ (z : PairContent). z.tail) c.same) (λ e. ap starts_superblock c.slots ∙ e)
 
-  moved : IsRootMoved disk new chain x now y back (address_blocks y.at)
+  blocks_old : (b : ℕ) → number_count b (blocks_of_pairs old) ≡ number_count b (blocks_of_pairs (parted.chain ++ parted.r ∷ [])) + number_count b (blocks_of_pairs parted.rest)
+  blocks_old b = omega (arith, ap (λ z. number_count b (blocks_of_pairs z)) parted.was, pairs_count b parted.chain (parted.r ∷ parted.rest), pairs_count b (parted.r ∷ []) parted.rest, pairs_count b parted.chain (parted.r ∷ []))
+
+  blocks_new : (b : ℕ) → number_count b (blocks_of_pairs qs) ≡ number_count b (blocks_of_pairs (parted.now ++ parted.s ∷ [])) + number_count b (blocks_of_pairs parted.rest)
+  blocks_new b = omega (arith, ap (λ z. number_count b (blocks_of_pairs z)) parted.is, pairs_count b parted.now (parted.s ∷ parted.rest), pairs_count b (parted.s ∷ []) parted.rest, pairs_count b parted.now (parted.s ∷ []))
+
+  moved : IsRootMoved disk new parted.chain parted.r parted.now parted.s parted.rest (address_blocks y.at)
   moved = record {
     geometry = c.device.geometry;
-    contents = subst (All (λ r. content_at new r.at ≡ Some r.content)) new_is c.device.contents;
-    first = subst (λ z. BeginsWith (current_block new (first_address (from_first_slots z))) superblock_entry) new_is first;
-    files = subst (λ z. All (λ u. SameFileBlocks disk new u.struct) (all_slots_not_moved z)) old_is c.device.files;
-    links = subst (AreLinked (Some anchor_address)) new_is (links_changed front (p ∷ x ∷ back) (q ∷ y ∷ back) (shape.links back) (Some anchor_address) ok.thread.links);
-    slots = ap (λ (z : PairContent). z.slots) c.same;
-    tail = ap (λ (z : PairContent). z.tail) c.same;
-    still = ap pairs_gstate (sym new_is) ∙ relocated_gstate front p x q y back c.delta c.same ∙ ap pairs_gstate old_is;
+    contents = subst (All (λ r. content_at new r.at ≡ Some r.content)) parted.is c.device.contents;
+    first = subst (λ z. BeginsWith (current_block new (first_address (from_first_slots z))) superblock_entry) parted.is first;
+    files = subst (λ z. All (λ u. SameFileBlocks disk new u.struct) (all_slots_not_moved z)) parted.was c.device.files;
+    links = subst (AreLinked (Some anchor_address)) parted.is (links_changed front (p ∷ x ∷ back) (q ∷ y ∷ back) (shape.links back) (Some anchor_address) ok.thread.links);
+    slots = parted.slots;
+    tail = parted.tail;
+    still = ap pairs_gstate (sym parted.is) ∙ relocated_gstate front p x q y back c.delta c.same ∙ ap pairs_gstate parted.was;
     is_chain = is_chain;
-    marked = λ m h k. each_alike (SuperblockFirstIfAny (HasMark m)) chain now outlines_chain h;
-    named = ap (λ z. first_slot_name (from_first_slots z)) (sym new_is) ∙ named_alike (front ++ p ∷ x ∷ back) (front ++ q ∷ y ∷ back) outlines ∙ ap (λ z. first_slot_name (from_first_slots z)) old_is;
-    blocks = λ b. omega (arith, shape.blocks b, pairs_count b now (y ∷ []), pairs_count b front (q ∷ []), pairs_count b (q ∷ []) (y ∷ []), pairs_count b chain (x ∷ []), pairs_count b front (p ∷ []), pairs_count b (p ∷ []) (x ∷ []));
-    free = subst (λ z. AreFree disk z (address_blocks y.at) []) old_is c.free;
+    marked = λ m h k. each_alike (SuperblockFirstIfAny (HasMark m)) parted.chain parted.now outlines_chain h;
+    named = named_alike (parted.chain ++ parted.r ∷ parted.rest) (parted.now ++ parted.s ∷ parted.rest) outlines_parted;
+    blocks = λ b. omega (arith, shape.blocks b, blocks_old b, blocks_new b, pairs_count b front (q ∷ y ∷ back), pairs_count b (q ∷ y ∷ []) back, pairs_count b front (p ∷ x ∷ back), pairs_count b (p ∷ x ∷ []) back);
+    free = subst (λ z. AreFree disk z (address_blocks y.at) []) parted.was c.free;
   }
 
-  pub relocate_root : IsSameWritable disk (front ++ p ∷ x ∷ back) new (front ++ q ∷ y ∷ back)
+  pub relocate_root : IsSameWritable disk old new qs
   relocate_root = record {
-    same = subst (λ z. IsSameImage disk z new (front ++ q ∷ y ∷ back)) (sym old_is) (subst (IsSameImage disk (chain ++ x ∷ back) new) (sym new_is)
-        (root_moved disk new chain x now y back (address_blocks y.at) was_chain (subst (IsAccepted disk) old_is ok) (subst (λ z. HasNoMove (pairs_gstate z)) old_is none) moved));
-    writable = writable_from disk new (front ++ q ∷ y ∷ back) c.device.geometry (within_alike disk (front ++ p ∷ x ∷ back) (front ++ q ∷ y ∷ back) outlines (each_within disk (front ++ p ∷ x ∷ back) fits))
-        (subst (λ z. HasNoEmpties false (pairs_from_root z)) (sym new_is) (empties_same chain now x y back was_chain is_chain (ap (λ (z : PairContent). z.tail) c.same)
-        (subst (λ z. HasNoEmpties false (pairs_from_root z)) old_is fits.no_empty_pair)));
+    same = subst (λ z. IsSameImage disk z new qs) (sym parted.was) (subst (IsSameImage disk (parted.chain ++ parted.r ∷ parted.rest) new) (sym parted.is)
+        (root_moved disk new parted.chain parted.r parted.now parted.s parted.rest (address_blocks y.at) was_chain (subst (IsAccepted disk) parted.was ok) (subst (λ z. HasNoMove (pairs_gstate z)) parted.was none) moved));
+    writable = writable_from disk new qs c.device.geometry (within_alike disk old qs outlines (each_within disk old fits))
+        (subst (λ z. HasNoEmpties false (pairs_from_root z)) (sym parted.is) (empties_same parted.chain parted.now parted.r parted.s parted.rest was_chain is_chain parted.tail
+        (subst (λ z. HasNoEmpties false (pairs_from_root z)) parted.was fits.no_empty_pair)));
   }
 
 -- ---- the root leaves the superblock's pair
@@ -211,6 +281,14 @@ module _ (disk new : Disk) (x q y : Pair) (back : List Pair) (ok : IsAccepted di
   kept_marked : (m : Mark) → IsSuperblockFirst (HasMark m) x.content.slots → IsSuperblockFirst (HasMark m) q.content.slots
   kept_marked m h = subst (IsSuperblockFirst (HasMark m)) (sym c.kept) (take_marked (HasMark m) x.content.slots h)
 
+  -- and names no file
+  pub kept_bare : file_blocks new (take 1 x.content.slots) ≡ []
+  kept_bare = go x.content.slots held
+    where
+      go : (slots : List Slot) → IsSuperblockFirst (HasStruct disk.profile.versions bytes) slots → file_blocks new (take 1 slots) ≡ []
+      go [] h = absurd h
+      go (s ∷ slots) h = ap (λ t. struct_blocks new t ++ []) h.1.1.0
+
   x_starts : starts_superblock x.content.slots ≡ true
   x_starts = starts x.content.slots (StructMark disk.profile.versions bytes) held
 
@@ -249,8 +327,8 @@ module _ (disk new : Disk) (x q y : Pair) (back : List Pair) (ok : IsAccepted di
     free = c.free;
   }
 
-  pub expand : IsSameWritable disk (x ∷ back) new (q ∷ y ∷ back)
-  expand = record {
+  pub root_unloads : IsSameWritable disk (x ∷ back) new (q ∷ y ∷ back)
+  root_unloads = record {
     same = root_moved disk new [] x (q ∷ []) y back (address_blocks y.at) number ok none expanded;
     writable = writable_from disk new (q ∷ y ∷ back) c.device.geometry (within_q, (within_same disk x y c.slots within.0, within.1)) (empties_same [] (q ∷ []) x y back number expanded_chain c.last fits.no_empty_pair);
   }

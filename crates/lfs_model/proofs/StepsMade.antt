@@ -21,7 +21,7 @@ use Rattle.lfs_model.specs.session.Run.{IsReply, is_refusal, is_read_only, opens
 use Rattle.lfs_model.proofs.Uniqueness.{one_thread}
 use Rattle.lfs_model.proofs.OtherOrder.{same_pairs, writable_in_order}
 use Rattle.lfs_model.proofs.Arranged.{IsFinished}
-use Rattle.lfs_model.proofs.Unmoved.{nothing_moves}
+use Rattle.lfs_model.proofs.Unmoved.{IsSpread, finished_unmoved}
 
 same_session : (s t : Session) → Healthy s ≡ Healthy t → s ≡ t
 same_session s t e = ap or_else e
@@ -100,10 +100,10 @@ pub record IsProper (disk : Disk) (ps : List Pair) (s : Session) (op : Operation
   pub itself : renames_itself op ≡ true → IsUntouched disk calls new
   pub nothing_left : is_recover op ≡ true → IsRecovered ps → IsUntouched disk calls new
 
-pub completed_step : (disk : Disk) (ps : List Pair) (s : Session) (around : DiskSummary) (op : Operation) (new : Disk) (qs : List Pair) (calls old : List CallEvent) → IsOver disk ps s around →
-    operation_refusal around s op ≡ None → IsProper disk ps s op calls new → IsFinished disk ps s op new qs →
+pub spread_step : (disk : Disk) (ps : List Pair) (s : Session) (around : DiskSummary) (op : Operation) (new : Disk) (qs : List Pair) (calls old : List CallEvent) → IsOver disk ps s around →
+    operation_refusal around s op ≡ None → IsProper disk ps s op calls new → IsSpread disk ps s op calls new qs →
     IsStep (record { disk = disk; calls = old; state = Healthy s }) op (operation_effect around s op).0 (record { disk = new; calls = calls ++ old; state = Healthy (operation_effect around s op).1 })
-completed_step disk ps s around op new qs calls old over accepted proper done = record {
+spread_step disk ps s around op new qs calls old over accepted proper done = record {
   answered = answered_by disk new.order ps s around op (operation_effect around s op).0 (operation_effect around s op).1 over proper.other (ap (λ r. unless_refused r s (operation_effect around s op)) accepted);
   agrees = (qs, (done.accepted, sym (done.tree around)));
   geometry = same_geometry op disk new proper.other proper.geometry;
@@ -126,12 +126,18 @@ completed_step disk ps s around op new qs calls old over accepted proper done = 
       fills = λ e. absurd (let k = sym proper.fills ∙ e in cc);
       recovered = λ e. done.recovered;
       stays = λ h. done.recovered;
-      arranged = λ e. nothing_moves disk ps s op calls new qs proper.geometry done.accepted done.arranged;
+      arranged = λ e. done.arranged;
       profile = λ h. done.writable;
       silent = proper.silent;
       itself = proper.itself;
       nothing_left = proper.nothing_left;
     }
+
+pub completed_step : (disk : Disk) (ps : List Pair) (s : Session) (around : DiskSummary) (op : Operation) (new : Disk) (qs : List Pair) (calls old : List CallEvent) → IsOver disk ps s around →
+    operation_refusal around s op ≡ None → IsProper disk ps s op calls new → IsFinished disk ps s op new qs →
+    IsStep (record { disk = disk; calls = old; state = Healthy s }) op (operation_effect around s op).0 (record { disk = new; calls = calls ++ old; state = Healthy (operation_effect around s op).1 })
+completed_step disk ps s around op new qs calls old over accepted proper done =
+    spread_step disk ps s around op new qs calls old over accepted proper (finished_unmoved disk ps s op calls new qs proper.geometry done)
 
 -- ---- an operation that leaves the disk: a question, or one that finds nothing to do
 

@@ -1,16 +1,24 @@
--- Where no pair moves: after most operations, and always where the profile gives no cycles.
+-- Whether a pair moves after an operation: after most none does, and never where the profile gives no cycles.
 use Rattle.std.proofs.Common.{ℕ, ◌≡◌, inl, inr, true, false, List, [], ◌∷◌, ◌++◌, append_assoc, Option, Some, None, refl, sym, ap, subst, ◌∙◌}
 use Rattle.lfs_model.specs.format.Disk.{Disk, SameGeometry}
 use Rattle.lfs_model.specs.declared.limits.Profile.{Profile}
 use Rattle.lfs_model.specs.format.Content.{current_block}
 use Rattle.lfs_model.specs.format.Thread.{Pair}
 use Rattle.lfs_model.specs.tree.View.{IsAccepted}
-use Rattle.lfs_model.specs.session.History.{CallEvent}
+use Rattle.lfs_model.specs.tree.Profile.{IsWritable}
+use Rattle.lfs_model.specs.tree.Shown.{tree_on_disk}
+use Rattle.lfs_model.specs.session.History.{CallEvent, LeftByLatest}
+use Rattle.lfs_model.specs.session.Recovery.{IsRecovered}
+use Rattle.lfs_model.specs.session.Effects.{operation_effect}
 use Rattle.lfs_model.specs.session.Operations.{Operation}
-use Rattle.lfs_model.specs.session.Session.{Session}
+use Rattle.lfs_model.specs.session.Session.{Session, DiskSummary}
 use Rattle.lfs_model.specs.session.Layout.{IsLayoutRecovered}
 use Rattle.lfs_model.proofs.Counts.{Each}
-use Rattle.lfs_model.specs.session.Moved.{is_worn_block, is_worn, IsMoved, IsWearSpread, IsLayoutMoved}
+use Rattle.lfs_model.proofs.Sites.{any_from, among_right}
+use Rattle.lfs_model.proofs.Committed.{recovered_from}
+use Rattle.lfs_model.proofs.Arranged.{IsFinished}
+use Rattle.lfs_model.proofs.RootSteps.{IsSameWritable}
+use Rattle.lfs_model.specs.session.Moved.{is_worn_block, is_worn, IsMoved, IsWearSpread, HadBlocks, IsLayoutMoved}
 
 pub nothing_moves : (disk : Disk) (ps : List Pair) (s : Session) (op : Operation) (calls : List CallEvent) (new : Disk) (qs : List Pair) → SameGeometry disk new → IsAccepted new qs →
     IsLayoutRecovered disk ps s op new qs → IsLayoutMoved disk ps s op calls new qs
@@ -48,3 +56,38 @@ pub laid_without_cycles : (disk : Disk) (ps : List Pair) (s : Session) (op : Ope
 laid_without_cycles disk ps s op calls new qs e h =
     let same = stays_without_cycles h.done h.after new qs (ap (λ (v : Profile). v.pair_cycles) h.geometry.profile ∙ e) h.spread in
     subst (λ d. IsLayoutRecovered disk ps s op d qs) (sym same.0) (subst (IsLayoutRecovered disk ps s op h.done) (sym same.1) h.operation)
+
+-- ---- an operation and what it comes to, with a pair that moves after it
+
+-- what an operation comes to by these calls, where at most one worn pair moves after it
+pub record IsSpread (disk : Disk) (ps : List Pair) (s : Session) (op : Operation) (calls : List CallEvent) (new : Disk) (qs : List Pair) : Type 0 where
+  pub accepted : IsAccepted new qs
+  pub writable : IsWritable new qs
+  pub recovered : IsRecovered qs
+  pub tree : (around : DiskSummary) → tree_on_disk new qs ≡ (operation_effect around s op).1.tree
+  pub arranged : IsLayoutMoved disk ps s op calls new qs
+
+pub finished_unmoved : (disk : Disk) (ps : List Pair) (s : Session) (op : Operation) (calls : List CallEvent) (new : Disk) (qs : List Pair) → SameGeometry disk new → IsFinished disk ps s op new qs → IsSpread disk ps s op calls new qs
+finished_unmoved disk ps s op calls new qs geometry h = record {
+  accepted = h.accepted;
+  writable = h.writable;
+  recovered = h.recovered;
+  tree = h.tree;
+  arranged = nothing_moves disk ps s op calls new qs geometry h.accepted h.arranged;
+}
+
+-- the newest call left the blocks that the operation left, or there was none
+pub had_latest : (disk mid new : Disk) (later calls old : List CallEvent) → LeftByLatest (calls ++ old) mid.blocks → (calls ≡ [] → mid ≡ disk) → HadBlocks disk (later ++ calls) new mid.blocks
+had_latest disk mid new later [] old latest still = inl (ap (λ (d : Disk). d.blocks) (still refl))
+had_latest disk mid new later (e ∷ calls) old latest still = inr (inr (any_from (λ c. c.after ≡ mid.blocks) (later ++ e ∷ calls) (among_right (λ c. c.after ≡ mid.blocks) later (e ∷ calls) (inl (latest e (calls ++ old) refl)))))
+
+-- The operation is finished on the disk between, and then a pair moves or none does.
+pub finished_moved : (disk : Disk) (ps : List Pair) (s : Session) (op : Operation) (calls : List CallEvent) (mid : Disk) (between : List Pair) (new : Disk) (qs : List Pair) → SameGeometry disk mid → HadBlocks disk calls new mid.blocks →
+    IsFinished disk ps s op mid between → IsWearSpread mid between new qs → IsSameWritable mid between new qs → IsSpread disk ps s op calls new qs
+finished_moved disk ps s op calls mid between new qs geometry had h spread k = record {
+  accepted = k.same.accepted;
+  writable = k.writable;
+  recovered = recovered_from new qs k.same.accepted (k.same.gstate ∙ h.recovered.gstate);
+  tree = λ around. k.same.shows ∙ h.tree around;
+  arranged = record { done = mid; after = between; had = had; geometry = geometry; accepted = h.accepted; operation = h.arranged; spread = spread };
+}

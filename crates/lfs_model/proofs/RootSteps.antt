@@ -14,12 +14,12 @@ use Rattle.lfs_model.specs.format.Thread.{Pair, blocks_of_pairs, anchor_address,
 use Rattle.lfs_model.specs.tree.View.{BeginsWith, superblock_entry, IsSuperblockFirst, SuperblockFirstIfAny, HasStruct, IsTreeEntry, first_slot_name, first_slots, IsAccepted}
 use Rattle.lfs_model.specs.tree.Profile.{IsWritableSlot, HasNoEmpties, IsWritable}
 use Rattle.lfs_model.specs.layers.Steps.{SameFileBlocks}
-use Rattle.lfs_model.specs.tree.Shown.{all_slots_not_moved}
+use Rattle.lfs_model.specs.tree.Shown.{struct_blocks, all_slots_not_moved}
 use Rattle.lfs_model.proofs.Counts.{number_count, Each}
 use Rattle.lfs_model.proofs.Global.{HasNoMove}
 use Rattle.lfs_model.proofs.Superblocks.{Mark, StructMark, HasMark, IsChain, pairs_behind, hold_from_rules, meets_starting, starts, from_held}
 use Rattle.lfs_model.proofs.Changes.{links_changed}
-use Rattle.lfs_model.proofs.Splices.{AreFree, IsShape, split_shape, move_shape}
+use Rattle.lfs_model.proofs.Splices.{file_blocks, AreFree, IsShape, split_shape, move_shape}
 use Rattle.lfs_model.proofs.Writable.{IsWithin}
 use Rattle.lfs_model.proofs.Relocated.{IsRelocated, IsUnloaded, relocated_gstate, unloaded_gstate, each_within, within_same}
 use Rattle.lfs_model.proofs.RootMoved.{pairs_count, IsRootMoved, IsSameImage, root_moved}
@@ -280,6 +280,14 @@ module _ (disk new : Disk) (x q y : Pair) (back : List Pair) (ok : IsAccepted di
 
   kept_marked : (m : Mark) → IsSuperblockFirst (HasMark m) x.content.slots → IsSuperblockFirst (HasMark m) q.content.slots
   kept_marked m h = subst (IsSuperblockFirst (HasMark m)) (sym c.kept) (take_marked (HasMark m) x.content.slots h)
+
+  -- and names no file
+  pub kept_bare : file_blocks new (take 1 x.content.slots) ≡ []
+  kept_bare = go x.content.slots held
+    where
+      go : (slots : List Slot) → IsSuperblockFirst (HasStruct disk.profile.versions bytes) slots → file_blocks new (take 1 slots) ≡ []
+      go [] h = absurd h
+      go (s ∷ slots) h = ap (λ t. struct_blocks new t ++ []) h.1.1.0
 
   x_starts : starts_superblock x.content.slots ≡ true
   x_starts = starts x.content.slots (StructMark disk.profile.versions bytes) held

@@ -28,6 +28,7 @@ use Rattle.lfs_model.proofs.Relocated.{IsRelocated, IsUnloaded, relocated_gstate
 use Rattle.lfs_model.proofs.KeptStructs.{struct_stays}
 use Rattle.lfs_model.proofs.RootMoved.{IsSameImage}
 use Rattle.lfs_model.proofs.RootSteps.{IsSameWritable, relocate_root}
+use Rattle.lfs_model.proofs.Unchanged.{HasFirst, accepted_first}
 use Rattle.lfs_model.proofs.Unloaded.{unload}
 
 from_change : (disk new : Disk) (ps qs : List Pair) → IsWritableChange disk ps new qs (λ t. t) (λ d. d) → pairs_gstate qs ≡ pairs_gstate ps → IsSameWritable disk ps new qs
@@ -40,7 +41,7 @@ from_change disk new ps qs h e = record {
 
 -- it is that of the same pair, or of the one that moved
 first_moved : (disk new : Disk) (front : List Pair) (p x q y : Pair) (back : List Pair) → IsAccepted disk (front ++ p ∷ x ∷ back) → IsRelocated disk new front p x q y back →
-    (starts_superblock y.content.slots ≡ true → BeginsWith (current_block new y.at) superblock_entry) → BeginsWith (current_block new (first_address (from_first_slots (front ++ q ∷ y ∷ back)))) superblock_entry
+    (HasFirst y.content.slots → BeginsWith (current_block new y.at) superblock_entry) → BeginsWith (current_block new (first_address (from_first_slots (front ++ q ∷ y ∷ back)))) superblock_entry
 first_moved disk new front p x q y back ok c begins = go (from_front front)
   where
     Begins : List Pair → Type 0
@@ -62,7 +63,7 @@ first_moved disk new front p x q y back ok c begins = go (from_front front)
         by_slots (s ∷ slots) f =
             let was : from_first_slots (front ++ p ∷ x ∷ back) ≡ x ∷ back = old_is ∙ ap (λ z. cond (has_slots z) (x ∷ back) (from_first_slots back)) f in
             let is : from_first_slots (q ∷ y ∷ back) ≡ y ∷ back = new_is ∙ ap (λ z. cond (has_slots z) (y ∷ back) (from_first_slots back)) (slots_same ∙ f) in
-            subst Begins (sym is) (begins (ap starts_superblock slots_same ∙ meets_first (front ++ p ∷ x ∷ back) x back was (meets_from (front ++ p ∷ x ∷ back) ok.root)))
+            subst Begins (sym is) (begins (subst HasFirst (sym slots_same) (accepted_first disk (front ++ p ∷ x ∷ back) x back ok was)))
         by_slots [] f =
             let was : from_first_slots (front ++ p ∷ x ∷ back) ≡ from_first_slots back = old_is ∙ ap (λ z. cond (has_slots z) (x ∷ back) (from_first_slots back)) f in
             let is : from_first_slots (q ∷ y ∷ back) ≡ from_first_slots back = new_is ∙ ap (λ z. cond (has_slots z) (y ∷ back) (from_first_slots back)) (slots_same ∙ f) in
@@ -103,7 +104,7 @@ soft_behind (f ∷ front) p back e = go (has_superblock (front ++ p ∷ back) &&
 
 -- A pair that a hard tail names is at other blocks.
 pub pair_moves : (disk new : Disk) (front : List Pair) (p x q y : Pair) (back : List Pair) → IsAccepted disk (front ++ p ∷ x ∷ back) → IsWritable disk (front ++ p ∷ x ∷ back) → HasNoMove (pairs_gstate (front ++ p ∷ x ∷ back)) →
-    IsRelocated disk new front p x q y back → (starts_superblock y.content.slots ≡ true → BeginsWith (current_block new y.at) superblock_entry) → IsSameWritable disk (front ++ p ∷ x ∷ back) new (front ++ q ∷ y ∷ back)
+    IsRelocated disk new front p x q y back → (HasFirst y.content.slots → BeginsWith (current_block new y.at) superblock_entry) → IsSameWritable disk (front ++ p ∷ x ∷ back) new (front ++ q ∷ y ∷ back)
 pair_moves disk new front p x q y back ok fits none c begins = go (cases_lt (length front) n)
   where
     n : ℕ

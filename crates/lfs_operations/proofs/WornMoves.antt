@@ -2,19 +2,16 @@
 use Rattle.std.proofs.Common.{ℕ, suc, ◌≡◌, ◌+◌, ◌-◌, ◌%◌, ◌^◌, ◌<◌, ◌≤◌, ◌⊎◌, inl, inr, true, cond, nat_eq, List, [], ◌∷◌, ◌++◌, length, Some, refl, sym, ap, ap₂, subst, subst₂, ◌∙◌, arith, append_assoc, length-append, set, take, drop, ◌&&◌}
 use Rattle.std.specs.Prelude.{All}
 use Rattle.std.specs.Option.{option_map}
-use Rattle.std.proofs.lemmas.Bool.{cases_eq}
-use Rattle.std.proofs.lemmas.List.{length-take-le}
 use Rattle.lfs_operations.proofs.Common.{All-from_recursion, IsDistinct, recursion_from_All, take-append-drop, once_from_distinct, Blocks, SameExceptThese, AreUsed, BlockStates, content_at, current_block, Disk, HasEither, with_blocks, FitsInPair, Slot, Pair, pairs_gstate, is_hard_tail, address_blocks, addresses_blocks, first_address, first_slots, has_superblock, pair_count_before_root, pairs_from_root, starts_superblock, BeginsWith, superblock_entry, IsAccepted, IsWritable, all_slots_not_moved, tree_on_disk, used_blocks, Each, each_right, HasNoMove, zero_gstate, no_move_from, IsChain, pairs_behind, Site, IsDevice, KeepsOutsideBoth, KeptThread, SameGeometryAs, HasOldPair, ChangesThreadBlocks, map_freeing, map_using, thread_pair_at}
 use Rattle.lfs_model.specs.format.Thread.{from_first_slots, has_slots, has_no_entry, starts_or}
 use Rattle.lfs_model.specs.layers.Steps.{KeepsStruct, SameFileBlocks}
 use Rattle.lfs_model.specs.session.SlotEdits.{slot_of}
 use Rattle.lfs_model.specs.session.Moved.{is_worn, pair_joined_to}
-use Rattle.lfs_model.specs.tree.View.{first_slot_name}
 use Rattle.lfs_model.proofs.Devices.{device_from}
 use Rattle.lfs_model.proofs.MovedBlocks.{relocated_blocks, relocated_length}
-use Rattle.lfs_model.proofs.Relocated.{IsRelocated, relocate, relocated_gstate}
-use Rattle.lfs_model.proofs.RootSteps.{IsSameWritable, relocate_root}
-use Rattle.lfs_model.proofs.Superblocks.{FromSlots, InFront, Behind, from_front}
+use Rattle.lfs_model.proofs.Relocated.{IsRelocated}
+use Rattle.lfs_model.proofs.RootSteps.{IsSameWritable}
+use Rattle.lfs_model.proofs.Worn.{pair_moves}
 use Rattle.lfs_thread.specs.Moves.{BeginsWithAnySuperblock, CanMoveNext, IsNextMoved, LossLeavesNextMoved, NextMovedOnDisk, pair_revision}
 use Rattle.lfs_thread.specs.ThreadSteps.{KeepsSuperblockFirst}
 use Rattle.lfs_operations.specs.Changing.{AreTwoFree, map_taking_two}
@@ -155,89 +152,8 @@ module _ (t : KeptThread) (index : ℕ) (can : CanMovePair t index) (at : TwoAt 
       same = refl;
     }
 
-    -- ---- it isn't the root directory's first pair
-
-    behind : (chain rest : List Pair) → at.ahead ≡ chain ++ rest → pair_count_before_root ps ≡ length chain → IsSameWritable t.disk ps disk qs
-    behind chain rest e count =
-        let there : (zs : List Pair) → at.ahead ++ zs ≡ chain ++ (rest ++ zs) = λ zs. ap (λ z. z ++ zs) e ∙ append_assoc chain rest zs in
-        let taken = relocate t.disk disk chain rest p x q y at.back (record {
-          accepted = subst (IsAccepted t.disk) (there (p ∷ x ∷ at.back)) accepted;
-          writable = subst (IsWritable t.disk) (there (p ∷ x ∷ at.back)) writable;
-          no_move = no_move_from (chain ++ (rest ++ p ∷ x ∷ at.back)) (ap pairs_gstate (sym (there (p ∷ x ∷ at.back))) ∙ settled);
-          is_chain = ap pair_count_before_root (sym (there (p ∷ x ∷ at.back))) ∙ count;
-        }) (subst (λ z. IsRelocated t.disk disk z p x q y at.back) e relocated) in
-        subst (λ z. IsSameWritable t.disk z disk qs) (sym (there (p ∷ x ∷ at.back))) (subst (IsSameWritable t.disk (chain ++ (rest ++ p ∷ x ∷ at.back)) disk) (sym (there (q ∷ y ∷ at.back))) (record {
-          same = record {
-            accepted = taken.taken.follows.accepted;
-            shows = taken.taken.follows.shows;
-            stays = λ path. taken.taken.follows.stays path (λ tree attributes bytes k. (attributes, k));
-            gstate = ap pairs_gstate (sym (there (q ∷ y ∷ at.back))) ∙ relocated_gstate at.ahead p x q y at.back refl refl ∙ ap pairs_gstate (there (p ∷ x ∷ at.back));
-          };
-          writable = taken.taken.writable;
-        }))
-
-    -- ---- it is
-
-    module _ (number : pair_count_before_root (at.ahead ++ at.one ∷ at.other ∷ at.back) ≡ length at.ahead + 1) where
-      grouped : at.ahead ++ at.one ∷ at.other ∷ at.back ≡ (at.ahead ++ at.one ∷ []) ++ at.other ∷ at.back
-      grouped = sym (append_assoc at.ahead (p ∷ []) (x ∷ at.back))
-
-      is_chain : IsChain (at.ahead ++ at.one ∷ []) (at.other ∷ at.back)
-      is_chain = ap pair_count_before_root (sym grouped) ∙ number ∙ sym (length-append at.ahead (p ∷ []))
-
-      root_starts : starts_superblock at.other.content.slots ≡ true
-      root_starts = ap (λ z. starts_superblock (first_slots z)) (sym (ap pairs_from_root grouped ∙ pairs_behind (at.ahead ++ p ∷ []) (x ∷ at.back) is_chain)) ∙ accepted.root
-
-      abbrev Begins : List Pair → Type 0
-      Begins zs = BeginsWith (current_block disk (first_address (from_first_slots zs))) superblock_entry
-
-      -- the log that comes first begins with the superblock's entry
-      new_first : BeginsWith (current_block disk (first_address (from_first_slots (at.ahead ++ q ∷ y ∷ at.back)))) superblock_entry
-      new_first = go (from_front at.ahead)
-        where
-          at_same : (c : Pair) → first_address (from_first_slots ps) ≡ c.at → first_address (from_first_slots qs) ≡ c.at → Begins qs
-          at_same c e f = subst (λ a. BeginsWith (current_block disk a) superblock_entry) (e ∙ sym f) old_first
-
-          at_root : (slots : List Slot) → at.other.content.slots ≡ slots → from_first_slots ps ≡ from_first_slots (x ∷ at.back) → from_first_slots qs ≡ from_first_slots (y ∷ at.back) → Begins qs
-          at_root [] e f g = absurd (let k = ap starts_superblock (sym e) ∙ root_starts in cc)
-          at_root (s ∷ slots) e f g =
-              let here : from_first_slots ps ≡ x ∷ at.back = f ∙ ap (λ z. cond (has_slots z) (x ∷ at.back) (from_first_slots at.back)) e in
-              let there : from_first_slots qs ≡ y ∷ at.back = g ∙ ap (λ z. cond (has_slots z) (y ∷ at.back) (from_first_slots at.back)) e in
-              subst (λ z. BeginsWith (current_block disk (first_address z)) superblock_entry) (sym there) (is.anew (root_starts, ap first_slot_name (sym here) ∙ accepted.named))
-
-          at_pair : (slots : List Slot) → at.one.content.slots ≡ slots → from_first_slots ps ≡ from_first_slots (p ∷ x ∷ at.back) → from_first_slots qs ≡ from_first_slots (q ∷ y ∷ at.back) → Begins qs
-          at_pair (s ∷ slots) e f g = at_same p (ap first_address (f ∙ ap (λ z. cond (has_slots z) (p ∷ x ∷ at.back) (from_first_slots (x ∷ at.back))) e))
-              (ap first_address (g ∙ ap (λ z. cond (has_slots z) (q ∷ y ∷ at.back) (from_first_slots (y ∷ at.back))) e))
-          at_pair [] e f g = at_root at.other.content.slots refl (f ∙ ap (λ z. cond (has_slots z) (p ∷ x ∷ at.back) (from_first_slots (x ∷ at.back))) e)
-              (g ∙ ap (λ z. cond (has_slots z) (q ∷ y ∷ at.back) (from_first_slots (y ∷ at.back))) e)
-
-          go : FromSlots at.ahead → Begins qs
-          go (InFront c rest e all) = at_same c (ap first_address (all (p ∷ x ∷ at.back))) (ap first_address (all (q ∷ y ∷ at.back)))
-          go (Behind none all) = at_pair at.one.content.slots refl (all (p ∷ x ∷ at.back)) (all (q ∷ y ∷ at.back))
-
-      root_moves : IsSameWritable t.disk ps disk qs
-      root_moves = relocate_root t.disk disk at.ahead p x q y at.back accepted writable no_move number relocated new_first
-
-    -- ---- either
-
     same_writable : IsSameWritable t.disk (at.ahead ++ at.one ∷ at.other ∷ at.back) disk (at.ahead ++ pair_joined_to fresh at.one.content.slots at.one ∷ record at.other { at = fresh } ∷ at.back)
-    same_writable = go (cases_eq (pair_count_before_root ps) index)
-      where
-        count_is : pair_count_before_root ps ≡ pair_count_before_root t.pairs
-        count_is = ap pair_count_before_root (sym at.is)
-
-        go : (pair_count_before_root ps ≡ index) ⊎ (pair_count_before_root ps ≡ index → ⊥) → IsSameWritable t.disk ps disk qs
-        go (inl e) = root_moves (let a = can.above in let n = at.number in omega arith)
-        go (inr other) =
-            let few : pair_count_before_root ps ≤ length at.ahead = below (pair_count_before_root ps) (let r = can.root in let c = count_is in omega arith) other in
-            behind (take (pair_count_before_root ps) at.ahead) (drop (pair_count_before_root ps) at.ahead) (sym (take-append-drop (pair_count_before_root ps) at.ahead)) (sym (length-take-le (pair_count_before_root ps) at.ahead few))
-          where
-            below : (n : ℕ) → n ≤ index → (n ≡ index → ⊥) → n ≤ length at.ahead
-            below n l ne = cases (cases_eq n index)
-              where
-                cases : (n ≡ index) ⊎ (n ≡ index → ⊥) → n ≤ length at.ahead
-                cases (inl e) = absurd (ne e)
-                cases (inr k) = let a = can.above in let m = at.number in omega (arith, k, a, m, l)
+    same_writable = pair_moves t.disk disk at.ahead p x q y at.back accepted writable no_move relocated (λ h. is.anew (h.kind, h.name))
 
   -- ---- at a stop
 

@@ -4,8 +4,7 @@ use Rattle.std.specs.Prelude.{All}
 use Rattle.std.specs.Option.{option_map}
 use Rattle.std.proofs.lemmas.Bool.{and_from}
 use Rattle.std.proofs.lemmas.List.{length-take-le}
-use Rattle.lfs_operations.proofs.Common.{All-from_recursion, recursion_from_All, take-append-drop, Blocks, SameExceptThese, AreUsed, content_at, Disk, FitsInPair, IsWritable, no_move_from, struct_blocks, HasEither, with_blocks, Slot, Pair, pairs_gstate, is_hard_tail, address_blocks, addresses_blocks, has_superblock, may_continue, pair_count_before_root, starts_superblock, IsAccepted, all_slots_not_moved, tree_on_disk, used_blocks, Each, each_right, IsChain, HasFirst, file_blocks, KeptThread, SameGeometryAs, HasOldPair, ChangesThreadBlocks, BeginWithSuperblock, thread_pair_at, KeepsOutsideBoth}
-use Rattle.lfs_model.specs.declared.limits.AcceptedVersions.{AcceptedVersions}
+use Rattle.lfs_operations.proofs.Common.{All-from_recursion, recursion_from_All, take-append-drop, Blocks, SameExceptThese, AreUsed, content_at, Disk, FitsInPair, IsWritable, HasNoMove, no_move_from, HasEither, with_blocks, Slot, Pair, pairs_gstate, is_hard_tail, address_blocks, addresses_blocks, has_superblock, may_continue, pair_count_before_root, starts_superblock, IsAccepted, all_slots_not_moved, tree_on_disk, used_blocks, Each, each_right, IsChain, HasFirst, file_blocks, KeptThread, SameGeometryAs, HasOldPair, ChangesThreadBlocks, BeginWithSuperblock, thread_pair_at, KeepsOutsideBoth}
 use Rattle.lfs_model.specs.format.Thread.{from_first_slots, has_slots, has_no_entry}
 use Rattle.lfs_model.specs.layers.Steps.{KeepsStruct, SameFileBlocks, ends_joined}
 use Rattle.lfs_model.specs.session.Moved.{LeavesEighth, is_worn, pair_behind, pair_joined_to}
@@ -14,7 +13,7 @@ use Rattle.lfs_model.specs.tree.View.{HasStruct, first_slot_name, IsSuperblockFi
 use Rattle.lfs_model.proofs.BlockSets.{used_count-AreUsed}
 use Rattle.lfs_model.proofs.MovedBlocks.{unloaded_blocks, unloaded_length}
 use Rattle.lfs_model.proofs.Relocated as laws
-use Rattle.lfs_model.proofs.RootSteps.{IsSameWritable, root_unloads}
+use Rattle.lfs_model.proofs.RootSteps.{IsSameWritable, kept_bare, root_unloads}
 use Rattle.lfs_model.proofs.Superblocks.{StructMark, hold_each, hold_from_rules, meets_starting, starts, starts_not}
 use Rattle.lfs_model.proofs.Unloaded.{unload}
 use Rattle.lfs_model.proofs.Unthreaded.{Unthreads}
@@ -35,7 +34,8 @@ use Rattle.lfs_operations.proofs.Threads.{fresh_range, two_now}
 -- What the law of a move says of a pair that keeps so many slots.
 record IsLaw (t : KeptThread) (ahead : List Pair) (x : Pair) (back : List Pair) (keep : ℕ) (fresh : ℕ × ℕ) (root : ℕ) : Type 0 where
   marked : HasFirst x.content.slots → BeginWithSuperblock (take keep x.content.slots)
-  bare : (disk : Disk) → file_blocks disk (take keep x.content.slots) ≡ []
+  bare : (disk : Disk) → laws.IsUnloaded t.disk disk ahead x (pair_joined_to fresh (take keep x.content.slots) x) (pair_behind fresh x) back (take keep x.content.slots)
+      → file_blocks disk (take keep x.content.slots) ≡ []
   kept : keep ≤ length x.content.slots
   taken : (disk : Disk) → laws.IsUnloaded t.disk disk ahead x (pair_joined_to fresh (take keep x.content.slots) x) (pair_behind fresh x) back (take keep x.content.slots)
       → IsSameWritable t.disk (ahead ++ x ∷ back) disk (ahead ++ pair_joined_to fresh (take keep x.content.slots) x ∷ pair_behind fresh x ∷ back)
@@ -138,7 +138,7 @@ module _ (t : KeptThread) (ready : IsReadyImage t) (index : ℕ) (ahead : List P
 
     two_more : length (used_blocks new.disk new.pairs) ≡ length (used_blocks t.disk t.pairs) + 2
     two_more =
-        let l = unloaded_length t.disk new.disk ahead x q y back (take keep x.content.slots) (beside.no_move t ready index ahead x back is place fresh two) (unloaded new.disk there_now) (law.bare new.disk) in
+        let l = unloaded_length t.disk new.disk ahead x q y back (take keep x.content.slots) (beside.no_move t ready index ahead x back is place fresh two) (unloaded new.disk there_now) (law.bare new.disk (unloaded new.disk there_now)) in
         ap (λ z. length (used_blocks new.disk z)) pairs ∙ (let e = ap (λ z. length (used_blocks t.disk z)) is in omega arith)
 
     eighth : HasRoomToUnload t.map → LeavesEighth new.disk new.pairs
@@ -164,7 +164,7 @@ module _ (t : KeptThread) (ready : IsReadyImage t) (index : ℕ) (ahead : List P
         settled = ap pairs_gstate pairs ∙ same.same.gstate ∙ beside.settled t ready index ahead x back is place fresh two;
         used = subst₂ (λ m z. AreUsed m (used_blocks new.disk z)) (sym done.map) (sym pairs)
             (used_more t.map fresh two (used_blocks t.disk ps) (used_blocks new.disk qs)
-            (unloaded_blocks t.disk new.disk ahead x q y back (take keep x.content.slots) (beside.no_move t ready index ahead x back is place fresh two) (unloaded new.disk there_now) (law.bare new.disk))
+            (unloaded_blocks t.disk new.disk ahead x q y back (take keep x.content.slots) (beside.no_move t ready index ahead x back is place fresh two) (unloaded new.disk there_now) (law.bare new.disk (unloaded new.disk there_now)))
             (subst (λ z. AreUsed t.map (used_blocks t.disk z)) is ready.used));
         size = ap length done.map ∙ length_now t.map fresh two ∙ ready.size ∙ sym writes.shape.count;
         large = subst (λ n. 1024 ≤ n) (sym writes.shape.block_size) ready.large;
@@ -276,7 +276,7 @@ module _ (t : KeptThread) (index : ℕ) (can : CanUnloadPair t index) (at : TwoA
   pair_law : IsLaw t (at.ahead ++ at.one ∷ []) at.other at.back 0 fresh (pair_count_before_root t.pairs)
   pair_law = record {
     marked = λ h. absurd (let k = sym h.kind ∙ no_superblock in cc);
-    bare = λ disk. refl;
+    bare = λ disk c. refl;
     kept = omega arith;
     taken = λ disk c. (same_tree disk c, ap pair_count_before_root (there_is (pair_joined_to fresh [] at.other ∷ pair_behind fresh at.other ∷ at.back)) ∙ (taken disk c).ready.is_chain ∙ r.count);
   }
@@ -334,11 +334,6 @@ take_few : (slots : List Slot) → starts_superblock slots ≡ true → 1 ≤ le
 take_few [] e = absurd (cc)
 take_few (s ∷ slots) e = omega arith
 
--- a superblock has no list
-take_blocks : (P : AcceptedVersions) (bytes : List ℕ) (slots : List Slot) → IsSuperblockFirst (HasStruct P bytes) slots → (disk : Disk) → file_blocks disk (take 1 slots) ≡ []
-take_blocks P bytes [] h disk = refl
-take_blocks P bytes (s ∷ slots) h disk = ap (λ z. struct_blocks disk z ++ []) h.1.1.0
-
 -- the thread's first pair, and the others
 pub record HasFirstPair (ps : List Pair) : Type 0 where
   pub first : Pair
@@ -348,6 +343,12 @@ pub record HasFirstPair (ps : List Pair) : Type 0 where
 module _ (t : KeptThread) (can : CanExpandRoot t) (at : HasFirstPair t.pairs) (fresh : ℕ × ℕ) (two : AreTwoFree t.map fresh) where
   root_accepted : IsAccepted t.disk (at.first ∷ at.others)
   root_accepted = subst (IsAccepted t.disk) at.is can.ready.accepted
+
+  root_writable : IsWritable t.disk (at.first ∷ at.others)
+  root_writable = subst (IsWritable t.disk) at.is can.ready.writable
+
+  root_none : HasNoMove (pairs_gstate (at.first ∷ at.others))
+  root_none = no_move_from (at.first ∷ at.others) (ap pairs_gstate (sym at.is) ∙ can.ready.settled)
 
   root_number : pair_count_before_root (at.first ∷ at.others) ≡ 0
   root_number = ap pair_count_before_root (sym at.is) ∙ can.root
@@ -361,11 +362,10 @@ module _ (t : KeptThread) (can : CanExpandRoot t) (at : HasFirstPair t.pairs) (f
   root_law : IsLaw t [] at.first at.others 1 fresh 1
   root_law = record {
     marked = λ h. (take_started at.first.content.slots ∙ h.kind, take_named at.first.content.slots ∙ h.name);
-    bare = take_blocks t.disk.profile.versions root_accepted.superblock.0 at.first.content.slots root_held;
+    bare = λ disk c. kept_bare t.disk disk at.first (pair_joined_to fresh (take 1 at.first.content.slots) at.first) (pair_behind fresh at.first) at.others root_accepted root_writable root_none root_number c;
     kept = take_few at.first.content.slots root_starts;
     taken = λ disk c. (
-      root_unloads t.disk disk at.first (pair_joined_to fresh (take 1 at.first.content.slots) at.first) (pair_behind fresh at.first) at.others root_accepted (subst (IsWritable t.disk) at.is can.ready.writable)
-          (no_move_from (at.first ∷ at.others) (ap pairs_gstate (sym at.is) ∙ can.ready.settled)) root_number c,
+      root_unloads t.disk disk at.first (pair_joined_to fresh (take 1 at.first.content.slots) at.first) (pair_behind fresh at.first) at.others root_accepted root_writable root_none root_number c,
       root_next,
     );
   }

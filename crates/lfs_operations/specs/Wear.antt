@@ -43,13 +43,11 @@ RevisionGoesOn old from new to = pair_revision new to ≡ option_map (λ r. (r +
 
 -- ---- a pair moves whole
 
--- The image may be changed. The pair is worn, and follows a hard tail. It isn't one of the superblock's pairs before the root
--- directory. Two blocks are free.
+-- The image may be changed. The pair is worn, and follows a hard tail. Two blocks are free.
 pub record CanMovePair (t : KeptThread) (index : ℕ) : Type 0 where
   pub ready : IsReadyImage t
   pub above : 0 < index
   pub below : index < length t.pairs
-  pub root : pair_count_before_root t.pairs ≤ index
   pub joined : is_hard_tail (thread_pair_at t (index - 1)).content.tail ≡ true
   pub worn : is_worn t.disk (thread_pair_at t index) ≡ true
   pub room : HasFreeBlocks 2 t.map

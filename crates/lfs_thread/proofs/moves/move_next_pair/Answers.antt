@@ -31,10 +31,6 @@ pub returns-in_err-moved-clause-current : goal.returns-in_err-moved-clause-curre
 returns-in_err-moved-clause-current g c =
     current_but_two _ _ _ _ (array_address c.args.fresh) c.requires.current c.forget_cached_pair.ensures c.in_err-moved.ensures.device.only.others
 
-pub commit_with_cache-requires-clause-current : goal.commit_with_cache-requires-clause-current
-commit_with_cache-requires-clause-current g c =
-    current_but_two _ _ _ _ (array_address c.args.fresh) c.requires.current c.forget_cached_pair.ensures c.in_ok-moved.ensures.device.only.others
-
 pub returns-in_err-moved-clause-device : goal.returns-in_err-moved-clause-device
 returns-in_err-moved-clause-device g c =
     let e = c.in_err-moved.ensures in
@@ -48,13 +44,17 @@ returns-in_err-moved-clause-stops g c cleanly =
     let e = c.in_err-moved.ensures in
     device_left_by_copy _ _ _ _ _ _ c.args.pairs.now.items c.args.map.now c.args.index c.index.result.now (array_address c.args.fresh) few e.device.only.geometry n c.requires.kept c.requires.can e.device.only.others e.device.only.elsewhere e.device.only.at_worst
 
-pub commit_with_cache-requires-clause-can : goal.commit_with_cache-requires-clause-can
-commit_with_cache-requires-clause-can g c =
-    let disk = disk_of_device g.D.BlockDevice c.args.device.now in
-    let n = next_there disk c.args.pairs.now.items c.args.index c.index.result.now c.requires.can.below c.index.ensures in
-    let few : length (g.D.BlockDevice.blocks c.args.device.now) ≤ 65536 = let s = (g.met.D.BlockDevice.shape c.args.device.now).count in let m = (g.D.BlockDevice.geometry c.args.device.now).valid.no_more in omega arith in
-    let e = c.in_ok-moved.ensures in
-    device_lead_can _ _ _ _ _ _ c.args.pairs.now.items c.args.map.now c.args.index c.index.result.now (array_address c.args.fresh) few e.device.only.geometry n c.requires.kept c.requires.can e.device.only.others e.device.only.elsewhere
+pub commit_with_cache-requires : goal.commit_with_cache-requires
+commit_with_cache-requires g c = record {
+  can =
+      let disk = disk_of_device g.D.BlockDevice c.args.device.now in
+      let n = next_there disk c.args.pairs.now.items c.args.index c.index.result.now c.requires.can.below c.index.ensures in
+      let few : length (g.D.BlockDevice.blocks c.args.device.now) ≤ 65536 = let s = (g.met.D.BlockDevice.shape c.args.device.now).count in let m = (g.D.BlockDevice.geometry c.args.device.now).valid.no_more in omega arith in
+      let e = c.in_ok-moved.ensures in
+      device_lead_can _ _ _ _ _ _ c.args.pairs.now.items c.args.map.now c.args.index c.index.result.now (array_address c.args.fresh) few e.device.only.geometry n c.requires.kept c.requires.can e.device.only.others e.device.only.elsewhere;
+  current =
+      current_but_two _ _ _ _ (array_address c.args.fresh) c.requires.current c.forget_cached_pair.ensures c.in_ok-moved.ensures.device.only.others;
+}
 
 pub returns-in_err-outcome-clause-device : goal.returns-in_err-outcome-clause-device
 returns-in_err-outcome-clause-device g c =
@@ -104,7 +104,7 @@ unreachable-requires g c =
     let n = next_there disk c.args.pairs.now.items c.args.index c.index.result.now c.requires.can.below c.index.ensures in
     let few : length (g.D.BlockDevice.blocks c.args.device.now) ≤ 65536 = let s = (g.met.D.BlockDevice.shape c.args.device.now).count in let m = (g.D.BlockDevice.geometry c.args.device.now).valid.no_more in omega arith in
     let e = c.in_ok-moved.ensures in
-    device_never_full _ _ _ _ _ _ c.args.pairs.now.items c.args.map.now c.args.index c.index.result.now (array_address c.args.fresh) few e.device.only.geometry n c.requires.kept c.requires.can e.device.only.others e.device.only.elsewhere (c.in_ok-outcome.ensures.full (ap Ok c.in-Full.is)).completed
+    device_never_full _ _ _ _ _ _ c.args.pairs.now.items c.args.map.now c.args.index c.index.result.now (array_address c.args.fresh) few e.device.only.geometry n c.requires.kept c.requires.can e.device.only.others e.device.only.elsewhere (c.in_ok-outcome.ensures.ends.full (ap Ok c.in-Full.is)).completed
 
 pub settle-requires-2 : goal.settle-requires-2
 settle-requires-2 g c =
@@ -138,7 +138,7 @@ returns-clause-kept g c =
     let e = c.in_ok-moved.ensures in
     let k = c.in_ok-outcome.ensures in
     device_moved_kept _ _ _ _ _ _ c.args.pairs.now.items c.args.map.now c.args.index c.index.result.now (array_address c.args.fresh) few e.device.only.geometry n c.requires.kept c.requires.can e.device.only.others e.device.only.elsewhere _ _ is e.copied
-    _ _ _ _ k.device.only.geometry (k.done (ap Ok c.in_default.is)) k.device.only.others k.device.only.elsewhere _ refl _
+    _ _ _ _ k.device.only.geometry (k.ends.done (ap Ok c.in_default.is)) k.device.only.others k.device.only.elsewhere _ refl _
     (c.release-2.ensures ∙ ap (λ (s : BlockStates). set s (header_address c.index-2.result.now).1 Free) c.release.ensures
     ∙ ap (λ (s : BlockStates). map_freeing s (header_address c.index-2.result.now)) (c.settle-2.ensures ∙ ap (λ (s : BlockStates). set s (array_address c.args.fresh).1 Used) c.settle.ensures)
     ∙ ap (λ (x : PairHeader). map_freeing (map_using c.args.map.now (array_address c.args.fresh)) (header_address x)) is)
@@ -152,7 +152,7 @@ returns-clause-is_moved g c =
     let e = c.in_ok-moved.ensures in
     let k = c.in_ok-outcome.ensures in
     device_is_moved _ _ _ _ _ _ c.args.pairs.now.items c.args.map.now c.args.index c.index.result.now (array_address c.args.fresh) few e.device.only.geometry n c.requires.kept c.requires.can e.device.only.others e.device.only.elsewhere _ _ is e.copied
-    _ _ _ _ k.device.only.geometry (k.done (ap Ok c.in_default.is)) k.device.only.others k.device.only.elsewhere _ refl _
+    _ _ _ _ k.device.only.geometry (k.ends.done (ap Ok c.in_default.is)) k.device.only.others k.device.only.elsewhere _ refl _
     (c.release-2.ensures ∙ ap (λ (s : BlockStates). set s (header_address c.index-2.result.now).1 Free) c.release.ensures
     ∙ ap (λ (s : BlockStates). map_freeing s (header_address c.index-2.result.now)) (c.settle-2.ensures ∙ ap (λ (s : BlockStates). set s (array_address c.args.fresh).1 Used) c.settle.ensures)
     ∙ ap (λ (x : PairHeader). map_freeing (map_using c.args.map.now (array_address c.args.fresh)) (header_address x)) is)

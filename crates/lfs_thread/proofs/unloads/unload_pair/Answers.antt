@@ -52,10 +52,6 @@ pub returns-in_err-loaded-clause-current : goal.returns-in_err-loaded-clause-cur
 returns-in_err-loaded-clause-current g c =
     current_but_two _ _ _ _ (array_address c.args.fresh) c.requires.current c.forget_cached_pair.ensures c.in_err-loaded.ensures.device.only.others
 
-pub commit_with_cache-requires-clause-current : goal.commit_with_cache-requires-clause-current
-commit_with_cache-requires-clause-current g c =
-    current_but_two _ _ _ _ (array_address c.args.fresh) c.requires.current c.forget_cached_pair.ensures c.in_ok-loaded.ensures.device.only.others
-
 pub returns-in_err-loaded-clause-device : goal.returns-in_err-loaded-clause-device
 returns-in_err-loaded-clause-device g c =
     let e = c.in_err-loaded.ensures in
@@ -76,22 +72,26 @@ returns-in_err-loaded-clause-stops g c cleanly =
     let e = c.in_err-loaded.ensures in
     device_left_by_load _ _ _ _ _ _ c.args.pairs.now.items c.args.map.now c.args.index h (array_address c.args.fresh) c.args.keep count few e.device.only.geometry a c.requires.kept c.requires.can counted e.device.only.others e.device.only.elsewhere e.device.only.at_worst
 
-pub commit_with_cache-requires-clause-can : goal.commit_with_cache-requires-clause-can
-commit_with_cache-requires-clause-can g c =
-    let disk = disk_of_device g.D.BlockDevice c.args.device.now in
-    let history = g.D.BlockDevice.history c.args.device.now in
-    let h = c.index.result.now in
-    let a = at_there disk c.args.pairs.now.items c.args.index h c.requires.can.below c.index.ensures in
-    let held = count_there disk history c.args.pairs.now.items c.args.map.now c.args.index h a c.requires.kept in
-    let all = c.requires.can.slots in
-    let from = c.from.ensures in
-    let count = h.slot_count - c.from.result in
-    let counted = gone_count held from all in
-    let few : length (g.D.BlockDevice.blocks c.args.device.now) ≤ 65536 = let s = (g.met.D.BlockDevice.shape c.args.device.now).count in let m = (g.D.BlockDevice.geometry c.args.device.now).valid.no_more in omega arith in
-    let made = ap changes_view c.deref.ensures.value ∙ c.in_ok-changes.ensures.changes in
-    let e = c.in_ok-loaded.ensures in
-    subst (λ (changes : List PairChange). CanCommit (disk_of_device g.D.BlockDevice c.copy.new.dev) (g.D.BlockDevice.history c.copy.new.dev) h changes) (sym made)
-    (device_leave_can _ _ _ _ _ _ c.args.pairs.now.items c.args.map.now c.args.index h (array_address c.args.fresh) c.args.keep count few e.device.only.geometry a c.requires.kept c.requires.can counted e.device.only.others e.device.only.elsewhere)
+pub commit_with_cache-requires : goal.commit_with_cache-requires
+commit_with_cache-requires g c = record {
+  can =
+      let disk = disk_of_device g.D.BlockDevice c.args.device.now in
+      let history = g.D.BlockDevice.history c.args.device.now in
+      let h = c.index.result.now in
+      let a = at_there disk c.args.pairs.now.items c.args.index h c.requires.can.below c.index.ensures in
+      let held = count_there disk history c.args.pairs.now.items c.args.map.now c.args.index h a c.requires.kept in
+      let all = c.requires.can.slots in
+      let from = c.from.ensures in
+      let count = h.slot_count - c.from.result in
+      let counted = gone_count held from all in
+      let few : length (g.D.BlockDevice.blocks c.args.device.now) ≤ 65536 = let s = (g.met.D.BlockDevice.shape c.args.device.now).count in let m = (g.D.BlockDevice.geometry c.args.device.now).valid.no_more in omega arith in
+      let made = ap changes_view c.deref.ensures.value ∙ c.in_ok-changes.ensures.changes in
+      let e = c.in_ok-loaded.ensures in
+      subst (λ (changes : List PairChange). CanCommit (disk_of_device g.D.BlockDevice c.copy.new.dev) (g.D.BlockDevice.history c.copy.new.dev) h changes) (sym made)
+      (device_leave_can _ _ _ _ _ _ c.args.pairs.now.items c.args.map.now c.args.index h (array_address c.args.fresh) c.args.keep count few e.device.only.geometry a c.requires.kept c.requires.can counted e.device.only.others e.device.only.elsewhere);
+  current =
+      current_but_two _ _ _ _ (array_address c.args.fresh) c.requires.current c.forget_cached_pair.ensures c.in_ok-loaded.ensures.device.only.others;
+}
 
 pub returns-in_err-outcome-clause-device : goal.returns-in_err-outcome-clause-device
 returns-in_err-outcome-clause-device g c =
@@ -161,7 +161,7 @@ unreachable-requires g c =
     let made = ap changes_view c.deref.ensures.value ∙ c.in_ok-changes.ensures.changes in
     let e = c.in_ok-loaded.ensures in
     device_never_full _ _ _ _ _ _ c.args.pairs.now.items c.args.map.now c.args.index h (array_address c.args.fresh) c.args.keep count few e.device.only.geometry a c.requires.kept c.requires.can counted e.device.only.others e.device.only.elsewhere
-    (subst (λ (changes : List PairChange). RefusesCommit g.D.BlockDevice changes c.copy.new.dev c.commit_with_cache.new.device h c.commit_with_cache.new.pair) made (c.in_ok-outcome.ensures.full (ap Ok c.in-Full.is))).completed
+    (subst (λ (changes : List PairChange). RefusesCommit g.D.BlockDevice changes c.copy.new.dev c.commit_with_cache.new.device h c.commit_with_cache.new.pair) made (c.in_ok-outcome.ensures.ends.full (ap Ok c.in-Full.is))).completed
 
 pub settle-requires-2 : goal.settle-requires-2
 settle-requires-2 g c =
@@ -187,7 +187,7 @@ returns-clause-kept g c =
     let copied = subst (λ (m : Gstate). IsPairCopied disk history (PutMove m ∷ []) h later then (array_address c.args.fresh) c.in_ok-loaded.loaded) c.none.ensures e.copied in
     device_unloaded_kept _ _ _ _ _ _ c.args.pairs.now.items c.args.map.now c.args.index h (array_address c.args.fresh) c.args.keep count few e.device.only.geometry a c.requires.kept c.requires.can counted e.device.only.others e.device.only.elsewhere _ copied
     _ _ _ _ k.device.only.geometry
-    (subst (λ (changes : List PairChange). CommitsChanges later then changes h (disk_of_device g.D.BlockDevice c.commit_with_cache.new.device) (g.D.BlockDevice.history c.commit_with_cache.new.device) c.commit_with_cache.new.pair) made (k.done (ap Ok c.in_default.is)))
+    (subst (λ (changes : List PairChange). CommitsChanges later then changes h (disk_of_device g.D.BlockDevice c.commit_with_cache.new.device) (g.D.BlockDevice.history c.commit_with_cache.new.device) c.commit_with_cache.new.pair) made (k.ends.done (ap Ok c.in_default.is)))
     k.device.only.others k.device.only.elsewhere
     _ (ap (λ (z : List PairHeader). set (set z c.args.index c.commit_with_cache.new.pair) (c.args.index + 1) c.in_ok-loaded.loaded) c.in_ok-insert.ensures.items ∙ placed _ _ _ _ _ c.in_ok-loaded.loaded a)
     _ (c.settle-2.ensures ∙ ap (λ (s : BlockStates). set s (array_address c.args.fresh).1 Used) c.settle.ensures)
@@ -212,7 +212,7 @@ returns-clause-is_unloaded g c =
     let copied = subst (λ (m : Gstate). IsPairCopied disk history (PutMove m ∷ []) h later then (array_address c.args.fresh) c.in_ok-loaded.loaded) c.none.ensures e.copied in
     device_is_unloaded _ _ _ _ _ _ c.args.pairs.now.items c.args.map.now c.args.index h (array_address c.args.fresh) c.args.keep count few e.device.only.geometry a c.requires.kept c.requires.can counted e.device.only.others e.device.only.elsewhere _ copied
     _ _ _ _ k.device.only.geometry
-    (subst (λ (changes : List PairChange). CommitsChanges later then changes h (disk_of_device g.D.BlockDevice c.commit_with_cache.new.device) (g.D.BlockDevice.history c.commit_with_cache.new.device) c.commit_with_cache.new.pair) made (k.done (ap Ok c.in_default.is)))
+    (subst (λ (changes : List PairChange). CommitsChanges later then changes h (disk_of_device g.D.BlockDevice c.commit_with_cache.new.device) (g.D.BlockDevice.history c.commit_with_cache.new.device) c.commit_with_cache.new.pair) made (k.ends.done (ap Ok c.in_default.is)))
     k.device.only.others k.device.only.elsewhere
     _ (ap (λ (z : List PairHeader). set (set z c.args.index c.commit_with_cache.new.pair) (c.args.index + 1) c.in_ok-loaded.loaded) c.in_ok-insert.ensures.items ∙ placed _ _ _ _ _ c.in_ok-loaded.loaded a)
     _ (c.settle-2.ensures ∙ ap (λ (s : BlockStates). set s (array_address c.args.fresh).1 Used) c.settle.ensures)

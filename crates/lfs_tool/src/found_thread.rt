@@ -230,12 +230,9 @@ impl FoundThread {
 
     // Returns whether a directory begins at an address.
     pub(crate) fn has_directory(&self, at: [u32; 2]) -> bool {
-        for first in &self.directories {
-            if is_same_pair(*first, at) {
-                return true;
-            }
-        }
-        false
+        self.directories
+            .iter()
+            .any(|first| is_same_pair(*first, at))
     }
 
     // Returns the first neighbours in a directory whose names don't rise.

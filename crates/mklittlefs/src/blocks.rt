@@ -120,21 +120,16 @@ pub(crate) fn fit_size(
     line: &mut Line<'_>,
     extras: &Extras<'_>,
 ) -> Result<(), ToolError> {
-    let Mode::Create(folder) = line.mode else {
+    let (Mode::Create(folder), true) = (line.mode, extras.is_size_auto) else {
         return Ok(());
     };
-    if !extras.is_size_auto {
-        return Ok(());
-    }
     line.size = most_blocks(line.block_size).saturating_mul(line.block_size);
     geometry_of_line(line)?;
     let (entries, refusing) = read_line_folder(host, line, folder)?;
-    match enough_blocks(host, &refusing, entries.as_slice(), 2)? {
-        Some(count) => {
-            let count = count.saturating_add(extras.spare);
-            line.size = count.saturating_mul(line.block_size);
-            Ok(())
-        }
-        None => Err(ToolError::Fs(Error::NoSpace)),
-    }
+    let Some(count) = enough_blocks(host, &refusing, entries.as_slice(), 2)? else {
+        return Err(ToolError::Fs(Error::NoSpace));
+    };
+    let count = count.saturating_add(extras.spare);
+    line.size = count.saturating_mul(line.block_size);
+    Ok(())
 }

@@ -31,14 +31,6 @@ fn push_path_line(text: &mut Vec<u8>, parts: &[&[u8]], words: &[u8]) -> Result<(
     text.extend_from_slice(b"\n")
 }
 
-// Adds the fault that a file, a folder or a stream met.
-fn push_path_fault(host: Host<'_>, text: &mut Vec<u8>) -> Result<(), AllocError> {
-    match host.log.take()? {
-        Some(fault) => push_path_line(text, &[fault.path.as_slice()], &fault.words),
-        None => Ok(()),
-    }
-}
-
 // What an error says of a path, where it says something.
 fn words_of_refusal(error: Error) -> Option<&'static str> {
     match error {
@@ -137,14 +129,13 @@ fn push_passed_limit(
 ) -> Result<(), ToolError> {
     let mut source = folder_of_line(host, folder, IMAGE_MAX)?;
     for entry in read_source_entries(host.alloc(), &mut source)? {
-        let (what, len, most) = if error == Error::NameTooLong {
-            ("name", length_of_name(&entry.path), line.profile.name_max)
-        } else {
-            (
+        let (what, len, most) = match error {
+            Error::NameTooLong => ("name", length_of_name(&entry.path), line.profile.name_max),
+            _ => (
                 "file",
                 length_of_file(&entry, &source),
                 line.profile.file_max,
-            )
+            ),
         };
         if len > most as usize {
             let alloc = host.alloc();
@@ -207,7 +198,10 @@ fn push_explanation(
     text: &mut Vec<u8>,
 ) -> Result<(), ToolError> {
     match error {
-        ToolError::Input | ToolError::Output => Ok(push_path_fault(host, text)?),
+        ToolError::Input | ToolError::Output => match host.log.take()? {
+            Some(fault) => Ok(push_path_line(text, &[fault.path.as_slice()], &fault.words)?),
+            None => Ok(()),
+        },
         ToolError::Fs(Error::Invalid) => push_size_rule(host, line, text),
         ToolError::Fs(Error::Corrupt) => push_check(host, line, text),
         ToolError::Fs(error) => match line.mode {

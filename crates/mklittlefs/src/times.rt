@@ -62,10 +62,7 @@ pub(crate) fn keep_times(
     for path in paths_in_image(host, &mut session)? {
         let full = format!(in host.alloc(); "{folder}{path}")?;
         let found = fs::metadata(host.rt, full.as_str());
-        host.note_error(full.as_str(), &found);
-        let Ok(found) = found else {
-            return Err(ToolError::Input);
-        };
+        let found = host.note_and_map(full.as_str(), found, ToolError::Input)?;
         if let Some(bytes) = bytes_of_time(&found) {
             session.set_attr(host.alloc(), path.as_bytes(), TIME, &bytes)?;
         }
@@ -94,10 +91,7 @@ pub(crate) fn set_times(host: Host<'_>, folder: &str, image: RamDevice) -> Resul
         if let [a, b, c, d] = bytes.as_slice() {
             let full = format!(in host.alloc(); "{folder}{path}")?;
             let set = set_time(host, full.as_str(), [*a, *b, *c, *d]);
-            host.note_error(full.as_str(), &set);
-            if set.is_err() {
-                return Err(ToolError::Output);
-            }
+            host.note_and_map(full.as_str(), set, ToolError::Output)?;
         }
     }
     Ok(())

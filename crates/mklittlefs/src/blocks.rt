@@ -69,11 +69,10 @@ fn most_blocks(block_size: u32) -> u32 {
 fn blocks_of_bytes(entries: &[SourceEntry], block_size: u32) -> u32 {
     let mut count = 2u32;
     for entry in entries {
-        if let Some(bytes) = &entry.bytes {
-            if bytes.len() > INLINE_MAX {
-                let len = u32::try_from(bytes.len()).unwrap_or(u32::MAX);
-                count = count.saturating_add(len.checked_div(block_size).unwrap_or(0));
-            }
+        let len = entry.bytes.as_ref().map_or(0, |bytes| bytes.len());
+        if len > INLINE_MAX {
+            let len = u32::try_from(len).unwrap_or(u32::MAX);
+            count = count.saturating_add(len.checked_div(block_size).unwrap_or(0));
         }
     }
     count

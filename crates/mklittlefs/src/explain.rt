@@ -80,16 +80,6 @@ fn sizes_of_image(host: Host<'_>, line: &Line<'_>) -> Result<Sizes, ToolError> {
     })
 }
 
-// Adds the rule that the sizes break, or what is wrong with the path in the image.
-fn push_size_rule(host: Host<'_>, line: &Line<'_>, text: &mut Vec<u8>) -> Result<(), ToolError> {
-    let sizes = sizes_of_image(host, line)?;
-    match sizes.broken_rule() {
-        Some(rule) => sizes.push_rule_line(text, rule)?,
-        None => push_path_in_image(line, Error::Invalid, text)?,
-    }
-    Ok(())
-}
-
 // Adds what a check says of the image. For version 2.1 it says which option reads it.
 fn push_check(host: Host<'_>, line: &Line<'_>, text: &mut Vec<u8>) -> Result<(), ToolError> {
     let ImagePart { mut stream, layout } = open_part_again(host, line)?;
@@ -111,14 +101,6 @@ fn length_of_file(entry: &SourceEntry, source: &Folder<'_, HostRuntime>) -> usiz
     }
 }
 
-// How many bytes the last name of a path has.
-fn length_of_name(path: &[u8]) -> usize {
-    path.rsplit(|byte| *byte == b'/')
-        .next()
-        .unwrap_or(path)
-        .len()
-}
-
 // Adds the first name or file of a folder that passes the limit of an image, for which this error comes.
 fn push_passed_limit(
     host: Host<'_>,
@@ -129,8 +111,10 @@ fn push_passed_limit(
 ) -> Result<(), ToolError> {
     let mut source = folder_of_line(host, folder, IMAGE_MAX)?;
     for entry in read_source_entries(host.alloc(), &mut source)? {
+        let name = entry.path.rsplit(|byte| *byte == b'/').next();
+        let name_len = name.map_or(0, |name| name.len());
         let (what, len, most) = match error {
-            Error::NameTooLong => ("name", length_of_name(&entry.path), line.profile.name_max),
+            Error::NameTooLong => ("name", name_len, line.profile.name_max),
             _ => (
                 "file",
                 length_of_file(&entry, &source),
@@ -202,7 +186,13 @@ fn push_explanation(
             Some(fault) => Ok(push_path_line(text, &[fault.path.as_slice()], &fault.words)?),
             None => Ok(()),
         },
-        ToolError::Fs(Error::Invalid) => push_size_rule(host, line, text),
+        ToolError::Fs(Error::Invalid) => {
+            let sizes = sizes_of_image(host, line)?;
+            match sizes.broken_rule() {
+                Some(rule) => Ok(sizes.push_rule_line(text, rule)?),
+                None => Ok(push_path_in_image(line, Error::Invalid, text)?),
+            }
+        }
         ToolError::Fs(Error::Corrupt) => push_check(host, line, text),
         ToolError::Fs(error) => match line.mode {
             Mode::Create(folder) => push_new_image(host, line, folder, error, text),

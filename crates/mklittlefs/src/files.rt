@@ -129,10 +129,8 @@ pub(crate) fn open_file<'a>(host: Host<'a>, path: &'a str) -> Result<OpenFile<'a
         ReadStream::File(host.note_and_map(path, file, ToolError::Input)?)
     };
     let reader = NotedReader { stream, path, host };
-    match BufReader::with_capacity(host.alloc(), READ_AHEAD, reader) {
-        Ok(reader) => Ok(reader),
-        Err(_) => Err(ToolError::Fs(Error::NoMemory)),
-    }
+    let opened = BufReader::with_capacity(host.alloc(), READ_AHEAD, reader);
+    opened.map_err(|_| ToolError::Fs(Error::NoMemory))
 }
 
 // ---- an image that is made

@@ -21,10 +21,8 @@ const POINTERS_MAX: u32 = 128;
 #[derive(Drop)]
 struct ImageFile<'a> {
     host: Host<'a>,
-    path: &'a str,
+    line: Line<'a>,
     file: File,
-    // Where it begins in the file.
-    start: u64,
     len: u64,
     layout: ImageLayout,
 }
@@ -34,9 +32,10 @@ impl ImageFile<'_> {
     fn read_block(&self, block: u32, len: u32) -> Result<Vec<u8>, ToolError> {
         let before = u64::from(block).saturating_mul(u64::from(self.layout.block_size));
         let mut bytes = Vec::from_elem(self.host.alloc(), 0u8, len as usize)?;
-        let at = self.start.saturating_add(before);
+        let at = u64::from(self.line.offset).saturating_add(before);
         let read = self.file.read_exact_at(&mut bytes, at);
-        self.host.note_and_map(self.path, read, ToolError::Input)?;
+        self.host
+            .note_and_map(self.line.image, read, ToolError::Input)?;
         Ok(bytes)
     }
 }
@@ -80,11 +79,10 @@ fn first_word(bytes: &[u8]) -> u32 {
 // Loads the pointers of a file's list, up to a block that is loaded.
 fn load_list(
     image: &ImageFile<'_>,
-    device: SparseDevice,
+    mut device: SparseDevice,
     list: (u32, u32),
 ) -> Result<SparseDevice, ToolError> {
     let (mut block, size) = list;
-    let mut device = device;
     let count = device.geometry().block_count;
     if image.layout.block_size < 1024 {
         return Ok(device);
@@ -133,14 +131,13 @@ fn load_thread(image: &ImageFile<'_>, device: SparseDevice) -> Result<SparseDevi
     let mut next = Some([0, 1]);
     let count = device.geometry().block_count;
     for _ in 0..count {
-        let Some(pair) = next else {
+        let Some([first, second]) = next else {
             break;
         };
-        let [first, second] = pair;
         if first >= count || second >= count || !device.loaded(first).is_empty() {
             break;
         }
-        let (loaded, named) = load_pair(image, device, pair)?;
+        let (loaded, named) = load_pair(image, device, [first, second])?;
         device = loaded;
         let Some(NamedBlocks { lists, tail }) = named else {
             break;
@@ -168,13 +165,12 @@ fn open_image_file<'a>(
     if !metadata.is_file() {
         return None;
     }
-    let start = u64::from(line.offset);
+    let len = metadata.len().saturating_sub(u64::from(line.offset));
     Some(ImageFile {
         host,
-        path: line.image,
+        line: *line,
         file,
-        start,
-        len: metadata.len().saturating_sub(start).min(most),
+        len: len.min(most),
         layout,
     })
 }

@@ -47,9 +47,8 @@ pub(crate) fn open_part<'a>(host: Host<'a>, line: &Line<'a>) -> Result<ImagePart
         if let Some(superblock) = image_superblock_at(head.as_slice()) {
             layout.block_size = superblock.block_size;
             layout.page = layout.page.min(superblock.block_size / 8);
-            size = u64::from(superblock.block_size).saturating_mul(u64::from(
-                superblock.block_count,
-            ));
+            let count = u64::from(superblock.block_count);
+            size = u64::from(superblock.block_size).saturating_mul(count);
         }
     }
     let stream = WatchedStream::new(Cursor::new(head).chain(file).take(size));

@@ -50,8 +50,7 @@ pub(crate) fn refusing_file_limit(folder: &Folder<'_, HostRuntime>, size: u32, l
 
 // The line of a work that begins now, where standard error is a terminal.
 fn progress_at_terminal(rt: &HostRuntime) -> ProgressLine<Stderr, HostRuntime> {
-    let is_terminal = rt.stderr().is_terminal();
-    ProgressLine::new(rt.stderr(), *rt, is_terminal)
+    ProgressLine::new(rt.stderr(), *rt, rt.stderr().is_terminal())
 }
 
 // Writes the image of a folder.
@@ -62,20 +61,14 @@ fn write_image(
     geometry: Geometry,
     image: &mut WatchedStream<NotedWriter<'_>>,
 ) -> Result<(), ToolError> {
+    let alloc = host.alloc();
     let mut progress = progress_at_terminal(host.rt);
     if host.times {
-        let entries = read_source_entries(host.alloc(), source)?;
+        let entries = read_source_entries(alloc, source)?;
         let made = image_of_entries(host, line, geometry, entries.as_slice(), &mut progress)?;
         return write_and_flush(image, made.bytes());
     }
-    create(
-        host.alloc(),
-        source,
-        geometry,
-        line.order,
-        image,
-        &mut progress,
-    )
+    create(alloc, source, geometry, line.order, image, &mut progress)
 }
 
 // Makes the image of a folder, and puts it in its place once it is whole. Sizes that no image has are refused before

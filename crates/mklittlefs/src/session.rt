@@ -8,16 +8,16 @@ use lfs_tool::{
     Line, Mode, ToolError, ToolOutput, WatchedStream, ram_device_of, read_image, write_and_flush,
 };
 
+/// A session over an image in memory.
+pub(crate) type RamSession = Session<RamDevice>;
+
 /// Mounts an image in memory.
-pub(crate) fn mount_image(
-    host: Host<'_>,
-    image: RamDevice,
-) -> Result<Session<RamDevice>, ToolError> {
+pub(crate) fn mount_image(host: Host<'_>, image: RamDevice) -> Result<RamSession, ToolError> {
     mount(host.alloc(), image).map_err(|(_device, error)| ToolError::Fs(error))
 }
 
 // Mounts the image of a line, all of it in memory.
-fn session_of_line(host: Host<'_>, line: &Line<'_>) -> Result<Session<RamDevice>, ToolError> {
+fn session_of_line(host: Host<'_>, line: &Line<'_>) -> Result<RamSession, ToolError> {
     let ImagePart { mut stream, layout } = open_part(host, line)?;
     let bytes = read_image(host.alloc(), &mut stream)?;
     mount_image(host, ram_device_of(bytes, layout)?)
@@ -37,12 +37,10 @@ pub(crate) fn cat_file<W: ToolOutput>(
     write_and_flush(out, bytes.as_slice())
 }
 
-// Makes the change of the line's mode. A file is put in place of one that is there. The other modes change nothing.
-fn change_in_session(
-    host: Host<'_>,
-    line: &Line<'_>,
-    session: &mut Session<RamDevice>,
-) -> Result<(), ToolError> {
+/// Changes the line's image as its mode says, and puts it in its place. A file is put in place of one that is there. The
+/// other modes change nothing. A refusal leaves the image as it is.
+pub(crate) fn change_image(host: Host<'_>, line: &Line<'_>) -> Result<(), ToolError> {
+    let mut session = session_of_line(host, line)?;
     match line.mode {
         Mode::Put(file, path) => {
             let mut file = WatchedStream::new(open_file(host, file)?);
@@ -56,13 +54,6 @@ fn change_in_session(
         Mode::Mkdir(path) => session.mkdir(host.alloc(), path.as_bytes())?,
         _ => {}
     }
-    Ok(())
-}
-
-/// Changes the line's image as its mode says, and puts it in its place. A refusal leaves the image as it is.
-pub(crate) fn change_image(host: Host<'_>, line: &Line<'_>) -> Result<(), ToolError> {
-    let mut session = session_of_line(host, line)?;
-    change_in_session(host, line, &mut session)?;
     let bytes = session.unmount().to_bytes();
     let mut image = WatchedStream::new(NotedWriter::new(host, line.image)?);
     write_and_flush(&mut image, bytes.as_slice())?;

@@ -1,9 +1,9 @@
 // The times at which files and folders were modified, kept as attributes in an image.
 
 use crate::files::Host;
-use crate::session::mount_image;
+use crate::session::{RamSession, mount_image};
 use lfs_device::{Error, RamDevice};
-use lfs_fs::{Kind, Session};
+use lfs_fs::Kind;
 use lfs_tool::ToolError;
 use std::alloc::AllocError;
 use std::fs::{File, Metadata};
@@ -14,10 +14,7 @@ use std::{fs, io};
 const TIME: u8 = b't';
 
 // Returns the paths of all that is in an image.
-fn paths_in_image(
-    host: Host<'_>,
-    session: &mut Session<RamDevice>,
-) -> Result<Vec<String>, ToolError> {
+fn paths_in_image(host: Host<'_>, session: &mut RamSession) -> Result<Vec<String>, ToolError> {
     let alloc = host.alloc();
     let mut paths = Vec::new(alloc);
     let mut folders = Vec::new(alloc);

@@ -26,9 +26,8 @@ fn does_second_hold(first: &[u8], second: &[u8]) -> Option<bool> {
     let is_later = is_later_than(first.revision(), second.revision());
     match (first.has_commit(), second.has_commit()) {
         (true, true) => Some(is_later),
-        (true, false) => Some(false),
-        (false, true) => Some(true),
         (false, false) => None,
+        (_, holds) => Some(holds),
     }
 }
 
@@ -207,12 +206,8 @@ impl FoundThread {
 
     // Returns a slot of the pair at an address.
     pub(crate) fn slot_at(&self, pair: [u32; 2], number: usize) -> Option<&FoundSlot> {
-        for slot in &self.slots {
-            if slot.number == number && is_same_pair(slot.pair, pair) {
-                return Some(slot);
-            }
-        }
-        None
+        let mut slots = self.slots.iter();
+        slots.find(|slot| slot.number == number && is_same_pair(slot.pair, pair))
     }
 
     // Returns whether a slot is an entry: no superblock's, and not the one that a set move names.
@@ -230,12 +225,9 @@ impl FoundThread {
 
     // Returns whether a directory begins at an address.
     pub(crate) fn has_directory(&self, at: [u32; 2]) -> bool {
-        for first in &self.directories {
-            if is_same_pair(*first, at) {
-                return true;
-            }
-        }
-        false
+        self.directories
+            .iter()
+            .any(|first| is_same_pair(*first, at))
     }
 
     // Returns the first neighbours in a directory whose names don't rise.

@@ -5,18 +5,13 @@ use std::io::Write;
 use std::time::{Clock, Duration, Instant};
 
 /// A number of files, and of the bytes in them.
-#[derive(Clone, Copy, Debug, PartialEq, Eq)]
+#[derive(Clone, Copy, Debug, Default, PartialEq, Eq)]
 pub struct FilesAndBytes {
     pub files: usize,
     pub bytes: usize,
 }
 
 impl FilesAndBytes {
-    // Returns no files and no bytes.
-    pub(crate) fn none() -> FilesAndBytes {
-        FilesAndBytes { files: 0, bytes: 0 }
-    }
-
     // Returns one file of that size in bytes.
     pub(crate) fn one_file(bytes: usize) -> FilesAndBytes {
         FilesAndBytes { files: 1, bytes }
@@ -108,8 +103,8 @@ impl<W: Write + Drop, C: Clock + Drop> ProgressLine<W, C> {
             clock,
             began,
             next: Duration::from_secs(1),
-            whole: FilesAndBytes::none(),
-            done: FilesAndBytes::none(),
+            whole: FilesAndBytes::default(),
+            done: FilesAndBytes::default(),
             is_shown: false,
         }
     }

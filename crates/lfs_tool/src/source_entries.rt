@@ -59,13 +59,13 @@ fn copy_entry(
 fn counts_of_entry(entry: &SourceEntry) -> FilesAndBytes {
     match &entry.bytes {
         Some(bytes) => FilesAndBytes::one_file(bytes.len()),
-        None => FilesAndBytes::none(),
+        None => FilesAndBytes::default(),
     }
 }
 
 // Returns the whole of all entries.
 fn counts_of_entries(entries: &[SourceEntry]) -> FilesAndBytes {
-    let mut whole = FilesAndBytes::none();
+    let mut whole = FilesAndBytes::default();
     for entry in entries {
         whole = whole.plus(counts_of_entry(entry));
     }

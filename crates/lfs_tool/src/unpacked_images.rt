@@ -86,13 +86,13 @@ fn counts_of_item(item: &TreeItem) -> FilesAndBytes {
     match &item.structure {
         OwnedStruct::Inline(bytes) => FilesAndBytes::one_file(bytes.len()),
         OwnedStruct::Ctz { size, .. } => FilesAndBytes::one_file(*size as usize),
-        OwnedStruct::Branch(_) => FilesAndBytes::none(),
+        OwnedStruct::Branch(_) => FilesAndBytes::default(),
     }
 }
 
 // Returns the whole of all items.
 fn counts_of_items(items: &[TreeItem]) -> FilesAndBytes {
-    let mut whole = FilesAndBytes::none();
+    let mut whole = FilesAndBytes::default();
     for item in items {
         whole = whole.plus(counts_of_item(item));
     }

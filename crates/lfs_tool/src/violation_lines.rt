@@ -3,11 +3,12 @@
 
 ghost use Rattle.std.specs.Prelude.{◌≡◌, IfErr, IfOk};
 
+use crate::ImageLayout;
 use crate::found_thread::{FoundSlot, FoundThread, current_block, escaped_name};
 use crate::number_text::{PairText, WrongNumberText};
 use crate::superblocks::wrong_number_in;
 use crate::verdict::{BrokenRule, GivenSizes};
-use lfs_device::{BlockDevice, Error, Geometry, RamDevice};
+use lfs_device::{BlockDevice, Error, RamDevice};
 use lfs_file::walk;
 use lfs_lookup::OwnedStruct;
 use lfs_model::{NameOrder, Violation};
@@ -97,24 +98,15 @@ impl FoundThread {
         let Ok(bytes) = <&[u8; 24]>::try_from(bytes.as_slice()) else {
             return Ok(None);
         };
-        let Geometry {
-            block_size,
-            page,
-            block_count,
-            profile,
-        } = self.geometry;
-        let blocks = block_count as usize;
+        let geometry = self.geometry;
+        let blocks = geometry.block_count as usize;
+        let versions = geometry.profile.versions;
         let fields = superblock_of(bytes);
-        let Some(stated) = wrong_number_in(block_size, blocks, profile.versions, &fields) else {
+        let Some(stated) = wrong_number_in(geometry.block_size, blocks, versions, &fields) else {
             return Ok(None);
         };
-        let size = block_size as usize * blocks;
-        let given = GivenSizes {
-            block_size,
-            page,
-            size,
-            blocks,
-        };
+        let layout = ImageLayout::new(geometry.block_size, geometry.page);
+        let given = GivenSizes::of(geometry.block_size as usize * blocks, layout);
         let number = WrongNumberText { given, stated };
         Ok(Some(format!(in self.alloc; "{}, {number}", PairText(pair))?))
     }
@@ -207,22 +199,21 @@ impl FoundThread {
         slot: &FoundSlot,
         block: u32,
     ) -> Result<String, Error> {
+        let alloc = self.alloc;
         if let Some(pair) = self.pair_with_block(block) {
             let at = PairText(pair);
-            return Ok(format!(in self.alloc; "block {block}: in {at} and in a file, {slot}")?);
+            return Ok(format!(in alloc; "block {block}: in {at} and in a file, {slot}")?);
         }
         for other in &self.slots {
-            let is_other = other.number != slot.number || other.pair != slot.pair;
-            if is_other
+            let is_slot = other.number == slot.number && other.pair == slot.pair;
+            if !is_slot
                 && self.is_entry(other)
                 && has_list_block(device, &other.structure, block)?
             {
-                return Ok(format!(in self.alloc;
-                    "block {block}: in two files, {other} and {slot}"
-                )?);
+                return Ok(format!(in alloc; "block {block}: in two files, {other} and {slot}")?);
             }
         }
-        Ok(String::new(self.alloc))
+        Ok(String::new(alloc))
     }
 
     // Returns the line of a rule that names a slot by its number.

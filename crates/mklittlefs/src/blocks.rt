@@ -69,11 +69,10 @@ fn most_blocks(block_size: u32) -> u32 {
 fn blocks_of_bytes(entries: &[SourceEntry], block_size: u32) -> u32 {
     let mut count = 2u32;
     for entry in entries {
-        if let Some(bytes) = &entry.bytes {
-            if bytes.len() > INLINE_MAX {
-                let len = u32::try_from(bytes.len()).unwrap_or(u32::MAX);
-                count = count.saturating_add(len.checked_div(block_size).unwrap_or(0));
-            }
+        let len = entry.bytes.as_ref().map_or(0, |bytes| bytes.len());
+        if len > INLINE_MAX {
+            let len = u32::try_from(len).unwrap_or(u32::MAX);
+            count = count.saturating_add(len.checked_div(block_size).unwrap_or(0));
         }
     }
     count
@@ -120,21 +119,16 @@ pub(crate) fn fit_size(
     line: &mut Line<'_>,
     extras: &Extras<'_>,
 ) -> Result<(), ToolError> {
-    let Mode::Create(folder) = line.mode else {
+    let (Mode::Create(folder), true) = (line.mode, extras.is_size_auto) else {
         return Ok(());
     };
-    if !extras.is_size_auto {
-        return Ok(());
-    }
     line.size = most_blocks(line.block_size).saturating_mul(line.block_size);
     geometry_of_line(line)?;
     let (entries, refusing) = read_line_folder(host, line, folder)?;
-    match enough_blocks(host, &refusing, entries.as_slice(), 2)? {
-        Some(count) => {
-            let count = count.saturating_add(extras.spare);
-            line.size = count.saturating_mul(line.block_size);
-            Ok(())
-        }
-        None => Err(ToolError::Fs(Error::NoSpace)),
-    }
+    let Some(count) = enough_blocks(host, &refusing, entries.as_slice(), 2)? else {
+        return Err(ToolError::Fs(Error::NoSpace));
+    };
+    let count = count.saturating_add(extras.spare);
+    line.size = count.saturating_mul(line.block_size);
+    Ok(())
 }

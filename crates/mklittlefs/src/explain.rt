@@ -31,14 +31,6 @@ fn push_path_line(text: &mut Vec<u8>, parts: &[&[u8]], words: &[u8]) -> Result<(
     text.extend_from_slice(b"\n")
 }
 
-// Adds the fault that a file, a folder or a stream met.
-fn push_path_fault(host: Host<'_>, text: &mut Vec<u8>) -> Result<(), AllocError> {
-    match host.log.take()? {
-        Some(fault) => push_path_line(text, &[fault.path.as_slice()], &fault.words),
-        None => Ok(()),
-    }
-}
-
 // What an error says of a path, where it says something.
 fn words_of_refusal(error: Error) -> Option<&'static str> {
     match error {
@@ -88,16 +80,6 @@ fn sizes_of_image(host: Host<'_>, line: &Line<'_>) -> Result<Sizes, ToolError> {
     })
 }
 
-// Adds the rule that the sizes break, or what is wrong with the path in the image.
-fn push_size_rule(host: Host<'_>, line: &Line<'_>, text: &mut Vec<u8>) -> Result<(), ToolError> {
-    let sizes = sizes_of_image(host, line)?;
-    match sizes.broken_rule() {
-        Some(rule) => sizes.push_rule_line(text, rule)?,
-        None => push_path_in_image(line, Error::Invalid, text)?,
-    }
-    Ok(())
-}
-
 // Adds what a check says of the image. For version 2.1 it says which option reads it.
 fn push_check(host: Host<'_>, line: &Line<'_>, text: &mut Vec<u8>) -> Result<(), ToolError> {
     let ImagePart { mut stream, layout } = open_part_again(host, line)?;
@@ -119,14 +101,6 @@ fn length_of_file(entry: &SourceEntry, source: &Folder<'_, HostRuntime>) -> usiz
     }
 }
 
-// How many bytes the last name of a path has.
-fn length_of_name(path: &[u8]) -> usize {
-    path.rsplit(|byte| *byte == b'/')
-        .next()
-        .unwrap_or(path)
-        .len()
-}
-
 // Adds the first name or file of a folder that passes the limit of an image, for which this error comes.
 fn push_passed_limit(
     host: Host<'_>,
@@ -137,14 +111,15 @@ fn push_passed_limit(
 ) -> Result<(), ToolError> {
     let mut source = folder_of_line(host, folder, IMAGE_MAX)?;
     for entry in read_source_entries(host.alloc(), &mut source)? {
-        let (what, len, most) = if error == Error::NameTooLong {
-            ("name", length_of_name(&entry.path), line.profile.name_max)
-        } else {
-            (
+        let name = entry.path.rsplit(|byte| *byte == b'/').next();
+        let name_len = name.map_or(0, |name| name.len());
+        let (what, len, most) = match error {
+            Error::NameTooLong => ("name", name_len, line.profile.name_max),
+            _ => (
                 "file",
                 length_of_file(&entry, &source),
                 line.profile.file_max,
-            )
+            ),
         };
         if len > most as usize {
             let alloc = host.alloc();
@@ -207,8 +182,17 @@ fn push_explanation(
     text: &mut Vec<u8>,
 ) -> Result<(), ToolError> {
     match error {
-        ToolError::Input | ToolError::Output => Ok(push_path_fault(host, text)?),
-        ToolError::Fs(Error::Invalid) => push_size_rule(host, line, text),
+        ToolError::Input | ToolError::Output => match host.log.take()? {
+            Some(fault) => Ok(push_path_line(text, &[fault.path.as_slice()], &fault.words)?),
+            None => Ok(()),
+        },
+        ToolError::Fs(Error::Invalid) => {
+            let sizes = sizes_of_image(host, line)?;
+            match sizes.broken_rule() {
+                Some(rule) => Ok(sizes.push_rule_line(text, rule)?),
+                None => Ok(push_path_in_image(line, Error::Invalid, text)?),
+            }
+        }
         ToolError::Fs(Error::Corrupt) => push_check(host, line, text),
         ToolError::Fs(error) => match line.mode {
             Mode::Create(folder) => push_new_image(host, line, folder, error, text),

@@ -42,6 +42,20 @@ impl<'a> Host<'a> {
             }
         }
     }
+
+    /// Notes the error of a call at a path, and returns the tool's error in its place.
+    pub(crate) fn note_and_map<T>(
+        self,
+        path: &str,
+        called: io::Result<T>,
+        error: ToolError,
+    ) -> Result<T, ToolError> {
+        self.note_error(path, &called);
+        match called {
+            Ok(value) => Ok(value),
+            Err(_) => Err(error),
+        }
+    }
 }
 
 /// Standard output. It notes why it fails.
@@ -112,17 +126,11 @@ pub(crate) fn open_file<'a>(host: Host<'a>, path: &'a str) -> Result<OpenFile<'a
         ReadStream::Standard(host.rt.stdin())
     } else {
         let file = File::open(host.rt, path);
-        host.note_error(path, &file);
-        match file {
-            Ok(file) => ReadStream::File(file),
-            Err(_) => return Err(ToolError::Input),
-        }
+        ReadStream::File(host.note_and_map(path, file, ToolError::Input)?)
     };
     let reader = NotedReader { stream, path, host };
-    match BufReader::with_capacity(host.alloc(), READ_AHEAD, reader) {
-        Ok(reader) => Ok(reader),
-        Err(_) => Err(ToolError::Fs(Error::NoMemory)),
-    }
+    let opened = BufReader::with_capacity(host.alloc(), READ_AHEAD, reader);
+    opened.map_err(|_| ToolError::Fs(Error::NoMemory))
 }
 
 // ---- an image that is made
@@ -179,11 +187,7 @@ impl<'a> NotedWriter<'a> {
     pub(crate) fn place(self) -> Result<(), ToolError> {
         let NotedWriter { stream, path, host } = self;
         if let WrittenStream::File(file) = stream {
-            let placed = file.place();
-            host.note_error(path, &placed);
-            if placed.is_err() {
-                return Err(ToolError::Output);
-            }
+            host.note_and_map(path, file.place(), ToolError::Output)?;
             remove_leftovers(host.rt, path);
         }
         Ok(())

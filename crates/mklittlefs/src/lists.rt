@@ -21,25 +21,22 @@ const POINTERS_MAX: u32 = 128;
 #[derive(Drop)]
 struct ImageFile<'a> {
     host: Host<'a>,
-    path: &'a str,
+    line: Line<'a>,
     file: File,
-    // Where it begins in the file.
-    start: u64,
-    block_size: u32,
+    len: u64,
+    layout: ImageLayout,
 }
 
 impl ImageFile<'_> {
     // Reads the beginning of a block.
     fn read_block(&self, block: u32, len: u32) -> Result<Vec<u8>, ToolError> {
-        let before = u64::from(block).saturating_mul(u64::from(self.block_size));
+        let before = u64::from(block).saturating_mul(u64::from(self.layout.block_size));
         let mut bytes = Vec::from_elem(self.host.alloc(), 0u8, len as usize)?;
-        let at = self.start.saturating_add(before);
+        let at = u64::from(self.line.offset).saturating_add(before);
         let read = self.file.read_exact_at(&mut bytes, at);
-        self.host.note_error(self.path, &read);
-        match read {
-            Ok(()) => Ok(bytes),
-            Err(_) => Err(ToolError::Input),
-        }
+        self.host
+            .note_and_map(self.line.image, read, ToolError::Input)?;
+        Ok(bytes)
     }
 }
 
@@ -67,10 +64,7 @@ fn blocks_in_log(alloc: Global, block: &[u8]) -> Result<Option<NamedBlocks>, All
             }
         }
     }
-    let tail = match content.tail {
-        Some(tail) => Some(tail.pair),
-        None => None,
-    };
+    let tail = content.tail.map(|tail| tail.pair);
     Ok(Some(NamedBlocks { lists, tail }))
 }
 
@@ -85,16 +79,15 @@ fn first_word(bytes: &[u8]) -> u32 {
 // Loads the pointers of a file's list, up to a block that is loaded.
 fn load_list(
     image: &ImageFile<'_>,
-    device: SparseDevice,
+    mut device: SparseDevice,
     list: (u32, u32),
 ) -> Result<SparseDevice, ToolError> {
     let (mut block, size) = list;
-    let mut device = device;
     let count = device.geometry().block_count;
-    if image.block_size < 1024 {
+    if image.layout.block_size < 1024 {
         return Ok(device);
     }
-    for _ in 1..blocks_for(image.block_size, size).min(count) {
+    for _ in 1..blocks_for(image.layout.block_size, size).min(count) {
         if block >= count || !device.loaded(block).is_empty() {
             break;
         }
@@ -121,13 +114,13 @@ fn load_pair(
     } else {
         (first, second, two)
     };
-    let bytes = image.read_block(later, image.block_size)?;
+    let bytes = image.read_block(later, image.layout.block_size)?;
     let named = blocks_in_log(alloc, &bytes)?;
     let device = device.load(later, bytes);
     if named.is_some() {
         return Ok((device.load(other, rest), named));
     }
-    let bytes = image.read_block(other, image.block_size)?;
+    let bytes = image.read_block(other, image.layout.block_size)?;
     let named = blocks_in_log(alloc, &bytes)?;
     Ok((device.load(other, bytes), named))
 }
@@ -138,14 +131,13 @@ fn load_thread(image: &ImageFile<'_>, device: SparseDevice) -> Result<SparseDevi
     let mut next = Some([0, 1]);
     let count = device.geometry().block_count;
     for _ in 0..count {
-        let Some(pair) = next else {
+        let Some([first, second]) = next else {
             break;
         };
-        let [first, second] = pair;
         if first >= count || second >= count || !device.loaded(first).is_empty() {
             break;
         }
-        let (loaded, named) = load_pair(image, device, pair)?;
+        let (loaded, named) = load_pair(image, device, [first, second])?;
         device = loaded;
         let Some(NamedBlocks { lists, tail }) = named else {
             break;
@@ -158,14 +150,13 @@ fn load_thread(image: &ImageFile<'_>, device: SparseDevice) -> Result<SparseDevi
     Ok(device)
 }
 
-// Opens the image of a line as a file of which parts are read, and tells how many bytes it has. What is no file has no
-// such parts.
+// Opens the image of a line as a file of which parts are read. What is no file has no such parts.
 fn open_image_file<'a>(
     host: Host<'a>,
     line: &Line<'a>,
     layout: ImageLayout,
     most: u64,
-) -> Option<(ImageFile<'a>, u64)> {
+) -> Option<ImageFile<'a>> {
     if is_standard_stream(line.image) {
         return None;
     }
@@ -174,38 +165,28 @@ fn open_image_file<'a>(
     if !metadata.is_file() {
         return None;
     }
-    let start = u64::from(line.offset);
-    let len = metadata.len().saturating_sub(start).min(most);
-    let image = ImageFile {
+    let len = metadata.len().saturating_sub(u64::from(line.offset));
+    Some(ImageFile {
         host,
-        path: line.image,
+        line: *line,
         file,
-        start,
-        block_size: layout.block_size,
-    };
-    Some((image, len))
+        len: len.min(most),
+        layout,
+    })
 }
 
-// Loads what a list needs of an image of so many bytes.
-fn load_image(
-    image: &ImageFile<'_>,
-    layout: ImageLayout,
-    len: u64,
-) -> Result<SparseDevice, ToolError> {
-    let Ok(len) = u32::try_from(len) else {
+// Loads what a list needs of an image.
+fn load_image(image: &ImageFile<'_>) -> Result<SparseDevice, ToolError> {
+    let Ok(len) = u32::try_from(image.len) else {
         return Err(ToolError::Fs(Error::Invalid));
     };
-    let blank = sparse_device_of(image.host.alloc(), len, layout)?;
+    let blank = sparse_device_of(image.host.alloc(), len, image.layout)?;
     load_thread(image, blank)
 }
 
 // Returns the lines of an image in a file. There are none where a list needs more than was loaded.
-fn file_list_lines(
-    image: &ImageFile<'_>,
-    layout: ImageLayout,
-    len: u64,
-) -> Result<Option<Vec<u8>>, ToolError> {
-    let device = load_image(image, layout, len)?;
+fn file_list_lines(image: &ImageFile<'_>) -> Result<Option<Vec<u8>>, ToolError> {
+    let device = load_image(image)?;
     match lines_of_device(image.host.alloc(), device) {
         Ok(lines) => Ok(Some(lines)),
         Err((_device, Error::Io)) => Ok(None),
@@ -217,8 +198,8 @@ fn file_list_lines(
 /// of it was loaded, and is what the file has, is read in the code here and tested.
 pub(crate) fn list_lines(host: Host<'_>, line: &Line<'_>) -> Result<Vec<u8>, ToolError> {
     let ImagePart { mut stream, layout } = open_part(host, line)?;
-    if let Some((image, len)) = open_image_file(host, line, layout, stream.inner().limit()) {
-        if let Some(lines) = file_list_lines(&image, layout, len)? {
+    if let Some(image) = open_image_file(host, line, layout, stream.inner().limit()) {
+        if let Some(lines) = file_list_lines(&image)? {
             return Ok(lines);
         }
     }
@@ -235,8 +216,8 @@ pub(crate) fn accepted_lines(
     layout: ImageLayout,
     most: u64,
 ) -> Option<Vec<u8>> {
-    let (image, len) = open_image_file(host, line, layout, most)?;
-    let device = load_image(&image, layout, len).ok()?;
+    let image = open_image_file(host, line, layout, most)?;
+    let device = load_image(&image).ok()?;
     let (summary, orders) = accepted_summary(host.alloc(), device)?;
     check_result_lines(host.alloc(), &CheckResult::Accepted { summary, orders }).ok()
 }

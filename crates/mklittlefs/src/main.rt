@@ -25,8 +25,7 @@ use std::{env, io};
 
 // The words of the command line, the program's name first.
 fn read_command_line_words(rt: &HostRuntime) -> io::Result<Vec<String>> {
-    let words = env::args(rt)?.collect(rt.alloc())?;
-    Ok(words)
+    Ok(env::args(rt)?.collect(rt.alloc())?)
 }
 
 // Whether the environment wants each error with its cause.

@@ -20,7 +20,7 @@ pub(crate) struct ImagePart<'a> {
     pub(crate) layout: ImageLayout,
 }
 
-fn tool_error_of_read(error: &io::Error) -> ToolError {
+fn tool_error_of_read(error: io::Error) -> ToolError {
     if error.kind() == ErrorKind::OutOfMemory {
         ToolError::Fs(Error::NoMemory)
     } else {
@@ -30,10 +30,7 @@ fn tool_error_of_read(error: &io::Error) -> ToolError {
 
 /// Reads so many bytes, or all where there are fewer, and counts them.
 pub(crate) fn skip_bytes<R: Read>(reader: &mut R, most: u64) -> Result<u64, ToolError> {
-    match io::copy(&mut reader.by_ref().take(most), &mut io::sink()) {
-        Ok(count) => Ok(count),
-        Err(error) => Err(tool_error_of_read(&error)),
-    }
+    io::copy(&mut reader.by_ref().take(most), &mut io::sink()).map_err(tool_error_of_read)
 }
 
 /// Opens the image of a line, to read it. With `-b auto` it is as long as its superblock says, and has the blocks and
@@ -45,15 +42,13 @@ pub(crate) fn open_part<'a>(host: Host<'a>, line: &Line<'a>) -> Result<ImagePart
     let mut layout = layout_of_line(line);
     let mut size = u64::MAX;
     if line.is_auto {
-        if let Err(error) = file.by_ref().take(HEAD).read_to_end(&mut head) {
-            return Err(tool_error_of_read(&error));
-        }
+        let read = file.by_ref().take(HEAD).read_to_end(&mut head);
+        let _count = read.map_err(tool_error_of_read)?;
         if let Some(superblock) = image_superblock_at(head.as_slice()) {
             layout.block_size = superblock.block_size;
             layout.page = layout.page.min(superblock.block_size / 8);
-            size = u64::from(superblock.block_size).saturating_mul(u64::from(
-                superblock.block_count,
-            ));
+            let count = u64::from(superblock.block_count);
+            size = u64::from(superblock.block_size).saturating_mul(count);
         }
     }
     let stream = WatchedStream::new(Cursor::new(head).chain(file).take(size));

@@ -50,8 +50,7 @@ pub(crate) fn refusing_file_limit(folder: &Folder<'_, HostRuntime>, size: u32, l
 
 // The line of a work that begins now, where standard error is a terminal.
 fn progress_at_terminal(rt: &HostRuntime) -> ProgressLine<Stderr, HostRuntime> {
-    let is_terminal = rt.stderr().is_terminal();
-    ProgressLine::new(rt.stderr(), *rt, is_terminal)
+    ProgressLine::new(rt.stderr(), *rt, rt.stderr().is_terminal())
 }
 
 // Writes the image of a folder.
@@ -62,20 +61,14 @@ fn write_image(
     geometry: Geometry,
     image: &mut WatchedStream<NotedWriter<'_>>,
 ) -> Result<(), ToolError> {
+    let alloc = host.alloc();
     let mut progress = progress_at_terminal(host.rt);
     if host.times {
-        let entries = read_source_entries(host.alloc(), source)?;
+        let entries = read_source_entries(alloc, source)?;
         let made = image_of_entries(host, line, geometry, entries.as_slice(), &mut progress)?;
         return write_and_flush(image, made.bytes());
     }
-    create(
-        host.alloc(),
-        source,
-        geometry,
-        line.order,
-        image,
-        &mut progress,
-    )
+    create(alloc, source, geometry, line.order, image, &mut progress)
 }
 
 // Makes the image of a folder, and puts it in its place once it is whole. Sizes that no image has are refused before
@@ -176,11 +169,7 @@ fn run_mode<W: ToolOutput>(
 }
 
 // The status where standard output didn't take the lines. If nobody reads them there is no line of the error.
-fn report_unwritten_lines<O: ToolOutput, E: ToolOutput>(
-    host: Host<'_>,
-    out: &mut O,
-    err: &mut E,
-) -> u8 {
+fn report_unwritten<O: ToolOutput, E: ToolOutput>(host: Host<'_>, out: &mut O, err: &mut E) -> u8 {
     match host.fault_of_lines.get() {
         Some(ErrorKind::BrokenPipe) => 3,
         _ => report(&Fault::Tool(ToolError::Output), out, err),
@@ -220,7 +209,7 @@ fn run_request<O: ToolOutput, E: ToolOutput>(
     match done {
         Ok(true) => 0,
         Ok(false) => 1,
-        Err(ToolError::Output) if line.mode == Mode::List => report_unwritten_lines(host, out, err),
+        Err(ToolError::Output) if line.mode == Mode::List => report_unwritten(host, out, err),
         Err(error) => {
             let status = report(&Fault::Tool(error), out, err);
             if line.explain || host.explains {
@@ -231,17 +220,8 @@ fn run_request<O: ToolOutput, E: ToolOutput>(
     }
 }
 
-// The cause for which there are no words: memory ran out, or a word is no text.
-fn fault_of_words(error: &io::Error) -> Fault {
-    if error.kind() == ErrorKind::OutOfMemory {
-        Fault::Tool(ToolError::Fs(Error::NoMemory))
-    } else {
-        Fault::Line(LineError::NotUtf8)
-    }
-}
-
-/// Runs the program on the words of its command line, or on the cause for which there are none. Returns the status with
-/// which it ends.
+/// Runs the program on the words of its command line, or on the cause for which there are none: memory ran out, or a
+/// word is no text. Returns the status with which it ends.
 pub(crate) fn run_words<O: ToolOutput, E: ToolOutput>(
     host: Host<'_>,
     words: io::Result<Vec<String>>,
@@ -250,12 +230,15 @@ pub(crate) fn run_words<O: ToolOutput, E: ToolOutput>(
 ) -> u8 {
     let words = match words {
         Ok(words) => words,
-        Err(error) => return report(&fault_of_words(&error), out, err),
+        Err(error) if error.kind() == ErrorKind::OutOfMemory => {
+            return report(&Fault::Tool(ToolError::Fs(Error::NoMemory)), out, err);
+        }
+        Err(_) => return report(&Fault::Line(LineError::NotUtf8), out, err),
     };
     match read_request(host.alloc(), words.as_slice()) {
         Ok(request) => run_request(host, &request, out, err),
         Err(error) => match report(&Fault::Line(error), out, err) {
-            0 if host.fault_of_lines.get().is_some() => report_unwritten_lines(host, out, err),
+            0 if host.fault_of_lines.get().is_some() => report_unwritten(host, out, err),
             status => status,
         },
     }

@@ -72,10 +72,9 @@ fn runs_end_as_expected(rt: HostRuntime) -> Result<(), Fail> {
 #[test]
 fn missing_words_are_reported(rt: HostRuntime) -> Result<(), Fail> {
     let mut text = Vec::new(rt.alloc());
-    let memory = Err(io::Error::from(io::ErrorKind::OutOfMemory));
-    push_run(&rt, memory, &mut text)?;
-    let no_text = Err(io::Error::from(io::ErrorKind::InvalidData));
-    push_run(&rt, no_text, &mut text)?;
+    for kind in [io::ErrorKind::OutOfMemory, io::ErrorKind::InvalidData] {
+        push_run(&rt, Err(io::Error::from(kind)), &mut text)?;
+    }
     let wanted = "error: NoMemory (12)\nstatus 1\nerror: the command line is not UTF-8\nstatus 2\n";
     assert!(rt; text.as_slice() == wanted.as_bytes());
     Ok(())

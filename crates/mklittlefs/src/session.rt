@@ -2,35 +2,25 @@
 
 use crate::files::{Host, NotedWriter, open_file};
 use crate::parts::{ImagePart, open_part};
-use lfs_device::{Error, RamDevice};
+use lfs_device::RamDevice;
 use lfs_fs::{OpenFlags, Session, mount};
 use lfs_tool::{
     Line, Mode, ToolError, ToolOutput, WatchedStream, ram_device_of, read_image, write_and_flush,
 };
 
+/// A session over an image in memory.
+pub(crate) type RamSession = Session<RamDevice>;
+
 /// Mounts an image in memory.
-pub(crate) fn mount_image(
-    host: Host<'_>,
-    image: RamDevice,
-) -> Result<Session<RamDevice>, ToolError> {
+pub(crate) fn mount_image(host: Host<'_>, image: RamDevice) -> Result<RamSession, ToolError> {
     mount(host.alloc(), image).map_err(|(_device, error)| ToolError::Fs(error))
 }
 
 // Mounts the image of a line, all of it in memory.
-fn session_of_line(host: Host<'_>, line: &Line<'_>) -> Result<Session<RamDevice>, ToolError> {
+fn session_of_line(host: Host<'_>, line: &Line<'_>) -> Result<RamSession, ToolError> {
     let ImagePart { mut stream, layout } = open_part(host, line)?;
     let bytes = read_image(host.alloc(), &mut stream)?;
     mount_image(host, ram_device_of(bytes, layout)?)
-}
-
-fn bytes_of_file(
-    host: Host<'_>,
-    session: &mut Session<RamDevice>,
-    path: &str,
-) -> Result<Vec<u8>, Error> {
-    let file = session.open(host.alloc(), path.as_bytes(), OpenFlags::READ)?;
-    let size = session.size(file)?;
-    session.read(host.alloc(), file, size)
 }
 
 /// Writes the bytes of the file at a path in the line's image.
@@ -41,46 +31,29 @@ pub(crate) fn cat_file<W: ToolOutput>(
     out: &mut W,
 ) -> Result<(), ToolError> {
     let mut session = session_of_line(host, line)?;
-    let bytes = bytes_of_file(host, &mut session, path)?;
+    let file = session.open(host.alloc(), path.as_bytes(), OpenFlags::READ)?;
+    let size = session.size(file)?;
+    let bytes = session.read(host.alloc(), file, size)?;
     write_and_flush(out, bytes.as_slice())
 }
 
-// Puts a file of these bytes at a path in the image, in place of one that is there.
-fn put_bytes(
-    host: Host<'_>,
-    session: &mut Session<RamDevice>,
-    path: &str,
-    bytes: &[u8],
-) -> Result<(), Error> {
-    let flags = OpenFlags::WRITE | OpenFlags::CREATE | OpenFlags::TRUNCATE;
-    let file = session.open(host.alloc(), path.as_bytes(), flags)?;
-    session.write(host.alloc(), file, bytes)?;
-    session.close(host.alloc(), file)
-}
-
-// Makes the change of the line's mode. The other modes change nothing.
-fn change_in_session(
-    host: Host<'_>,
-    line: &Line<'_>,
-    session: &mut Session<RamDevice>,
-) -> Result<(), ToolError> {
+/// Changes the line's image as its mode says, and puts it in its place. A file is put in place of one that is there. The
+/// other modes change nothing. A refusal leaves the image as it is.
+pub(crate) fn change_image(host: Host<'_>, line: &Line<'_>) -> Result<(), ToolError> {
+    let mut session = session_of_line(host, line)?;
     match line.mode {
         Mode::Put(file, path) => {
             let mut file = WatchedStream::new(open_file(host, file)?);
             let bytes = read_image(host.alloc(), &mut file)?;
-            put_bytes(host, session, path, bytes.as_slice())?;
+            let flags = OpenFlags::WRITE | OpenFlags::CREATE | OpenFlags::TRUNCATE;
+            let file = session.open(host.alloc(), path.as_bytes(), flags)?;
+            session.write(host.alloc(), file, bytes.as_slice())?;
+            session.close(host.alloc(), file)?;
         }
         Mode::Remove(path) => session.remove(host.alloc(), path.as_bytes())?,
         Mode::Mkdir(path) => session.mkdir(host.alloc(), path.as_bytes())?,
         _ => {}
     }
-    Ok(())
-}
-
-/// Changes the line's image as its mode says, and puts it in its place. A refusal leaves the image as it is.
-pub(crate) fn change_image(host: Host<'_>, line: &Line<'_>) -> Result<(), ToolError> {
-    let mut session = session_of_line(host, line)?;
-    change_in_session(host, line, &mut session)?;
     let bytes = session.unmount().to_bytes();
     let mut image = WatchedStream::new(NotedWriter::new(host, line.image)?);
     write_and_flush(&mut image, bytes.as_slice())?;

@@ -1,9 +1,9 @@
 // The times at which files and folders were modified, kept as attributes in an image.
 
 use crate::files::Host;
-use crate::session::mount_image;
+use crate::session::{RamSession, mount_image};
 use lfs_device::{Error, RamDevice};
-use lfs_fs::{Kind, Session};
+use lfs_fs::Kind;
 use lfs_tool::ToolError;
 use std::alloc::AllocError;
 use std::fs::{File, Metadata};
@@ -14,10 +14,7 @@ use std::{fs, io};
 const TIME: u8 = b't';
 
 // Returns the paths of all that is in an image.
-fn paths_in_image(
-    host: Host<'_>,
-    session: &mut Session<RamDevice>,
-) -> Result<Vec<String>, ToolError> {
+fn paths_in_image(host: Host<'_>, session: &mut RamSession) -> Result<Vec<String>, ToolError> {
     let alloc = host.alloc();
     let mut paths = Vec::new(alloc);
     let mut folders = Vec::new(alloc);
@@ -62,10 +59,7 @@ pub(crate) fn keep_times(
     for path in paths_in_image(host, &mut session)? {
         let full = format!(in host.alloc(); "{folder}{path}")?;
         let found = fs::metadata(host.rt, full.as_str());
-        host.note_error(full.as_str(), &found);
-        let Ok(found) = found else {
-            return Err(ToolError::Input);
-        };
+        let found = host.note_and_map(full.as_str(), found, ToolError::Input)?;
         if let Some(bytes) = bytes_of_time(&found) {
             session.set_attr(host.alloc(), path.as_bytes(), TIME, &bytes)?;
         }
@@ -94,10 +88,7 @@ pub(crate) fn set_times(host: Host<'_>, folder: &str, image: RamDevice) -> Resul
         if let [a, b, c, d] = bytes.as_slice() {
             let full = format!(in host.alloc(); "{folder}{path}")?;
             let set = set_time(host, full.as_str(), [*a, *b, *c, *d]);
-            host.note_error(full.as_str(), &set);
-            if set.is_err() {
-                return Err(ToolError::Output);
-            }
+            host.note_and_map(full.as_str(), set, ToolError::Output)?;
         }
     }
     Ok(())

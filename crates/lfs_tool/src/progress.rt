@@ -110,7 +110,7 @@ impl<W: Write + Drop, C: Clock + Drop> ProgressLine<W, C> {
     }
 
     // Writes the line, where it is time.
-    fn write_line_if_due(&mut self) {
+    fn write_if_due(&mut self) {
         let Some(began) = self.began else {
             return;
         };
@@ -133,11 +133,11 @@ impl<W: Write + Drop, C: Clock + Drop> ProgressLine<W, C> {
 impl<W: Write + Drop, C: Clock + Drop> FollowsProgress for ProgressLine<W, C> {
     fn begin(&mut self, whole: FilesAndBytes) {
         self.whole = whole;
-        self.write_line_if_due();
+        self.write_if_due();
     }
 
     fn add(&mut self, more: FilesAndBytes) {
         self.done = self.done.plus(more);
-        self.write_line_if_due();
+        self.write_if_due();
     }
 }

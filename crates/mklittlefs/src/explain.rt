@@ -114,14 +114,14 @@ fn push_passed_limit(
         let name = entry.path.rsplit(|byte| *byte == b'/').next();
         let name_len = name.map_or(0, |name| name.len());
         let (what, len, most) = match error {
-            Error::NameTooLong => ("name", name_len, line.profile.name_max),
+            Error::NameTooLong => ("name", name_len, line.profile.name_max as usize),
             _ => (
                 "file",
                 length_of_file(&entry, &source),
-                line.profile.file_max,
+                line.profile.file_max as usize,
             ),
         };
-        if len > most as usize {
+        if len > most {
             let alloc = host.alloc();
             let words = format!(in alloc; "a {what} of {len} bytes, and {most} are the most")?;
             let parts = [folder.as_bytes(), entry.path.as_slice()];

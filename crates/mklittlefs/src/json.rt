@@ -83,6 +83,11 @@ fn push_text_member(text: &mut Vec<u8>, key: &str, value: &str) -> io::Result<()
     push_string(text, value.as_bytes())
 }
 
+// Adds a further member, which is a number.
+fn push_number_member(text: &mut Vec<u8>, key: &str, digits: &str) -> io::Result<()> {
+    write!(text, ", \"{key}\": {digits}")
+}
+
 // Adds the members of a line of a check.
 fn push_members(text: &mut Vec<u8>, line: &str) -> io::Result<()> {
     let (key, value) = split_at_space(line);
@@ -97,10 +102,10 @@ fn push_members(text: &mut Vec<u8>, line: &str) -> io::Result<()> {
             push_text_member(text, "reason", rest)
         }
         "used" => {
-            let blocks = rest.split(' ').nth(1).unwrap_or("");
-            write!(text, ", \"used\": {first}, \"blocks\": {blocks}")
+            push_number_member(text, key, first)?;
+            push_number_member(text, "blocks", rest.split(' ').nth(1).unwrap_or(""))
         }
-        _ => write!(text, ", \"{key}\": {first}"),
+        _ => push_number_member(text, key, first),
     }
 }
 

@@ -131,13 +131,14 @@ fn load_thread(image: &ImageFile<'_>, device: SparseDevice) -> Result<SparseDevi
     let mut next = Some([0, 1]);
     let count = device.geometry().block_count;
     for _ in 0..count {
-        let Some([first, second]) = next else {
+        let Some(pair) = next else {
             break;
         };
+        let [first, second] = pair;
         if first >= count || second >= count || !device.loaded(first).is_empty() {
             break;
         }
-        let (loaded, named) = load_pair(image, device, [first, second])?;
+        let (loaded, named) = load_pair(image, device, pair)?;
         device = loaded;
         let Some(NamedBlocks { lists, tail }) = named else {
             break;
